@@ -1,0 +1,6 @@
+pub mod Bodies
+pub mod BodyLaws
+pub mod Covers
+pub mod Lattices
+pub mod Marks
+pub mod Words
