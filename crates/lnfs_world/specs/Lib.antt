@@ -1,0 +1,5 @@
+pub mod Rows
+pub mod World
+pub mod Change
+pub mod Facts
+pub mod Outcome
