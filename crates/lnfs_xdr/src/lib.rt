@@ -1,0 +1,18 @@
+//! The items of XDR (RFC 4506), read from bytes and appended to bytes.
+//!
+//! A reader takes an item in any of its spellings, whatever its pad bytes are. A writer appends the
+//! one spelling whose pad bytes are zero.
+#![tactic(auto)]
+
+mod error;
+mod promises;
+mod reader;
+mod slices;
+#[cfg(test)]
+mod tests;
+mod writer;
+
+pub use error::XdrError;
+pub use promises::{canonical, refusals, spellings};
+pub use reader::XdrReader;
+pub use writer::XdrWriter;
