@@ -1,0 +1,11 @@
+pub mod Numbers
+pub mod Parsing
+pub mod Calls
+pub mod Targets
+pub mod CallGrammar
+pub mod Sys
+pub mod Replies
+pub mod Formats
+pub mod Scanned
+pub mod Records
+pub mod Scanning

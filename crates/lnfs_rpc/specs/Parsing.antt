@@ -1,0 +1,10 @@
+-- What the readers of structures promise.
+use Rattle.std.specs.Prelude.{◌≡◌, Result, Ok, Err}
+use Rattle.lnfs_xdr.specs.declared.error.XdrError.{XdrError}
+use Rattle.lnfs_xdr.specs.Reading.{Read, Fault}
+use Rattle.lnfs_xdr.specs.Cursor.{Cursor}
+
+-- What a function returned, seen by view, is what reading gives, and the reader stands where reading does.
+abbrev pub Parses : {X A : Type 0} → (X → A) → Result X XdrError → Cursor → Cursor → Read ⊥ A → Type 0
+Parses view (Ok x) old new r = (r ≡ Ok (view x, new.rest)) × (new.total ≡ old.total)
+Parses view (Err e) old new r = (r ≡ Err (Fault e new.rest)) × (new.total ≡ old.total)

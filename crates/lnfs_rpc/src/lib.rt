@@ -1,0 +1,25 @@
+//! Records, calls and replies of RPC (RFC 5531).
+//!
+//! A record comes as fragments on a stream. Inside it a call has a header, a credential, a verifier
+//! and the arguments of its procedure; a reply has a verifier and the results, or says why the call
+//! was denied.
+#![tactic(auto)]
+
+mod authsys;
+mod calls;
+mod framing;
+mod numbers;
+mod promises;
+mod replies;
+mod streams;
+#[cfg(test)]
+mod tests;
+
+pub use authsys::{Sys, read_sys};
+pub use calls::{Auth, Call, CallError, read_call};
+pub use framing::frame;
+pub use promises::{
+    call_grammar, credential_grammar, reply_grammar, stream_ends, stream_grammar, written_reply,
+};
+pub use replies::{Head, Reply, read_reply, write_reply};
+pub use streams::{DeframeError, Deframer};
