@@ -1,0 +1,10 @@
+pub mod Backward
+pub mod Decimals
+pub mod Forward
+pub mod Joins
+pub mod NextLabel
+pub mod Numbers
+pub mod Order
+pub mod Says
+pub mod Splits
+pub mod Whole

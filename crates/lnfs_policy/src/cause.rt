@@ -1,0 +1,104 @@
+//! Why a policy is refused.
+
+ghost use Rattle.std.specs.Prelude.{◌≡◌};
+ghost use Rattle.lnfs_policy.specs.Policy.{cause_name};
+ghost use Rattle.lnfs_policy.specs.Reading.{error_at};
+ghost use Rattle.lnfs_policy.specs.declared.cause.Stop.TheVariants.{Broken, Memory as ShortOfMemory};
+
+use std::alloc::AllocFailed;
+
+/// The rule that a line breaks. Where it breaks several, the first in this order is told.
+#[derive(Clone, Copy, Debug, PartialEq, Eq)]
+pub enum Cause {
+    /// The first line isn't the version line, or a later one is.
+    Version,
+    /// The line has none of the known forms, or its newline is missing.
+    Words,
+    /// A number has another spelling than the plain decimal one, or doesn't fit.
+    Number,
+    /// The line's kind stands after a later kind, or a mode stands twice.
+    Order,
+    /// A level isn't the next one, its sensitivity or compartments are none, or its label is taken or doesn't
+    /// dominate that of level 0.
+    Level,
+    /// Not given yet.
+    Format,
+    /// Not given yet.
+    Name,
+    /// Not given yet.
+    Parent,
+    /// A guest's class is above 7, or its level is unknown.
+    Guest,
+    /// Not given yet.
+    Quota,
+    /// Not given yet.
+    Dir,
+    /// Behind the last line: a line is lacking that every policy has.
+    Missing,
+}
+
+impl Cause {
+    /// The name of the cause, as it is printed.
+    pub fn as_str(&self) -> &'static str
+        ensures { result.now ≡ cause_name self.now }
+    {
+        match self {
+            Cause::Version => "Version",
+            Cause::Words => "Words",
+            Cause::Number => "Number",
+            Cause::Order => "Order",
+            Cause::Level => "Level",
+            Cause::Format => "Format",
+            Cause::Name => "Name",
+            Cause::Parent => "Parent",
+            Cause::Guest => "Guest",
+            Cause::Quota => "Quota",
+            Cause::Dir => "Dir",
+            Cause::Missing => "Missing",
+        }
+    }
+}
+
+/// Why there is no policy.
+#[derive(Clone, Copy, Debug, PartialEq, Eq)]
+pub enum PolicyError {
+    /// The first line that breaks a rule, counted from 1, and the first rule that it breaks.
+    Refused { line: u64, cause: Cause },
+    /// There was no memory for the tables.
+    Memory,
+}
+
+/// Why reading stops at a line.
+#[derive(Debug, Drop)]
+pub(crate) enum Stop {
+    Broken(Cause),
+    Memory,
+}
+
+impl Stop {
+    /// The error where reading stops at a line.
+    pub(crate) fn at(self, line: u64) -> PolicyError
+        ensures { result ≡ error_at line self }
+    {
+        match self {
+            Stop::Broken(cause) => PolicyError::Refused { line, cause },
+            Stop::Memory => PolicyError::Memory,
+        }
+    }
+}
+
+impl From<Cause> for Stop {
+    ghost from_gives = { λ cause stop. stop ≡ Broken cause };
+
+    fn from(cause: Cause) -> Stop {
+        Stop::Broken(cause)
+    }
+}
+
+impl<T: Drop> From<AllocFailed<T>> for Stop {
+    ghost from_gives = { λ _ stop. stop ≡ ShortOfMemory };
+
+    fn from(_failed: AllocFailed<T>) -> Stop {
+        Stop::Memory
+    }
+}
