@@ -1,0 +1,9 @@
+pub mod Adding
+pub mod Entries
+pub mod Kinds
+pub mod Laws
+pub mod LevelRead
+pub mod LevelWritten
+pub mod Reading
+pub mod Runs
+pub mod Text

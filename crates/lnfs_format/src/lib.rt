@@ -1,0 +1,22 @@
+//! Formats of labels: how a site spells them on the wire, and how a spelling is read.
+#![tactic(auto)]
+
+mod codec;
+mod formats;
+mod kind;
+pub mod laws;
+mod name;
+mod plain;
+mod reading;
+mod runs;
+mod text;
+
+pub use codec::{Codec, Codecs, ReadFn, WriteFn};
+pub use formats::{AddError, FormatEntry, Formats, ReadError, WriteError};
+pub use kind::{Kind, NameRow};
+pub use name::{read_name, write_name};
+pub use plain::{read_kind, write_kind};
+pub use text::{read_comps, read_text, write_comps, write_text};
+
+#[cfg(test)]
+mod tests;
