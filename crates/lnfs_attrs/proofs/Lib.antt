@@ -1,0 +1,5 @@
+pub mod Words
+pub mod Below
+pub mod Judging
+pub mod Bits
+pub mod Masks

@@ -1,0 +1,4 @@
+pub mod Parsing
+pub mod Bitmaps
+pub mod Attributes
+pub mod Settable
