@@ -1,0 +1,30 @@
+ghost use Rattle.std.specs.Prelude.{◌≡◌, ◌++◌, ◌≤◌, length, OnOk};
+ghost use Rattle.lnfs_xdr.specs.Reading.{read};
+ghost use Rattle.lnfs_arguments.specs.Parsing.{Parses};
+ghost use Rattle.lnfs_arguments.specs.Shared.{attrs};
+ghost use Rattle.lnfs_arguments.specs.SharedTexts.{attrs_text};
+
+use crate::halt::Halt;
+use crate::numbers::LONG_LIMIT;
+use lnfs_attrs::{RawAttrs, read_bitmap, write_bitmap};
+use lnfs_lists::Octets;
+use lnfs_xdr::{XdrReader, XdrWriter};
+use std::alloc::{AllocError, Global};
+
+#[tactic(auto, unfolding(crate::specs::Shared::attrs))]
+pub fn attrs_of(alloc: Global, reader: &mut XdrReader<'_>) -> Result<RawAttrs, Halt>
+    ensures { Parses (λ x. x) result reader.old reader.new (read attrs reader.old.rest) }
+{
+    let mask = read_bitmap(reader)?;
+    let list = Octets::from_slice(alloc, reader.opaque(LONG_LIMIT)?)?;
+    Ok(RawAttrs { mask, list })
+}
+
+#[tactic(auto, unfolding(crate::specs::SharedTexts::attrs_text))]
+pub fn put_attrs(out: &mut XdrWriter, attrs: &RawAttrs) -> Result<(), AllocError>
+    requires { length attrs.now.list ≤ 65536 }
+    ensures { OnOk result (out.new ≡ out.old ++ attrs_text attrs.now) }
+{
+    write_bitmap(&attrs.mask, out)?;
+    out.opaque(attrs.list.as_slice())
+}

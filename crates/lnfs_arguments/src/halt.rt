@@ -1,0 +1,47 @@
+ghost use Rattle.std.specs.Prelude.{◌≡◌};
+ghost use Rattle.lnfs_arguments.specs.declared.halt.Halt.TheVariants.{Memory, Fault};
+
+use lnfs_xdr::XdrError;
+use std::alloc::{AllocError, AllocFailed};
+
+/// Why reading ends before its value is there.
+#[derive(Debug, Drop)]
+pub enum Halt {
+    Memory,
+    /// No item stands where the reader does.
+    Fault(XdrError),
+    /// The operation is outside of what is served, and what follows is unread.
+    Outside { number: u32, status: u32 },
+}
+
+impl From<XdrError> for Halt {
+    ghost from_gives = { λ c e. e ≡ Fault c };
+
+    fn from(cause: XdrError) -> Halt {
+        Halt::Fault(cause)
+    }
+}
+
+impl From<AllocError> for Halt {
+    ghost from_gives = { λ _ e. e ≡ Memory };
+
+    fn from(_e: AllocError) -> Halt {
+        Halt::Memory
+    }
+}
+
+impl<T: Drop> From<AllocFailed<T>> for Halt {
+    ghost from_gives = { λ _ e. e ≡ Memory };
+
+    fn from(_e: AllocFailed<T>) -> Halt {
+        Halt::Memory
+    }
+}
+
+/// Why bytes were not read as a COMPOUND, or as its results.
+#[derive(Debug, Drop)]
+pub enum CompoundError {
+    Memory,
+    /// The item at this offset is not in the grammar, however it goes on.
+    Garbage { at: usize },
+}

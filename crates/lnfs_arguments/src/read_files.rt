@@ -1,0 +1,142 @@
+//! The readers of the operations on the content of files, and of OPEN.
+ghost use Rattle.lnfs_xdr.specs.Reading.{read};
+ghost use Rattle.lnfs_arguments.specs.Parsing.{Parses};
+ghost use Rattle.lnfs_arguments.specs.Grammar.{close, commit, reading, writing, created, making, claim, opening};
+
+use crate::attrs::attrs_of;
+use crate::halt::Halt;
+use crate::numbers::{
+    CLAIM_FH, CLAIM_NULL, DATA_LIMIT, EXCLUSIVE, EXCLUSIVE4_1, GUARDED, INVAL, NOTSUPP, OP_OPEN,
+    OPEN_CREATE, OPEN_NOCREATE, OWNER_LIMIT, UNCHECKED,
+};
+use crate::read_names::name_of;
+use crate::stateid::state_id_of;
+use crate::types::{Claim, Making, Op};
+use lnfs_lists::Octets;
+use lnfs_xdr::XdrReader;
+use std::alloc::Global;
+
+#[tactic(auto, unfolding(crate::specs::Grammar::close))]
+pub fn close_of(reader: &mut XdrReader<'_>) -> Result<Op, Halt>
+    ensures { Parses (λ x. x) result reader.old reader.new (read close reader.old.rest) }
+{
+    let seqid = reader.u32()?;
+    let id = state_id_of(reader)?;
+    Ok(Op::Close { seqid, id })
+}
+
+#[tactic(auto, unfolding(crate::specs::Grammar::commit))]
+pub fn commit_of(reader: &mut XdrReader<'_>) -> Result<Op, Halt>
+    ensures { Parses (λ x. x) result reader.old reader.new (read commit reader.old.rest) }
+{
+    let offset = reader.u64()?;
+    let count = reader.u32()?;
+    Ok(Op::Commit { offset, count })
+}
+
+#[tactic(auto, unfolding(crate::specs::Grammar::reading))]
+pub fn read_of(reader: &mut XdrReader<'_>) -> Result<Op, Halt>
+    ensures { Parses (λ x. x) result reader.old reader.new (read reading reader.old.rest) }
+{
+    let id = state_id_of(reader)?;
+    let offset = reader.u64()?;
+    let count = reader.u32()?;
+    Ok(Op::Read { id, offset, count })
+}
+
+#[tactic(auto, unfolding(crate::specs::Grammar::writing))]
+pub fn write_of(alloc: Global, reader: &mut XdrReader<'_>) -> Result<Op, Halt>
+    ensures { Parses (λ x. x) result reader.old reader.new (read writing reader.old.rest) }
+{
+    let id = state_id_of(reader)?;
+    let offset = reader.u64()?;
+    let stable = reader.u32()?;
+    let content = Octets::from_slice(alloc, reader.opaque(DATA_LIMIT)?)?;
+    Ok(Op::Write {
+        id,
+        offset,
+        stable,
+        content,
+    })
+}
+
+#[tactic(auto, unfolding(crate::specs::Grammar::created))]
+fn created_of(alloc: Global, reader: &mut XdrReader<'_>) -> Result<Making, Halt>
+    ensures { Parses (λ x. x) result reader.old reader.new (read created reader.old.rest) }
+{
+    match reader.u32()? {
+        UNCHECKED => Ok(Making::Unchecked {
+            attrs: attrs_of(alloc, reader)?,
+        }),
+        GUARDED => Ok(Making::Guarded {
+            attrs: attrs_of(alloc, reader)?,
+        }),
+        EXCLUSIVE => Err(Halt::Outside {
+            number: OP_OPEN,
+            status: NOTSUPP,
+        }),
+        EXCLUSIVE4_1 => {
+            let mut verifier = [0; 8];
+            verifier.copy_from_slice(reader.fixed(8)?);
+            let attrs = attrs_of(alloc, reader)?;
+            Ok(Making::Exclusive { verifier, attrs })
+        }
+        _ => Err(Halt::Outside {
+            number: OP_OPEN,
+            status: INVAL,
+        }),
+    }
+}
+
+#[tactic(auto, unfolding(crate::specs::Grammar::making))]
+fn making_of(alloc: Global, reader: &mut XdrReader<'_>) -> Result<Option<Making>, Halt>
+    ensures { Parses (λ x. x) result reader.old reader.new (read making reader.old.rest) }
+{
+    match reader.u32()? {
+        OPEN_NOCREATE => Ok(None),
+        OPEN_CREATE => Ok(Some(created_of(alloc, reader)?)),
+        _ => Err(Halt::Outside {
+            number: OP_OPEN,
+            status: INVAL,
+        }),
+    }
+}
+
+#[tactic(auto, unfolding(crate::specs::Grammar::claim))]
+fn claim_of(alloc: Global, reader: &mut XdrReader<'_>) -> Result<Claim, Halt>
+    ensures { Parses (λ x. x) result reader.old reader.new (read claim reader.old.rest) }
+{
+    match reader.u32()? {
+        CLAIM_NULL => {
+            let name = name_of(alloc, reader)?;
+            Ok(Claim::Name { name })
+        }
+        CLAIM_FH => Ok(Claim::Handle),
+        _ => Err(Halt::Outside {
+            number: OP_OPEN,
+            status: NOTSUPP,
+        }),
+    }
+}
+
+#[tactic(auto, unfolding(crate::specs::Grammar::opening))]
+pub fn open_of(alloc: Global, reader: &mut XdrReader<'_>) -> Result<Op, Halt>
+    ensures { Parses (λ x. x) result reader.old reader.new (read opening reader.old.rest) }
+{
+    let seqid = reader.u32()?;
+    let access = reader.u32()?;
+    let deny = reader.u32()?;
+    let client = reader.u64()?;
+    let owner = Octets::from_slice(alloc, reader.opaque(OWNER_LIMIT)?)?;
+    let making = making_of(alloc, reader)?;
+    let claim = claim_of(alloc, reader)?;
+    Ok(Op::Open {
+        seqid,
+        access,
+        deny,
+        client,
+        owner,
+        making,
+        claim,
+    })
+}

@@ -1,0 +1,149 @@
+//! The readers of the operations on names and their attributes.
+ghost use Rattle.lnfs_xdr.specs.Reading.{read};
+ghost use Rattle.lnfs_arguments.specs.Parsing.{Parses};
+ghost use Rattle.lnfs_arguments.specs.Grammar.{name, access, what, create, getattr, link, lookup, remove, nverify, verify, setattr, putfh, readdir, rename};
+
+use crate::attrs::attrs_of;
+use crate::halt::Halt;
+use crate::numbers::{BADTYPE, HANDLE_LIMIT, LONG_LIMIT, OP_CREATE, TYPE_DIR, TYPE_LINK};
+use crate::stateid::state_id_of;
+use crate::types::{Op, What};
+use lnfs_attrs::read_bitmap;
+use lnfs_lists::Octets;
+use lnfs_xdr::XdrReader;
+use std::alloc::Global;
+
+/// A name, of whatever bytes (`component4`).
+pub fn name_of(alloc: Global, reader: &mut XdrReader<'_>) -> Result<Octets, Halt>
+    ensures { Parses (λ x. x) result reader.old reader.new (read name reader.old.rest) }
+{
+    Ok(Octets::from_slice(alloc, reader.opaque(LONG_LIMIT)?)?)
+}
+
+#[tactic(auto, unfolding(crate::specs::Grammar::access))]
+pub fn access_of(reader: &mut XdrReader<'_>) -> Result<Op, Halt>
+    ensures { Parses (λ x. x) result reader.old reader.new (read access reader.old.rest) }
+{
+    let bits = reader.u32()?;
+    Ok(Op::Access { bits })
+}
+
+#[tactic(auto, unfolding(crate::specs::Grammar::what))]
+fn what_of(alloc: Global, reader: &mut XdrReader<'_>) -> Result<What, Halt>
+    ensures { Parses (λ x. x) result reader.old reader.new (read what reader.old.rest) }
+{
+    match reader.u32()? {
+        TYPE_LINK => {
+            let text = name_of(alloc, reader)?;
+            Ok(What::Symlink { text })
+        }
+        TYPE_DIR => Ok(What::Dir),
+        _ => Err(Halt::Outside {
+            number: OP_CREATE,
+            status: BADTYPE,
+        }),
+    }
+}
+
+#[tactic(auto, unfolding(crate::specs::Grammar::create))]
+pub fn create_of(alloc: Global, reader: &mut XdrReader<'_>) -> Result<Op, Halt>
+    ensures { Parses (λ x. x) result reader.old reader.new (read create reader.old.rest) }
+{
+    let what = what_of(alloc, reader)?;
+    let name = name_of(alloc, reader)?;
+    let attrs = attrs_of(alloc, reader)?;
+    Ok(Op::Create { what, name, attrs })
+}
+
+#[tactic(auto, unfolding(crate::specs::Grammar::getattr))]
+pub fn getattr_of(reader: &mut XdrReader<'_>) -> Result<Op, Halt>
+    ensures { Parses (λ x. x) result reader.old reader.new (read getattr reader.old.rest) }
+{
+    let asked = read_bitmap(reader)?;
+    Ok(Op::GetAttr { asked })
+}
+
+#[tactic(auto, unfolding(crate::specs::Grammar::link))]
+pub fn link_of(alloc: Global, reader: &mut XdrReader<'_>) -> Result<Op, Halt>
+    ensures { Parses (λ x. x) result reader.old reader.new (read link reader.old.rest) }
+{
+    let name = name_of(alloc, reader)?;
+    Ok(Op::Link { name })
+}
+
+#[tactic(auto, unfolding(crate::specs::Grammar::lookup))]
+pub fn lookup_of(alloc: Global, reader: &mut XdrReader<'_>) -> Result<Op, Halt>
+    ensures { Parses (λ x. x) result reader.old reader.new (read lookup reader.old.rest) }
+{
+    let name = name_of(alloc, reader)?;
+    Ok(Op::Lookup { name })
+}
+
+#[tactic(auto, unfolding(crate::specs::Grammar::remove))]
+pub fn remove_of(alloc: Global, reader: &mut XdrReader<'_>) -> Result<Op, Halt>
+    ensures { Parses (λ x. x) result reader.old reader.new (read remove reader.old.rest) }
+{
+    let name = name_of(alloc, reader)?;
+    Ok(Op::Remove { name })
+}
+
+#[tactic(auto, unfolding(crate::specs::Grammar::nverify))]
+pub fn nverify_of(alloc: Global, reader: &mut XdrReader<'_>) -> Result<Op, Halt>
+    ensures { Parses (λ x. x) result reader.old reader.new (read nverify reader.old.rest) }
+{
+    let attrs = attrs_of(alloc, reader)?;
+    Ok(Op::NVerify { attrs })
+}
+
+#[tactic(auto, unfolding(crate::specs::Grammar::verify))]
+pub fn verify_of(alloc: Global, reader: &mut XdrReader<'_>) -> Result<Op, Halt>
+    ensures { Parses (λ x. x) result reader.old reader.new (read verify reader.old.rest) }
+{
+    let attrs = attrs_of(alloc, reader)?;
+    Ok(Op::Verify { attrs })
+}
+
+#[tactic(auto, unfolding(crate::specs::Grammar::setattr))]
+pub fn setattr_of(alloc: Global, reader: &mut XdrReader<'_>) -> Result<Op, Halt>
+    ensures { Parses (λ x. x) result reader.old reader.new (read setattr reader.old.rest) }
+{
+    let id = state_id_of(reader)?;
+    let attrs = attrs_of(alloc, reader)?;
+    Ok(Op::SetAttr { id, attrs })
+}
+
+#[tactic(auto, unfolding(crate::specs::Grammar::putfh))]
+pub fn putfh_of(alloc: Global, reader: &mut XdrReader<'_>) -> Result<Op, Halt>
+    ensures { Parses (λ x. x) result reader.old reader.new (read putfh reader.old.rest) }
+{
+    let handle = Octets::from_slice(alloc, reader.opaque(HANDLE_LIMIT)?)?;
+    Ok(Op::PutFh { handle })
+}
+
+#[tactic(auto, unfolding(crate::specs::Grammar::readdir))]
+pub fn readdir_of(reader: &mut XdrReader<'_>) -> Result<Op, Halt>
+    ensures { Parses (λ x. x) result reader.old reader.new (read readdir reader.old.rest) }
+{
+    let cookie = reader.u64()?;
+    let mut verifier = [0; 8];
+    verifier.copy_from_slice(reader.fixed(8)?);
+    let dircount = reader.u32()?;
+    let maxcount = reader.u32()?;
+    let asked = read_bitmap(reader)?;
+    Ok(Op::ReadDir {
+        cookie,
+        verifier,
+        dircount,
+        maxcount,
+        asked,
+    })
+}
+
+#[tactic(auto, unfolding(crate::specs::Grammar::rename))]
+pub fn rename_of(alloc: Global, reader: &mut XdrReader<'_>) -> Result<Op, Halt>
+    ensures { Parses (λ x. x) result reader.old reader.new (read rename reader.old.rest) }
+{
+    let old = name_of(alloc, reader)?;
+    let new = name_of(alloc, reader)?;
+    Ok(Op::Rename { old, new })
+}

@@ -1,0 +1,121 @@
+ghost use Rattle.std.specs.Prelude.{◌≡◌, ◌+◌, ℕ, List, length, IfOk, Ok, Err};
+ghost use Rattle.lnfs_arguments.specs.Message.{parse, Tells, Refuses, RefusesAt};
+ghost use Rattle.lnfs_arguments.specs.Whole.{compound, operation_at, Steps, Completes, Answers, IfGarbage};
+ghost use Rattle.lnfs_arguments.specs.declared.types.Compound.{Compound};
+
+use crate::further::ExtraGrammar;
+use crate::halt::{CompoundError, Halt};
+use crate::numbers::{MINOR, OP_LIMIT, TAG_LIMIT};
+use crate::read_table::arguments_of;
+use crate::types::{Compound, Op};
+use lnfs_lists::{Items, Octets};
+use lnfs_xdr::{XdrError, XdrReader};
+use std::alloc::Global;
+
+/// The next operation. One of a further grammar is taken as it stands.
+fn operation_of<'a, E: ExtraGrammar>(
+    alloc: Global,
+    reader: &mut XdrReader<'a>,
+    extra: &E,
+) -> Result<Op, Halt>
+    ensures { Steps result reader.new (operation_at E.grammar reader.old.rest) }
+{
+    let number = reader.u32()?;
+    if !extra.serves(number) {
+        return arguments_of(alloc, reader, number);
+    }
+    let left = reader.rest();
+    let (args, rest) = left.split_at(extra.length(number, left)?);
+    let args = Octets::from_slice(alloc, args)?;
+    *reader = XdrReader::new(rest);
+    Ok(Op::Extra { number, args })
+}
+
+#[tactic(auto, unfolding(crate::specs::Whole::compound, crate::specs::Whole::header, crate::specs::Whole::operations))]
+fn compound_in<'a, E: ExtraGrammar>(
+    alloc: Global,
+    reader: &mut XdrReader<'a>,
+    extra: &E,
+) -> Result<Compound, Halt>
+    ensures { Completes result reader.new (parse (compound E.grammar) reader.old.rest) }
+{
+    let tag = Octets::from_slice(alloc, reader.opaque(TAG_LIMIT)?)?;
+    let minor = reader.u32()?;
+    let count = reader.u32()?;
+    let is_cut = minor != MINOR || count > OP_LIMIT;
+    let served = if minor != MINOR {
+        0
+    } else if count > OP_LIMIT {
+        1
+    } else {
+        count
+    };
+    let mut ops = Vec::new(alloc);
+    for _ in 0..served {
+        match operation_of(alloc, reader, extra) {
+            Ok(op) => ops.push(op)?,
+            Err(Halt::Outside { number, status }) => {
+                ops.push(Op::Outside { number, status })?;
+                return Ok(Compound {
+                    tag,
+                    minor,
+                    count,
+                    ops: Items::new(ops),
+                });
+            }
+            Err(Halt::Memory) => return Err(Halt::Memory),
+            Err(Halt::Fault(cause)) => return Err(Halt::Fault(cause)),
+        }
+    }
+    if !is_cut && !reader.rest().is_empty() {
+        return Err(Halt::Fault(XdrError::TooLong));
+    }
+    Ok(Compound {
+        tag,
+        minor,
+        count,
+        ops: Items::new(ops),
+    })
+}
+
+fn compound_of<E: ExtraGrammar>(
+    alloc: Global,
+    bytes: &[u8],
+    extra: &E,
+) -> Result<Compound, CompoundError>
+    ensures { Answers result bytes.now (parse (compound E.grammar) bytes.now) }
+{
+    let mut reader = XdrReader::new(bytes);
+    match compound_in(alloc, &mut reader, extra) {
+        Ok(found) => Ok(found),
+        Err(Halt::Memory) => Err(CompoundError::Memory),
+        Err(Halt::Fault(_)) => Err(CompoundError::Garbage {
+            at: bytes.len() - reader.rest().len(),
+        }),
+        Err(Halt::Outside { .. }) => unreachable!(),
+    }
+}
+
+/// The COMPOUND whose arguments the bytes are (RFC 8881 section 16.2.2).
+///
+/// With another minor version than 2 no operation is read, with a count above 32 the first alone,
+/// and none after one that is outside of what is served: the rest is then unread. `Garbage` comes
+/// with the offset of the first item of which no continuation is in the grammar.
+pub fn read_compound<E: ExtraGrammar>(
+    alloc: Global,
+    bytes: &[u8],
+    extra: &E,
+) -> Result<Compound, CompoundError>
+    // The result is that of reading from left to right.
+    ensures reads { Answers result bytes.now (parse (compound E.grammar) bytes.now) }
+    // What is read is what the bytes are.
+    ensures found { IfOk result (λ c. Tells (compound E.grammar) c bytes.now) }
+    // What the bytes are is read, unless memory runs out.
+    ensures only { (c : Compound) → Tells (compound E.grammar) c bytes.now → Answers result bytes.now (Ok c) }
+    // What is refused is no COMPOUND: the items before the offset are there, and none is there.
+    ensures garbage { IfGarbage result (λ at. RefusesAt (compound E.grammar) bytes.now at) }
+    // Where no item is, that is refused, unless memory runs out.
+    ensures refused { (stuck : List ℕ) → Refuses (compound E.grammar) bytes.now stuck → Answers result bytes.now (Err stuck) }
+{
+    compound_of(alloc, bytes, extra)
+}

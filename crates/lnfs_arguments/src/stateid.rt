@@ -1,0 +1,64 @@
+ghost use Rattle.std.specs.Prelude.{◌≡◌, ◌++◌, OnOk};
+ghost use Rattle.lnfs_xdr.specs.Reading.{read};
+ghost use Rattle.lnfs_arguments.specs.Parsing.{Parses};
+ghost use Rattle.lnfs_arguments.specs.Shared.{state_id, cinfo};
+ghost use Rattle.lnfs_arguments.specs.SharedTexts.{state_id_text, cinfo_text};
+
+use crate::halt::Halt;
+use lnfs_xdr::{XdrReader, XdrWriter};
+use std::alloc::AllocError;
+
+/// A state id (`stateid4`, RFC 8881 section 3.3.12).
+#[derive(Clone, Copy, Debug, PartialEq, Eq)]
+pub struct StateId {
+    pub seqid: u32,
+    pub other: [u8; 12],
+}
+
+/// The change numbers of a directory before and after an operation that was atomic
+/// (`change_info4`, RFC 8881 section 3.3.3).
+#[derive(Clone, Copy, Debug, PartialEq, Eq)]
+pub struct Cinfo {
+    pub before: u64,
+    pub after: u64,
+}
+
+/// What `change_info4` says of an operation that was atomic.
+const ATOMIC: u32 = 1;
+
+#[tactic(auto, unfolding(crate::specs::Shared::state_id))]
+pub fn state_id_of(reader: &mut XdrReader<'_>) -> Result<StateId, Halt>
+    ensures { Parses (λ x. x) result reader.old reader.new (read state_id reader.old.rest) }
+{
+    let seqid = reader.u32()?;
+    let mut other = [0; 12];
+    other.copy_from_slice(reader.fixed(12)?);
+    Ok(StateId { seqid, other })
+}
+
+#[tactic(auto, unfolding(crate::specs::SharedTexts::state_id_text))]
+pub fn put_state_id(out: &mut XdrWriter, id: &StateId) -> Result<(), AllocError>
+    ensures { OnOk result (out.new ≡ out.old ++ state_id_text id.now) }
+{
+    out.u32(id.seqid)?;
+    out.fixed(&id.other)
+}
+
+#[tactic(auto, unfolding(crate::specs::Shared::cinfo))]
+pub fn cinfo_of(reader: &mut XdrReader<'_>) -> Result<Cinfo, Halt>
+    ensures { Parses (λ x. x) result reader.old reader.new (read cinfo reader.old.rest) }
+{
+    reader.constant(ATOMIC)?;
+    let before = reader.u64()?;
+    let after = reader.u64()?;
+    Ok(Cinfo { before, after })
+}
+
+#[tactic(auto, unfolding(crate::specs::SharedTexts::cinfo_text))]
+pub fn put_cinfo(out: &mut XdrWriter, info: &Cinfo) -> Result<(), AllocError>
+    ensures { OnOk result (out.new ≡ out.old ++ cinfo_text info.now) }
+{
+    out.u32(ATOMIC)?;
+    out.u64(info.before)?;
+    out.u64(info.after)
+}
