@@ -1,0 +1,6 @@
+pub mod Lists
+pub mod Texts
+pub mod Stays
+pub mod Exact
+pub mod Again
+pub mod Bounds

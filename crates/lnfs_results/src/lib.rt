@@ -1,0 +1,19 @@
+//! The results of a COMPOUND (RFC 8881 section 16.2, RFC 7862).
+#![tactic(auto)]
+
+mod limits;
+mod read_dir;
+mod read_files;
+mod read_names;
+mod read_sessions;
+mod read_table;
+mod read_whole;
+mod types;
+mod write_dir;
+mod write_fields;
+mod write_whole;
+
+pub use limits::result_bounds;
+pub use read_whole::read_results;
+pub use types::{DirEntry, NFS4_OK, OpResult, Results};
+pub use write_whole::{append_result, write_results};
