@@ -1,0 +1,4 @@
+pub mod Chain
+pub mod ExchangeId
+pub mod Table
+pub mod Compound
