@@ -1,0 +1,143 @@
+-- What holds of every COMPOUND that is read: its tag is short, its operations are few, and what is
+-- outside of the profile fails.
+use Rattle.std.proofs.Common.{◌≡◌, ◌≢◌, ◌≤◌, ◌<◌, ◌+◌, ℕ, zero, suc, Bool, true, false, cond, List, [], ◌∷◌, ◌++◌, length, take, drop, Ok, Err, nat_lt, nat_le, refl, sym, ap, ◌∙◌, subst, arith}
+use Rattle.std.specs.Prelude.{◌==◌, Result}
+use Rattle.std.specs.List.{AllByRecursion}
+use Rattle.std.specs.Int.{w32}
+use Rattle.std.proofs.lemmas.Bool.{ltb-false}
+use Rattle.std.proofs.lemmas.Bool.Decides.{nat_tests}
+use Rattle.std.proofs.lemmas.List.{length-take, length-append}
+use Rattle.lnfs_xdr.specs.declared.error.XdrError.{XdrError}
+use Rattle.lnfs_xdr.specs.declared.error.XdrError.TheVariants.{Short, TooLong}
+use Rattle.lnfs_xdr.specs.Format.{Format, Word, Opaque, Done, Then, padding}
+use Rattle.lnfs_xdr.specs.Reading.{Read, Stop, Fault, Leaves, read, number_at, count_at, padded_at, opaque_at}
+use Rattle.lnfs_xdr.proofs.Fields.{after_ok, guard_ok, here_ok}
+use Rattle.lnfs_arguments.specs.declared.types.Op.{Op}
+use Rattle.lnfs_arguments.specs.declared.types.Op.TheVariants as ops
+use Rattle.lnfs_arguments.specs.declared.types.Compound.{Compound}
+use Rattle.lnfs_arguments.specs.Grammar.{arguments}
+use Rattle.lnfs_arguments.specs.Message.{Message, Closed, Unread, Next, Measured, parse, decided, cut_at}
+use Rattle.lnfs_arguments.specs.Further.{Further}
+use Rattle.lnfs_arguments.specs.Whole.{header, compound, operations, served, is_cut, with_op, ended, chosen}
+
+opaque_short : (max : ℕ) (bytes : List ℕ) (x : List ℕ × List ℕ) → opaque_at max bytes ≡ Ok x → length x.0 ≤ max
+opaque_short max bytes x e =
+    let a = after_ok (count_at max bytes) (λ n rest. padded_at n rest) x e in
+    let b = after_ok (number_at w32 bytes) (λ n rest. cond (nat_lt max n) (Err TooLong) (Ok (n, rest))) a.0 a.1 in
+    let below = guard_ok (nat_lt max b.0.0) TooLong b.0 a.0 b.2 in
+    let few : b.0.0 ≤ max = ltb-false _ _ below.0 in
+    let same : b.0.0 ≡ a.0.0 = ap (λ (p : ℕ × List ℕ). p.0) below.1 in
+    let c = guard_ok (nat_lt (length a.0.1) (a.0.0 + padding a.0.0)) Short (take a.0.0 a.0.1, drop (padding a.0.0) (drop a.0.0 a.0.1)) x a.2 in
+    let cut : take a.0.0 a.0.1 ≡ x.0 = ap (λ (p : List ℕ × List ℕ). p.0) c.1 in
+    omega (arith, length-take a.0.0 a.0.1, ap length cut)
+
+-- whatever a format reads has the property
+record Gives {E A : Type 0} (f : Format E A) (P : A → Type 0) : Type 0 where
+  is : (bytes : List ℕ) (x : A × List ℕ) → read f bytes ≡ Ok x → P x.0
+
+gives_opaque : {E : Type 0} (max : ℕ) → Gives {E = E} (Opaque max) (λ v. length v ≤ max)
+gives_opaque max = record { is = λ bytes x e. opaque_short max bytes x (here_ok bytes (opaque_at max bytes) x e) }
+
+gives_done : {E A : Type 0} {P : A → Type 0} (y : A) → P y → Gives {E = E} (Done y) P
+gives_done {P = P} y p = record { is = λ bytes x e. let same : (y, bytes) ≡ x = cc in subst (λ (q : _ × List ℕ). P q.0) same p }
+
+gives_then : {E A B : Type 0} {f : Format E A} {k : A → Format E B} {P : B → Type 0} (Q : A → Type 0) → Gives f Q → ((a : A) → Q a → Gives (k a) P) → Gives (Then f k) P
+gives_then {f = f} {k = k} {P = P} Q first next = record {
+  is = λ bytes x e.
+      let a = after_ok (read f bytes) (λ a rest. read (k a) rest) x e in
+      (next a.0.0 (first.is bytes a.0 a.1)).is a.0.1 x a.2;
+}
+
+gives_any : {E A : Type 0} (f : Format E A) → Gives f (λ x. Unit {0})
+gives_any f = record { is = λ bytes x e. tt }
+
+-- the tag is short, and no operation is there yet
+record Begins (c : Compound) : Type 0 where
+  short : length c.tag ≤ 1024
+  none : c.ops ≡ []
+
+header_gives : Gives header Begins
+unfolding header
+header_gives = gives_then (λ tag. length tag ≤ 1024) (gives_opaque 1024) (λ tag short. gives_then (λ x. Unit {0}) (gives_any Word) (λ minor _. gives_then (λ x. Unit {0}) (gives_any Word) (λ count _. gives_done (record { tag = tag; minor = minor; count = count; ops = [] }) (record { short = short; none = refl }))))
+
+-- whatever a message tells has the property
+record Tells {B : Type 0} (m : Message B) (P : B → Type 0) : Type 0 where
+  is : (bytes : List ℕ) (x : B) → parse m bytes ≡ Ok x → P x
+
+ends_as : {B : Type 0} (b : Bool) (y x : B) (bytes : List ℕ) → cond b (Ok y) (Err bytes) ≡ Ok x → y ≡ x
+ends_as true y x bytes e = cc
+ends_as false y x bytes e = absurd (let f = e in cc)
+
+tells_closed : {B : Type 0} {P : B → Type 0} (y : B) → P y → Tells (Closed y) P
+tells_closed {P = P} y p = record { is = λ bytes x e. subst P (ends_as (length bytes == 0) y x bytes e) p }
+
+tells_unread : {B : Type 0} {P : B → Type 0} (y : B) → P y → Tells (Unread y) P
+tells_unread {P = P} y p = record { is = λ bytes x e. let same : y ≡ x = cc in subst P same p }
+
+decided_as : {E A B : Type 0} (P : B → Type 0) (r : Read E A) (k : A → List ℕ → Result B (List ℕ)) (g : E → B) (x : B) → ((a : A × List ℕ) → r ≡ Ok a → k a.0 a.1 ≡ Ok x → P x) → ((e : E) → r ≡ Err (Leaves e) → P (g e)) → decided r k g ≡ Ok x → P x
+decided_as P (Ok a) k g x goes leaves e = goes a refl e
+decided_as P (Err (Fault c stuck)) k g x goes leaves e = absurd (let f = e in cc)
+decided_as P (Err (Leaves z)) k g x goes leaves e = let same : g z ≡ x = cc in subst P same (leaves z refl)
+
+tells_next : {E A B : Type 0} {f : Format E A} {k : A → Message B} {g : E → B} {P : B → Type 0} (Q : A → Type 0) → Gives f Q → ((a : A) → Q a → Tells (k a) P) → ((bytes : List ℕ) (e : E) → read f bytes ≡ Err (Leaves e) → P (g e)) → Tells (Next f k g) P
+tells_next {f = f} {k = k} {g = g} {P = P} Q first next leaves = record {
+  is = λ bytes x e. decided_as P (read f bytes) (λ a rest. parse (k a) rest) g x (λ a is goes. (next a.0 (first.is bytes a is)).is a.1 x goes) (λ z is. leaves bytes z is) e;
+}
+
+cut_as : {B : Type 0} (P : B → Type 0) (m : Result ℕ XdrError) (bytes : List ℕ) (k : List ℕ → List ℕ → Result B (List ℕ)) (x : B) → ((front back : List ℕ) → k front back ≡ Ok x → P x) → cut_at m bytes k ≡ Ok x → P x
+cut_as P (Ok n) bytes k x goes e = at (nat_le n (length bytes)) e
+  where
+    at : (b : Bool) → cond b (k (take n bytes) (drop n bytes)) (Err bytes) ≡ Ok x → P x
+    at true f = goes (take n bytes) (drop n bytes) f
+    at false f = absurd (let h = f in cc)
+cut_as P (Err c) bytes k x goes e = absurd (let f = e in cc)
+
+tells_measured : {B : Type 0} {measure : List ℕ → Result ℕ XdrError} {k : List ℕ → Message B} {P : B → Type 0} → ((front : List ℕ) → Tells (k front) P) → Tells (Measured measure k) P
+tells_measured {measure = measure} {k = k} {P = P} next = record {
+  is = λ bytes x e. cut_as P (measure bytes) bytes (λ front back. parse (k front) back) x (λ front back goes. (next front).is back x goes) e;
+}
+
+tells_ended : {P : Compound → Type 0} (cut : Bool) (c : Compound) → P c → Tells (ended cut c) P
+tells_ended true c p = tells_unread c p
+tells_ended false c p = tells_closed c p
+
+tells_chosen : {B : Type 0} {P : B → Type 0} (b : Bool) (m n : Message B) → Tells m P → Tells n P → Tells (chosen b m n) P
+tells_chosen true m n p q = p
+tells_chosen false m n p q = q
+
+-- the same tag, and at most so many operations
+record Few (tag : List ℕ) (most : ℕ) (c : Compound) : Type 0 where
+  tag_is : c.tag ≡ tag
+  few : length c.ops ≤ most
+
+few_more : (c : Compound) (op : Op) → length (with_op c op).ops ≡ length c.ops + 1
+few_more c op = length-append c.ops (op ∷ [])
+
+operations_tell : (x : Further) (cut : Bool) (n : ℕ) (c : Compound) (tag : List ℕ) (most : ℕ) → c.tag ≡ tag → length c.ops + n ≤ most → Tells (operations x cut n c) (Few tag most)
+unfolding operations
+operations_tell x cut zero c tag most is few = tells_ended cut c (record { tag_is = is; few = omega arith })
+operations_tell x cut (suc n) c tag most is few =
+    tells_next (λ number. Unit {0}) (gives_any Word) (λ number _. tells_chosen (x.serves number) _ _
+    (tells_measured (λ args. operations_tell x cut n (with_op c (ops.Extra number args)) tag most is (omega (arith, few_more c (ops.Extra number args)))))
+    (tells_next (λ op. Unit {0}) (gives_any (arguments number)) (λ op _. operations_tell x cut n (with_op c op) tag most is (omega (arith, few_more c op)))
+    (λ bytes e left. record { tag_is = is; few = omega (arith, few_more c (ops.Outside e.0 e.1)) })))
+    (λ bytes e left. absurd e)
+
+served_few : (minor count : ℕ) → served minor count ≤ 32
+served_few minor count = grind (arith, nat_tests)
+
+-- a COMPOUND that was read: its tag and its operations
+pub record IsShort (c : Compound) : Type 0 where
+  pub tag : length c.tag ≤ 1024
+  pub ops : length c.ops ≤ 32
+
+compound_tells : (x : Further) → Tells (compound x) IsShort
+unfolding compound
+compound_tells x = tells_next Begins header_gives (λ h begins. record {
+  is = λ bytes c e.
+      let f = (operations_tell x (is_cut h.minor h.count) (served h.minor h.count) h h.tag 32 refl (omega (arith, ap length begins.none, served_few h.minor h.count))).is bytes c e in
+      record { tag = rw f.tag_is begins.short; ops = f.few };
+}) (λ bytes e left. absurd e)
+
+pub compound_short : (x : Further) (bytes : List ℕ) (c : Compound) → parse (compound x) bytes ≡ Ok c → IsShort c
+compound_short x bytes c e = (compound_tells x).is bytes c e

@@ -1,0 +1,4 @@
+pub mod Purging
+pub mod Steps
+pub mod Compounds
+pub mod Lengths
