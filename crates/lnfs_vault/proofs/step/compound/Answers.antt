@@ -1,0 +1,28 @@
+use Rattle.std.proofs.Common.{◌≡◌, ◌++◌, Some, refl, sym, ap, ◌∙◌, subst}
+use Rattle.lnfs_xdr.specs.Canon.{word, opaque}
+use Rattle.lnfs_operations.specs.Compound.{run, results_of}
+use Rattle.lnfs_results.specs.Texts.{results_text}
+use Rattle.lnfs_rpc.specs.Replies.{reply_text, seen_head}
+use Rattle.lnfs_step.specs.Step.{line_of}
+use Rattle.lnfs_step.specs.Request.{plainly}
+use Rattle.lnfs_step.specs.declared.numbers.TheConstants.{SUCCESS}
+use Rattle.lnfs_vault.specs.Lines.{IsLineOf}
+use Rattle.lnfs_vault.specs.Runs.{seen_denial}
+use Rattle.std.specs.Prelude.{option_map}
+use Rattle.lnfs_vault.proofs.Running.{results_joined}
+use Rattle.lnfs_vault.proofs.step.compound.Goals as goal
+
+pub returns : goal.returns
+returns c =
+    let compound = c.args.compound.now in
+    let ran = run compound c.args.level.0 c.args.clients.now in
+    let ended = c.in_ok-ended.ensures in
+    let bytes = rw c.new-out.ensures at ended.text in
+    let results : c.in_ok-results.results.items ≡ results_text (results_of compound ran) =
+    c.in_ok-results.ensures
+    ∙ rw (c.as_slice.ensures, c.deref.ensures.value, c.into_bytes.ensures) (results_joined compound ran c.in_ok-ended.ended.status c.in_ok-ended.ended.count c.run.new.out ended.status ended.count bytes) in
+    record {
+      stands = ended.stands;
+      reply = ap Some (c.new.ensures ∙ c.in_ok-reply.ensures ∙ rw (c.plainly.ensures, c.deref-2.ensures.value, results) refl);
+      line = subst (λ d. IsLineOf c.args.at (option_map line_of d) c.in_ok-line.line) ended.denial c.in_ok-line.ensures;
+    }

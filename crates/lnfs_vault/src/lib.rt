@@ -1,0 +1,14 @@
+//! The vault: serves one event at a time, and keeps the journal of all events.
+#![tactic(auto)]
+
+mod audit;
+mod clients;
+mod request;
+mod results;
+mod rows;
+mod run;
+mod step;
+mod vault;
+
+pub use audit::{AuditLine, write_line};
+pub use vault::{Served, Vault};

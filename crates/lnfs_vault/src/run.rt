@@ -1,0 +1,165 @@
+//! A COMPOUND on the clients: its operations in order, up to the first that fails (RFC 8881 section
+//! 16.2.3).
+ghost use Rattle.std.specs.Prelude.{◌≡◌, ◌≤◌, length, IfOk, OnErr};
+ghost use Rattle.lnfs_world.specs.Outcome.{done_to};
+ghost use Rattle.lnfs_operations.specs.Table.{outcome_of, told_result, answer_as};
+ghost use Rattle.lnfs_operations.specs.Compound.{run_from, run};
+ghost use Rattle.lnfs_vault.specs.Answers.{seen_answer};
+ghost use Rattle.lnfs_vault.specs.Runs.{Performs, Ends, IsRun};
+
+use crate::clients::{Clients, ExchangeId, Refusal, Told};
+use crate::results::{put_failed, put_told};
+use lnfs_arguments::numbers::MINOR;
+use lnfs_arguments::{Compound, Op};
+use lnfs_operations::Gate;
+use lnfs_operations::numbers::{NFS4ERR_MINOR_VERS_MISMATCH, NFS4ERR_NOT_ONLY_OP, NFS4ERR_NOTSUPP};
+use lnfs_results::NFS4_OK;
+use lnfs_xdr::XdrWriter;
+use std::alloc::AllocError;
+
+/// What was refused: the operation's place in its COMPOUND, from 1, and its number as it was sent;
+/// both 0 where the COMPOUND as a whole was.
+#[derive(Clone, Copy, Debug, PartialEq, Eq)]
+pub struct Denial {
+    pub place: u32,
+    pub number: u32,
+    pub refusal: Refusal,
+}
+
+/// How a COMPOUND ended.
+#[derive(Clone, Copy, Debug, PartialEq, Eq)]
+pub struct Ended {
+    /// Its status: that of its last result.
+    pub status: u32,
+    /// How many results there are.
+    pub count: u32,
+    pub denial: Option<Denial>,
+}
+
+/// What an operation of a level answers in its COMPOUND.
+fn outcome_of(
+    clients: &mut Clients,
+    level: u32,
+    compound: &Compound,
+    op: &Op,
+) -> Result<Result<Told, Refusal>, AllocError>
+    ensures answer { IfOk result (λ answer. answer_as (told_result level) (seen_answer answer) ≡ (outcome_of compound.now op.now level clients.old).answer) }
+    ensures world { IfOk result (λ answer. clients.new ≡ done_to clients.old (outcome_of compound.now op.now level clients.old)) }
+    ensures refused { IfOk result (λ answer. OnErr answer (clients.new ≡ clients.old)) }
+{
+    match op {
+        Op::ExchangeId {
+            verifier,
+            owner,
+            flags,
+            ..
+        } => {
+            if compound.count != 1 {
+                return Ok(Err(Refusal {
+                    gate: Gate::Session,
+                    status: NFS4ERR_NOT_ONLY_OP,
+                }));
+            }
+            clients.exchange_id(
+                level,
+                &ExchangeId {
+                    verifier: *verifier,
+                    owner: owner.as_slice(),
+                    flags: *flags,
+                },
+            )
+        }
+        Op::Outside { status, .. } => Ok(Err(Refusal {
+            gate: Gate::Outside,
+            status: *status,
+        })),
+        _ => Ok(Err(Refusal {
+            gate: Gate::Outside,
+            status: NFS4ERR_NOTSUPP,
+        })),
+    }
+}
+
+/// Runs an operation and appends its result. Says what refused it, if anything did.
+fn perform(
+    clients: &mut Clients,
+    level: u32,
+    compound: &Compound,
+    op: &Op,
+    out: &mut XdrWriter,
+) -> Result<Option<Refusal>, AllocError>
+    ensures { IfOk result (Performs level op.now (outcome_of compound.now op.now level clients.old) out.old out.new clients.old clients.new) }
+{
+    match outcome_of(clients, level, compound, op)? {
+        Ok(told) => {
+            put_told(out, level, &told)?;
+            Ok(None)
+        }
+        Err(refusal) => {
+            put_failed(out, op, refusal.status)?;
+            Ok(Some(refusal))
+        }
+    }
+}
+
+/// Runs the operations that were read, and appends their results.
+fn run_all(
+    clients: &mut Clients,
+    level: u32,
+    compound: &Compound,
+    out: &mut XdrWriter,
+) -> Result<Ended, AllocError>
+    requires { length compound.now.ops ≤ 32 }
+    ensures { IfOk result (Ends out.old out.new clients.new (run_from compound.now 1 compound.now.ops level clients.old)) }
+{
+    let ops = compound.ops.as_slice();
+    let mut place = 0;
+    while place < ops.len() {
+        let op = &ops[place];
+        place += 1;
+        if let Some(refusal) = perform(clients, level, compound, op, out)? {
+            return Ok(Ended {
+                status: refusal.status,
+                count: place as u32,
+                denial: Some(Denial {
+                    place: place as u32,
+                    number: op.number(),
+                    refusal,
+                }),
+            });
+        }
+    }
+    Ok(Ended {
+        status: NFS4_OK,
+        count: place as u32,
+        denial: None,
+    })
+}
+
+/// Runs a COMPOUND of a level, and appends its results. Another minor version is refused as a whole.
+#[tactic(auto, unfolding(lnfs_operations::specs::Compound::run))]
+pub fn run(
+    clients: &mut Clients,
+    level: u32,
+    compound: &Compound,
+    out: &mut XdrWriter,
+) -> Result<Ended, AllocError>
+    requires { length compound.now.ops ≤ 32 }
+    ensures { IfOk result (IsRun compound.now out.old out.new clients.new (run compound.now level clients.old)) }
+{
+    if compound.minor != MINOR {
+        return Ok(Ended {
+            status: NFS4ERR_MINOR_VERS_MISMATCH,
+            count: 0,
+            denial: Some(Denial {
+                place: 0,
+                number: 0,
+                refusal: Refusal {
+                    gate: Gate::Outside,
+                    status: NFS4ERR_MINOR_VERS_MISMATCH,
+                },
+            }),
+        });
+    }
+    run_all(clients, level, compound, out)
+}

@@ -1,0 +1,195 @@
+//! The step that an event makes: its reply and its audit line.
+ghost use Rattle.std.specs.Prelude.{◌≡◌, ◌≤◌, [], Some, None, length, IfOk, option_map};
+ghost use Rattle.lnfs_rpc.specs.Replies.{reply_text, seen_head};
+ghost use Rattle.lnfs_step.specs.Request.{head_of, results_in, plainly, Asked as asked};
+ghost use Rattle.lnfs_step.specs.Step.{step, step_of, letter, line_of_cause, line_of};
+ghost use Rattle.lnfs_step.specs.declared.numbers.TheConstants.{SUCCESS};
+ghost use Rattle.lnfs_vault.specs.Lines.{IsLineOf};
+ghost use Rattle.lnfs_vault.specs.Requests.{seen_cause};
+ghost use Rattle.lnfs_vault.specs.Runs.{seen_denial};
+ghost use Rattle.lnfs_vault.specs.Says.{Says};
+
+use crate::audit::AuditLine;
+use crate::clients::Clients;
+use crate::request::{Asked, Cause, request_of};
+use crate::results::results_of;
+use crate::run::{Denial, run};
+use lnfs_arguments::Compound;
+use lnfs_calipso::Level;
+use lnfs_lists::Octets;
+use lnfs_operations::Gate;
+use lnfs_outside::Event;
+use lnfs_policy::Policy;
+use lnfs_rpc::{Auth, Head, write_reply};
+use lnfs_step::numbers::{AUTH_NONE, NFS_VERSION, PROG_MISMATCH, SUCCESS};
+use lnfs_xdr::XdrWriter;
+use std::alloc::{AllocError, Global};
+
+/// What a step says, before its event is in the journal.
+#[derive(Debug, Drop)]
+pub struct Said {
+    pub reply: Option<Octets>,
+    pub line: Option<AuditLine>,
+}
+
+/// The head of a reply of a call that was accepted, with the empty verifier.
+fn plainly(stat: u32) -> Head<'static>
+    ensures { seen_head result ≡ plainly stat }
+{
+    Head::Accepted {
+        verf: Auth {
+            flavor: AUTH_NONE,
+            body: &[],
+        },
+        stat,
+    }
+}
+
+/// The head of the reply of a call that is refused as a whole.
+fn head_of(cause: Cause) -> Head<'static>
+    ensures { seen_head result ≡ head_of (seen_cause cause) }
+{
+    match cause {
+        Cause::Caller { stat } => Head::AuthError { stat },
+        Cause::Called { stat } => plainly(stat),
+        Cause::Version => Head::VersionMismatch,
+    }
+}
+
+/// What is behind that head: after `PROG_MISMATCH` the lowest and the highest version.
+fn results_in(alloc: Global, cause: Cause) -> Result<Vec<u8>, AllocError>
+    ensures { IfOk result (λ bytes. bytes.items ≡ results_in (seen_cause cause)) }
+{
+    let mut out = XdrWriter::new(alloc);
+    if let Cause::Called {
+        stat: PROG_MISMATCH,
+    } = cause
+    {
+        out.u32(NFS_VERSION)?;
+        out.u32(NFS_VERSION)?;
+    }
+    Ok(out.into_bytes())
+}
+
+/// The letter and the status of the line of a call that is refused as a whole.
+fn letter_of_cause(cause: Cause) -> (&'static [u8; 1], u32)
+    ensures { record { place = 0; number = 0; gate = result.0.now; status = result.1 } ≡ line_of_cause (seen_cause cause) }
+{
+    match cause {
+        Cause::Caller { stat } => (b"C", stat),
+        Cause::Called { stat } => (b"P", stat),
+        Cause::Version => (b"V", 0),
+    }
+}
+
+/// The reply and the line of a call that is refused as a whole.
+fn refuse(alloc: Global, at: u64, xid: u32, cause: Cause) -> Result<Said, AllocError>
+    ensures reply { IfOk result (λ said. said.reply ≡ Some (reply_text xid (head_of (seen_cause cause)) (results_in (seen_cause cause)))) }
+    ensures line { IfOk result (λ said. IsLineOf at (Some (line_of_cause (seen_cause cause))) said.line) }
+{
+    let results = results_in(alloc, cause)?;
+    let reply = write_reply(alloc, xid, &head_of(cause), &results)?;
+    let (gate, status) = letter_of_cause(cause);
+    Ok(Said {
+        reply: Some(Octets::new(reply)),
+        line: Some(AuditLine {
+            event: at,
+            place: 0,
+            number: 0,
+            gate: Octets::from_slice(alloc, gate)?,
+            status,
+        }),
+    })
+}
+
+/// The reply of a NULL.
+fn nothing(alloc: Global, xid: u32) -> Result<Said, AllocError>
+    ensures { IfOk result (λ said. (said.reply ≡ Some (reply_text xid (plainly SUCCESS) [])) × (said.line ≡ None)) }
+{
+    let reply = write_reply(alloc, xid, &plainly(SUCCESS), &[])?;
+    Ok(Said {
+        reply: Some(Octets::new(reply)),
+        line: None,
+    })
+}
+
+fn letter(gate: Gate) -> &'static [u8; 1]
+    ensures { result.now ≡ letter gate }
+{
+    match gate {
+        Gate::Session => b"S",
+        Gate::Outside => b"X",
+    }
+}
+
+/// The line of a COMPOUND, where one of its operations was refused, or it as a whole.
+fn line_of(alloc: Global, at: u64, denial: &Option<Denial>) -> Result<Option<AuditLine>, AllocError>
+    ensures { IfOk result (IsLineOf at (option_map line_of (option_map seen_denial denial.now))) }
+{
+    let Some(denial) = denial else {
+        return Ok(None);
+    };
+    Ok(Some(AuditLine {
+        event: at,
+        place: denial.place,
+        number: denial.number,
+        gate: Octets::from_slice(alloc, letter(denial.refusal.gate))?,
+        status: denial.refusal.status,
+    }))
+}
+
+/// Runs a COMPOUND, and answers it.
+fn compound(
+    alloc: Global,
+    clients: &mut Clients,
+    at: u64,
+    level: Level,
+    xid: u32,
+    compound: &Compound,
+) -> Result<Said, AllocError>
+    requires tag { length compound.now.tag ≤ 1024 }
+    requires few { length compound.now.ops ≤ 32 }
+    ensures { IfOk result (Says at clients.new (step_of clients.old (asked level.0 xid compound.now))) }
+{
+    let mut out = XdrWriter::new(alloc);
+    let ended = run(clients, level.0, compound, &mut out)?;
+    let results = results_of(
+        alloc,
+        ended.status,
+        compound.tag.as_slice(),
+        ended.count,
+        &out.into_bytes(),
+    )?;
+    let reply = write_reply(alloc, xid, &plainly(SUCCESS), &results)?;
+    let line = line_of(alloc, at, &ended.denial)?;
+    Ok(Said {
+        reply: Some(Octets::new(reply)),
+        line,
+    })
+}
+
+/// Makes the step of an event.
+#[tactic(auto, unfolding(lnfs_step::specs::Step::step))]
+pub fn say(
+    alloc: Global,
+    policy: &Policy,
+    clients: &mut Clients,
+    at: u64,
+    event: &Event,
+) -> Result<Said, AllocError>
+    ensures { IfOk result (Says at clients.new (step policy.now clients.old event.now)) }
+{
+    match request_of(alloc, policy, event.class, event.message.as_slice())? {
+        Asked::Silent => Ok(Said {
+            reply: None,
+            line: None,
+        }),
+        Asked::Refused { xid, cause, .. } => refuse(alloc, at, xid, cause),
+        Asked::Nothing { xid } => nothing(alloc, xid),
+        Asked::Run {
+            level,
+            xid,
+            compound: asked,
+        } => compound(alloc, clients, at, level, xid, &asked),
+    }
+}

@@ -1,0 +1,142 @@
+//! The vault.
+ghost use Rattle.std.specs.Prelude.{◌≡◌, ◌+◌, ◌≤◌, [], ◌∷◌, ◌++◌, true, false, length, IfOk, IfSome, OnOk, OnErr, IsErr};
+ghost use Rattle.lnfs_outside.specs.Moments.{Fits};
+ghost use Rattle.lnfs_policy.specs.Policy.{dominance};
+ghost use Rattle.lnfs_world.specs.Facts.{Facts};
+ghost use Rattle.lnfs_step.specs.Step.{step};
+ghost use Rattle.lnfs_step.specs.Journal.{world_after, reply_at, line_at, answer};
+ghost use Rattle.lnfs_vault.specs.Lines.{IsLineOf};
+ghost use Rattle.lnfs_vault.specs.Says.{SaysServed};
+
+use crate::audit::AuditLine;
+use crate::clients::Clients;
+use crate::step::say;
+use lnfs_lists::Octets;
+use lnfs_outside::Event;
+use lnfs_policy::Policy;
+use lnfs_step::purge;
+use std::alloc::{AllocError, Global};
+use std::marker::Model;
+
+/// What serving an event brought.
+#[derive(Debug, Drop)]
+pub struct Served {
+    /// The reply record; None where none is due.
+    pub reply: Option<Octets>,
+    /// What was refused, if anything was.
+    pub line: Option<AuditLine>,
+    /// The event's place in the journal, from 1.
+    pub at: u64,
+}
+
+/// Makes the step of an event, and puts it into the journal. The journal's place is reserved first.
+fn attempt(
+    alloc: Global,
+    policy: &Policy,
+    clients: &mut Clients,
+    journal: &mut Vec<Event>,
+    event: Event,
+) -> Result<Served, AllocError>
+    ensures says { IfOk result (λ served. SaysServed (length journal.old.items + 1) clients.new (step policy.now clients.old event) served) }
+    ensures ok { OnOk result (journal.new.items ≡ journal.old.items ++ event ∷ []) }
+    ensures err { OnErr result (journal.new.items ≡ journal.old.items) }
+{
+    journal.reserve(1)?;
+    let at = journal.len() as u64 + 1;
+    let said = say(alloc, policy, clients, at, &event)?;
+    journal.push(event)?;
+    Ok(Served {
+        reply: said.reply,
+        line: said.line,
+        at,
+    })
+}
+
+/// Serves events one at a time, and keeps the journal of all that it served.
+#[derive(Drop)]
+pub struct Vault {
+    alloc: Global,
+    policy: Policy,
+    clients: Clients,
+    journal: Vec<Event>,
+    stopped: bool,
+}
+
+impl Model for Vault {
+    ghost use Rattle.std.specs.Prelude.{◌≡◌, false};
+    ghost use Rattle.lnfs_vault.specs.Kept.{Kept};
+
+    ghost Value = { Kept };
+
+    ghost use Rattle.lnfs_step.specs.Journal.{world_after};
+
+    ghost view = { λ v. record { policy = v.policy; journal = v.journal.items; stopped = v.stopped } };
+
+    // what stands is the world after the journal
+    ghost invariant = { λ v. v.stopped ≡ false → v.clients ≡ world_after v.policy v.journal.items };
+}
+
+impl Vault {
+    /// A vault of a site, that was given no event.
+    pub fn new(alloc: Global, policy: Policy) -> Result<Vault, AllocError>
+        ensures { IfOk result (λ vault. vault ≡ record { policy = policy; journal = []; stopped = false }) }
+    {
+        Ok(Vault {
+            alloc,
+            policy,
+            clients: Clients::new(alloc),
+            journal: Vec::new(alloc),
+            stopped: false,
+        })
+    }
+
+    pub fn policy(&self) -> &Policy
+        ensures { result.now ≡ self.now.policy }
+    {
+        &self.policy
+    }
+
+    /// The events that were served, in order.
+    pub fn journal(&self) -> &[Event]
+        ensures { result.now ≡ self.now.journal }
+    {
+        &self.journal
+    }
+
+    /// Serves an event: makes its step on the world after the journal, and adds it to the journal.
+    ///
+    /// Want of memory is the one error. It stops the vault: each later call answers it too, and changes
+    /// nothing.
+    pub fn serve(&mut self, event: Event) -> Result<Served, AllocError>
+        requires { Fits event }
+        // The reply and the line are those of the event's step on the world after the journal.
+        ensures reply { IfOk result (λ served. served.reply ≡ reply_at self.old.policy self.old.journal event) }
+        ensures line { IfOk result (λ served. IsLineOf (length self.old.journal + 1) (line_at self.old.policy self.old.journal event) served.line) }
+        // The reply is the one that its requester would get with every event outside its dominance
+        // purged from the journal.
+        ensures answer { IfOk result (λ served. served.reply ≡ answer self.old.policy self.old.journal event) }
+        ensures short { IfOk result (λ served. IfSome served.reply (λ reply. length reply ≤ 131072)) }
+        ensures at { IfOk result (λ served. served.at ≡ length self.old.journal + 1) }
+        ensures kept { OnOk result (self.new ≡ record self.old { journal = self.old.journal ++ event ∷ [] }) }
+        ensures stops { OnErr result (self.new ≡ record self.old { stopped = true }) }
+        ensures stopped { self.old.stopped ≡ true → IsErr result }
+        // What stands keeps the facts of every world.
+        ensures facts { Facts (dominance self.new.policy) (world_after self.new.policy self.new.journal) }
+    {
+        purge();
+        self.policy.is_ordered();
+        if self.stopped {
+            return Err(AllocError);
+        }
+        self.stopped = true;
+        let served = attempt(
+            self.alloc,
+            &self.policy,
+            &mut self.clients,
+            &mut self.journal,
+            event,
+        )?;
+        self.stopped = false;
+        Ok(served)
+    }
+}
