@@ -1,0 +1,75 @@
+-- What a run did, against what is due.
+use Rattle.std.specs.Prelude.{◌≡◌, ◌≤◌, ◌⊎◌, ℕ, List, Result, IfSome, IfOk, IfErr, Ok, Err}
+use Rattle.std.specs.Global.{Vec}
+use Rattle.std.specs.declared.option.Option.{Option}
+use Rattle.std.specs.declared.option.Option.TheVariants.{Some, None}
+use Rattle.lnfs_outside.specs.Causes.{Rose}
+use Rattle.lnfs_outside.specs.Bytes.{Told}
+use Rattle.lnfs_program.specs.declared.status.Stop.{Stop}
+use Rattle.lnfs_program.specs.declared.status.Stop.TheVariants.{ReadFault, WriteFault, Memory}
+use Rattle.lnfs_program.specs.declared.status.Status.{Status}
+use Rattle.lnfs_program.specs.Due.{Due, due, all_writes}
+use Rattle.lnfs_program.specs.Ending.{told_by}
+use Rattle.lnfs_program.specs.Words.{Form, first_name, second_name}
+use Rattle.lnfs_program.specs.Writes.{Takes, TakesFront, Does}
+
+-- a file of the name holds this, or there is none, as far as contents are told
+abbrev pub Holds : Told → List ℕ → Option (List ℕ) → Type 0
+Holds told name found = IfSome told (λ look. look name ≡ found)
+
+-- The run tells the ending that is due, and the streams took what is due; or it gave up, and they took a front of it.
+pub record Runs (told : Told) (form : Option Form) (ending : Option Status) (out out' audit audit' : Option (List ℕ)) : Type 0 where
+  -- the two files that the words name
+  pub policy : Option (List ℕ)
+  pub traffic : Option (List ℕ)
+  pub policy_held : Holds told (first_name form) policy
+  pub traffic_held : Holds told (second_name form) traffic
+  pub told_all : IfSome ending (λ e. (e ≡ (due form policy traffic).ending) × Takes out out' audit audit' (all_writes (due form policy traffic)))
+  pub begun : TakesFront out out' audit audit' (all_writes (due form policy traffic))
+
+-- what is due was done, all but the ending's line
+pub record Plays (d : Due) (result : Result Status Stop) (out out' audit audit' : Option (List ℕ)) : Type 0 where
+  pub does : Does result out out' audit audit' d.writes
+  pub ending : IfOk result (λ status. told_by status ≡ Some d.ending)
+
+-- the same of a run before the ending's line is written
+pub record Judges (told : Told) (form : Option Form) (result : Result Status Stop) (out out' audit audit' : Option (List ℕ)) : Type 0 where
+  pub policy : Option (List ℕ)
+  pub traffic : Option (List ℕ)
+  pub policy_held : Holds told (first_name form) policy
+  pub traffic_held : Holds told (second_name form) traffic
+  pub plays : Plays (due form policy traffic) result out out' audit audit'
+
+-- why a call gave up
+abbrev pub IsExcused : Stop → Type 0 → Type 0 → Type 0
+IsExcused ReadFault read write = read
+IsExcused WriteFault read write = write
+IsExcused Memory read write = Unit {0}
+
+-- the counts of the two streams haven't fallen, and one of them rose where a call says WriteFault; it doesn't say ReadFault
+pub record WritesOnly {T : Type 0} (result : Result T Stop) (out out' audit audit' : ℕ) : Type 0 where
+  pub out_later : out ≤ out'
+  pub audit_later : audit ≤ audit'
+  pub excused : IfErr result (λ stop. IsExcused stop ⊥ (Rose out out' ⊎ Rose audit audit'))
+
+-- the count of the files hasn't fallen, and rose where a call says ReadFault; it doesn't say WriteFault
+pub record ReadsOnly {T : Type 0} (result : Result T Stop) (files files' : ℕ) : Type 0 where
+  pub later : files ≤ files'
+  pub excused : IfErr result (λ stop. IsExcused stop (Rose files files') ⊥)
+
+-- the counts of all three haven't fallen, and the one that a fault names rose
+pub record Gives {T : Type 0} (result : Result T Stop) (files files' out out' audit audit' : ℕ) : Type 0 where
+  pub files_later : files ≤ files'
+  pub out_later : out ≤ out'
+  pub audit_later : audit ≤ audit'
+  pub excused : IfErr result (λ stop. IsExcused stop (Rose files files') (Rose out out' ⊎ Rose audit audit'))
+
+-- the bytes in a buffer, if there is one
+abbrev pub held : Option (Vec ℕ) → Option (List ℕ)
+held None = None
+held (Some bytes) = Some bytes.items
+
+-- the ending that a call told
+abbrev pub told_where : Result Status Stop → Option Status
+told_where (Ok status) = told_by status
+told_where (Err stop) = None

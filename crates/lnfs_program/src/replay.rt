@@ -1,0 +1,92 @@
+//! Serving a recording's events, one after another.
+ghost use Rattle.std.specs.Prelude.{◌≡◌, ◌++◌, ◌∷◌, ◌≤◌, [], IfOk, OnOk, length, unwrap_or};
+ghost use Rattle.lnfs_outside.specs.Moments.{Fits};
+ghost use Rattle.lnfs_program.specs.Due.{replayed};
+ghost use Rattle.lnfs_program.specs.Recording.{events_of, taken_of};
+ghost use Rattle.lnfs_program.specs.Runs.{Plays, WritesOnly};
+ghost use Rattle.lnfs_step.specs.Journal.{answer, audit_at};
+ghost use Rattle.lnfs_program.specs.Lines.{text_in};
+ghost use Rattle.lnfs_program.specs.Writes.{Does, answer_writes, writes_after};
+
+use crate::recording::{BEGINNING, event_at};
+use crate::status::{Status, Stop};
+use crate::streams::{frame, put};
+use lnfs_outside::{Event, Sink};
+use lnfs_policy::Policy;
+use lnfs_vault::{AuditLine, Vault, write_line};
+use std::alloc::{AllocError, Global};
+
+/// The text of an audit line, or nothing.
+fn text_of(alloc: Global, line: &Option<AuditLine>) -> Result<Vec<u8>, AllocError>
+    ensures { IfOk result (λ text. text.items ≡ unwrap_or (text_in line.now) []) }
+{
+    match line {
+        Some(line) => write_line(alloc, line),
+        None => Ok(Vec::new(alloc)),
+    }
+}
+
+/// Serves one event: hands over its reply's frame, and then its line.
+fn serve_event<K: Sink, A: Sink>(
+    alloc: Global,
+    vault: &mut Vault,
+    event: Event,
+    out: &mut K,
+    audit: &mut A,
+) -> Result<(), Stop>
+    requires fits { Fits event }
+    ensures does { Does result (K.taken out.old) (K.taken out.new) (A.taken audit.old) (A.taken audit.new) (answer_writes (answer vault.old.policy vault.old.journal event) (audit_at vault.old.policy vault.old.journal event)) }
+    ensures state { OnOk result (vault.new ≡ record vault.old { journal = vault.old.journal ++ event ∷ [] }) }
+    ensures cause { WritesOnly result (K.write_faults out.old) (K.write_faults out.new) (A.write_faults audit.old) (A.write_faults audit.new) }
+{
+    let served = vault.serve(event)?;
+    let bytes = frame(alloc, &served.reply)?;
+    let line = text_of(alloc, &served.line)?;
+    put(out, &bytes)?;
+    put(audit, &line)
+}
+
+/// Serves the whole events at the front of the bytes, in a new server, and says how many bytes they took.
+fn serve_events<K: Sink, A: Sink>(
+    alloc: Global,
+    policy: Policy,
+    bytes: &[u8],
+    out: &mut K,
+    audit: &mut A,
+) -> Result<usize, Stop>
+    ensures does { Does result (K.taken out.old) (K.taken out.new) (A.taken audit.old) (A.taken audit.new) (writes_after (answer policy) (audit_at policy) [] (events_of bytes.now)) }
+    ensures taken { IfOk result (λ taken. (taken ≡ taken_of bytes.now) × (taken ≤ length bytes.now)) }
+    ensures cause { WritesOnly result (K.write_faults out.old) (K.write_faults out.new) (A.write_faults audit.old) (A.write_faults audit.new) }
+{
+    let mut vault = Vault::new(alloc, policy)?;
+    let mut rest = bytes;
+    while let Some((event, others)) = event_at(alloc, rest)? {
+        serve_event(alloc, &mut vault, event, out, audit)?;
+        rest = others;
+    }
+    Ok(bytes.len() - rest.len())
+}
+
+/// Replays a recording in a new server.
+pub fn replay<K: Sink, A: Sink>(
+    alloc: Global,
+    policy: Policy,
+    traffic: &[u8],
+    out: &mut K,
+    audit: &mut A,
+) -> Result<Status, Stop>
+    ensures plays { Plays (replayed policy traffic.now) result (K.taken out.old) (K.taken out.new) (A.taken audit.old) (A.taken audit.new) }
+    ensures cause { WritesOnly result (K.write_faults out.old) (K.write_faults out.new) (A.write_faults audit.old) (A.write_faults audit.new) }
+{
+    let Some(rest) = traffic.strip_prefix(BEGINNING) else {
+        return Ok(Status::TrafficDamaged { at: 0 });
+    };
+    let taken = serve_events(alloc, policy, rest, out, audit)?;
+    if taken == rest.len() {
+        Ok(Status::Ok)
+    } else {
+        Ok(Status::TrafficDamaged {
+            at: BEGINNING.len() as u64 + taken as u64,
+        })
+    }
+}

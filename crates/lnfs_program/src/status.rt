@@ -1,0 +1,93 @@
+//! How a run ends.
+ghost use Rattle.std.specs.Prelude.{◌≡◌, [], ◌∷◌, ◌++◌, IfOk, string_bytes, codes};
+ghost use Rattle.std.specs.Fmt.{decimal};
+ghost use Rattle.lnfs_program.specs.declared.status.Stop.TheVariants.{Memory};
+ghost use Rattle.lnfs_program.specs.Ending.{fault_line, number_of};
+
+use lnfs_lists::Text;
+use lnfs_policy::Cause;
+use std::alloc::{AllocError, Global};
+
+/// The status of a run.
+#[derive(Debug, Drop)]
+pub enum Status {
+    /// All that is due was written.
+    Ok,
+    /// The words are no form of the command line.
+    Usage,
+    /// The policy's text is refused: the first line that breaks a rule, counted from 1, and the rule.
+    PolicyRefused { line: u64, cause: Cause },
+    /// The file is no recording. The length of its longest prefix that is one, in bytes.
+    TrafficDamaged { at: u64 },
+    /// A call of the files failed.
+    ReadFault,
+    /// A write failed.
+    WriteFault,
+    /// There was no memory.
+    Memory,
+    /// There is no file of this name.
+    NoFile { name: Text },
+}
+
+impl Status {
+    /// The exit status of the program.
+    pub fn number(&self) -> u8
+        ensures { result ≡ number_of self.now }
+    {
+        match self {
+            Status::Ok => 0,
+            Status::Usage => 2,
+            Status::PolicyRefused { line: _, cause: _ } => 3,
+            Status::TrafficDamaged { at: _ } => 4,
+            Status::ReadFault => 5,
+            Status::WriteFault => 6,
+            Status::Memory => 7,
+            Status::NoFile { name: _ } => 9,
+        }
+    }
+
+    /// The line on the audit stream that tells an ending, and nothing where there is none.
+    pub fn line(&self, alloc: Global) -> Result<String, AllocError>
+        ensures { IfOk result (λ line. string_bytes line ≡ fault_line self.now) }
+    {
+        match self {
+            Status::Usage => format!(in alloc; "fault 2 usage\n"),
+            Status::PolicyRefused { line, cause } => refusal_line(alloc, *line, cause.as_str()),
+            Status::TrafficDamaged { at } => {
+                format!(in alloc; "fault 4 traffic damaged at {at}\n")
+            }
+            Status::NoFile { name } => {
+                let name = name.as_str();
+                format!(in alloc; "fault 9 no file {name}\n")
+            }
+            Status::Ok | Status::ReadFault | Status::WriteFault | Status::Memory => {
+                Ok(String::new(alloc))
+            }
+        }
+    }
+}
+
+fn refusal_line(alloc: Global, line: u64, cause: &str) -> Result<String, AllocError>
+    ensures { IfOk result (λ text. string_bytes text ≡ codes "fault 3 policy line " ++ decimal line ++ codes " cause " ++ cause.now ++ 10 ∷ []) }
+{
+    let mut text = format!(in alloc; "fault 3 policy line {line} cause ")?;
+    text.push_str(cause)?;
+    text.push_str("\n")?;
+    Ok(text)
+}
+
+/// Why a run gave up.
+#[derive(Clone, Copy, Debug, Drop)]
+pub enum Stop {
+    ReadFault,
+    WriteFault,
+    Memory,
+}
+
+impl From<AllocError> for Stop {
+    ghost from_gives = { λ _ e. e ≡ Memory };
+
+    fn from(_error: AllocError) -> Stop {
+        Stop::Memory
+    }
+}

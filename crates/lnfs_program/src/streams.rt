@@ -1,0 +1,77 @@
+//! Reading a file whole, and writing to a stream.
+ghost use Rattle.std.specs.Prelude.{◌≡◌, ◌≤◌, IfOk, IfErr, IfSome, length};
+ghost use Rattle.lnfs_outside.specs.Causes.{Rose};
+ghost use Rattle.lnfs_outside.specs.Bytes.{Puts};
+ghost use Rattle.lnfs_program.specs.Runs.{Holds, ReadsOnly, held};
+ghost use Rattle.lnfs_program.specs.Writes.{framed};
+
+use crate::status::Stop;
+use lnfs_lists::Octets;
+use lnfs_outside::{Files, Sink, put_all};
+use std::alloc::{AllocError, Global};
+
+/// The length of a piece that is read at once, in bytes.
+const PIECE: usize = 4096;
+
+/// Writes all of the bytes.
+pub fn put<K: Sink>(sink: &mut K, bytes: &[u8]) -> Result<(), Stop>
+    ensures bytes { Puts (K.taken sink.old) (K.taken sink.new) result bytes.now }
+    ensures later { K.write_faults sink.old ≤ K.write_faults sink.new }
+    ensures excused { IfErr result (λ stop. (stop ≡ Stop.WriteFault) × Rose (K.write_faults sink.old) (K.write_faults sink.new)) }
+{
+    match put_all(sink, bytes) {
+        Ok(()) => Ok(()),
+        Err(_) => Err(Stop::WriteFault),
+    }
+}
+
+/// Reads the current file to its end.
+fn read_rest<F: Files>(alloc: Global, files: &mut F) -> Result<Vec<u8>, Stop>
+    ensures bytes { IfOk result (λ bytes. IfSome (F.left files.old) (λ left. bytes.items ≡ left)) }
+    ensures content { F.content files.new ≡ F.content files.old }
+    ensures cause { ReadsOnly result (F.faults files.old) (F.faults files.new) }
+{
+    let mut bytes = Vec::new(alloc);
+    let mut buf = [0u8; PIECE];
+    for _ in 0..u64::MAX {
+        let Ok(count) = files.read(&mut buf) else {
+            return Err(Stop::ReadFault);
+        };
+        if count == 0 {
+            return Ok(bytes);
+        }
+        bytes.extend_from_slice(&buf[..count])?;
+    }
+    Err(Stop::Memory)
+}
+
+/// Reads the file of the name, if there is one.
+pub fn read_file<F: Files>(
+    alloc: Global,
+    files: &mut F,
+    name: &str,
+) -> Result<Option<Vec<u8>>, Stop>
+    ensures found { IfOk result (λ found. Holds (F.content files.old) name.now (held found)) }
+    ensures content { F.content files.new ≡ F.content files.old }
+    ensures cause { ReadsOnly result (F.faults files.old) (F.faults files.new) }
+{
+    match files.open(name) {
+        Ok(true) => {
+            let bytes = read_rest(alloc, files)?;
+            Ok(Some(bytes))
+        }
+        Ok(false) => Ok(None),
+        Err(_) => Err(Stop::ReadFault),
+    }
+}
+
+/// A reply as the one fragment that it is sent in (RFC 5531 section 11); nothing where there is none.
+pub fn frame(alloc: Global, reply: &Option<Octets>) -> Result<Vec<u8>, AllocError>
+    requires { IfSome reply.now (λ bytes. length bytes ≤ 131072) }
+    ensures { IfOk result (λ bytes. bytes.items ≡ framed reply.now) }
+{
+    match reply {
+        Some(reply) => lnfs_rpc::frame(alloc, reply.as_slice()),
+        None => Ok(Vec::new(alloc)),
+    }
+}
