@@ -4,8 +4,6 @@ pub mod SharedTexts
 pub mod Numbers
 pub mod Numbered
 pub mod Grammar
-pub mod Texts
-pub mod Fits
 pub mod Further
 pub mod Message
 pub mod Whole

@@ -13,11 +13,6 @@ mod read_table;
 mod reading;
 mod stateid;
 mod types;
-mod write_files;
-mod write_names;
-mod write_sessions;
-mod write_table;
-mod writing;
 
 pub use attrs::{attrs_of, put_attrs};
 pub use channel::{Channel, channel_of, put_channel};
@@ -28,9 +23,6 @@ pub use stateid::{Cinfo, StateId, cinfo_of, put_cinfo, put_state_id, state_id_of
 pub use types::{
     Callback, Claim, Compound, CreateSession, Implementation, Making, Op, Sequence, What,
 };
-pub use writing::write_compound;
 
 #[cfg(test)]
 mod tests;
-#[cfg(test)]
-mod write_tests;

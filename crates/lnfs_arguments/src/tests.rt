@@ -1,4 +1,4 @@
-use crate::{CompoundError, ExtraGrammar, NoExtraGrammar, Op, read_compound, write_compound};
+use crate::{CompoundError, NoExtraGrammar, read_compound};
 use lnfs_xdr::XdrWriter;
 use std::alloc::{AllocError, Global};
 use std::test::Fail;

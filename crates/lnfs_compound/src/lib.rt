@@ -1,8 +1,8 @@
 //! COMPOUND: the arguments of its operations, their results, and how large a result may be
 //! (RFC 8881 section 16.2, RFC 7862).
 //!
-//! The arguments are in `lnfs_arguments` and the results in `lnfs_results`. What the layers above
-//! use of both is named here.
+//! The arguments are in `lnfs_arguments`, written in `lnfs_requests`, and the results in
+//! `lnfs_results`. What the layers above use of them is named here.
 #![tactic(auto)]
 
 mod bound;
@@ -15,8 +15,8 @@ pub use bound::{bounds, reply_bound};
 pub use lnfs_arguments::{
     Callback, Channel, Cinfo, Claim, Compound, CompoundError, CreateSession, ExtraGrammar,
     Implementation, Making, NoExtraGrammar, Op, Sequence, StateId, What, numbers, read_compound,
-    write_compound,
 };
+pub use lnfs_requests::write_compound;
 pub use lnfs_results::{
     DirEntry, NFS4_OK, OpResult, Results, append_result, read_results, result_bounds, write_results,
 };

@@ -21,8 +21,8 @@ use Rattle.lnfs_arguments.specs.declared.types.Op.{Op}
 use Rattle.lnfs_arguments.specs.declared.types.Op.TheVariants as ops
 use Rattle.lnfs_arguments.specs.Numbers.{op_access, op_close, op_commit, op_create, op_getattr, op_getfh, op_link, op_lookup, op_lookupp, op_nverify, op_open, op_putfh, op_putrootfh, op_read, op_readdir, op_readlink, op_remove, op_rename, op_restorefh, op_savefh, op_setattr, op_verify, op_write, op_exchange_id, op_create_session, op_destroy_session, op_sequence, op_destroy_clientid, op_reclaim_complete}
 use Rattle.lnfs_arguments.specs.Grammar.{name, access, what, create, getattr, link, lookup, remove, nverify, verify, setattr, putfh, readdir, rename, close, commit, reading, writing, created, making, claim, opening, implementation, who_made, exchange_id, callback, create_session, making_session, destroy_session, sequence, sequencing, destroy_clientid, reclaim_complete, table, unserved, entry, arguments}
-use Rattle.lnfs_arguments.specs.Texts.{what_text, making_text, claim_text, implementation_text, callback_text, create_session_text, sequence_text, op_text}
-use Rattle.lnfs_arguments.specs.Fits.{WhatFits, MakingFits, ClaimFits, ImplementationFits, CallbackFits, CreateSessionFits, SequenceFits, OpFits}
+use Rattle.lnfs_requests.specs.Texts.{what_text, making_text, claim_text, implementation_text, callback_text, create_session_text, sequence_text, op_text}
+use Rattle.lnfs_requests.specs.Fits.{WhatFits, MakingFits, ClaimFits, ImplementationFits, CallbackFits, CreateSessionFits, SequenceFits, OpFits}
 use Rattle.lnfs_arguments.proofs.Shared.{tag, attrs_spelled, state_id_spelled, channel_spelled}
 
 -- ---- the parts of arguments

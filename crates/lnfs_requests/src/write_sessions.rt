@@ -3,15 +3,14 @@ ghost use Rattle.std.specs.Prelude.{◌≡◌, ◌++◌, ◌<◌, ◌≤◌, ◌
 ghost use Rattle.std.specs.List.{flat_map};
 ghost use Rattle.lnfs_xdr.specs.Canon.{word};
 ghost use Rattle.lnfs_attrs.specs.Bitmaps.{words_text};
-ghost use Rattle.lnfs_arguments.specs.Texts.{implementation_text, callback_text, create_session_text, sequence_text, op_text};
-ghost use Rattle.lnfs_arguments.specs.Fits.{ImplementationFits, CallbackFits, CreateSessionFits, OpFits};
+ghost use Rattle.lnfs_requests.specs.Texts.{implementation_text, callback_text, create_session_text, sequence_text, op_text};
+ghost use Rattle.lnfs_requests.specs.Fits.{ImplementationFits, CallbackFits, CreateSessionFits, OpFits};
 
-use crate::channel::put_channel;
-use crate::numbers::{
+use lnfs_arguments::numbers::{
     AUTH_NONE, AUTH_SYS, OP_CREATE_SESSION, OP_DESTROY_CLIENTID, OP_DESTROY_SESSION,
     OP_EXCHANGE_ID, OP_RECLAIM_COMPLETE, OP_SEQUENCE, RPCSEC_GSS, SP4_NONE,
 };
-use crate::types::{Callback, CreateSession, Implementation, Op, Sequence};
+use lnfs_arguments::{Callback, CreateSession, Implementation, Op, Sequence, put_channel};
 use lnfs_lists::Octets;
 use lnfs_xdr::XdrWriter;
 use std::alloc::AllocError;

@@ -2,11 +2,11 @@ ghost use Rattle.std.specs.Prelude.{◌≡◌, IfOk};
 ghost use Rattle.lnfs_arguments.specs.Message.{Tells};
 ghost use Rattle.lnfs_arguments.specs.Further.{Further, IsLawful};
 ghost use Rattle.lnfs_arguments.specs.Whole.{compound};
-ghost use Rattle.lnfs_arguments.specs.Texts.{compound_text};
-ghost use Rattle.lnfs_arguments.specs.Fits.{CompoundFits};
+ghost use Rattle.lnfs_requests.specs.Texts.{compound_text};
+ghost use Rattle.lnfs_requests.specs.Fits.{CompoundFits};
 
-use crate::types::Compound;
 use crate::write_table::put_op;
+use lnfs_arguments::Compound;
 use lnfs_xdr::XdrWriter;
 use std::alloc::{AllocError, Global};
 

@@ -1,10 +1,8 @@
 //! Each operation with its number, for writing.
 ghost use Rattle.std.specs.Prelude.{◌≡◌, ◌++◌, OnOk};
-ghost use Rattle.lnfs_arguments.specs.Texts.{op_text};
-ghost use Rattle.lnfs_arguments.specs.Fits.{OpFits};
+ghost use Rattle.lnfs_requests.specs.Texts.{op_text};
+ghost use Rattle.lnfs_requests.specs.Fits.{OpFits};
 
-use crate::numbers::{OP_GETFH, OP_LOOKUPP, OP_PUTROOTFH, OP_READLINK, OP_RESTOREFH, OP_SAVEFH};
-use crate::types::Op;
 use crate::write_files::{Opening, put_close, put_commit, put_open, put_read, put_write};
 use crate::write_names::{
     put_access, put_create, put_getattr, put_link, put_lookup, put_nverify, put_putfh, put_readdir,
@@ -13,6 +11,10 @@ use crate::write_names::{
 use crate::write_sessions::{
     put_create_session, put_destroy_clientid, put_destroy_session, put_exchange_id,
     put_reclaim_complete, put_sequence,
+};
+use lnfs_arguments::Op;
+use lnfs_arguments::numbers::{
+    OP_GETFH, OP_LOOKUPP, OP_PUTROOTFH, OP_READLINK, OP_RESTOREFH, OP_SAVEFH,
 };
 use lnfs_xdr::XdrWriter;
 use std::alloc::AllocError;

@@ -1,15 +1,13 @@
 //! The writers of the operations on names and their attributes.
 ghost use Rattle.std.specs.Prelude.{◌≡◌, ◌++◌, OnOk};
-ghost use Rattle.lnfs_arguments.specs.Texts.{what_text, op_text};
-ghost use Rattle.lnfs_arguments.specs.Fits.{WhatFits, OpFits};
+ghost use Rattle.lnfs_requests.specs.Texts.{what_text, op_text};
+ghost use Rattle.lnfs_requests.specs.Fits.{WhatFits, OpFits};
 
-use crate::attrs::put_attrs;
-use crate::numbers::{
+use lnfs_arguments::numbers::{
     OP_ACCESS, OP_CREATE, OP_GETATTR, OP_LINK, OP_LOOKUP, OP_NVERIFY, OP_PUTFH, OP_READDIR,
     OP_REMOVE, OP_RENAME, OP_SETATTR, OP_VERIFY, TYPE_DIR, TYPE_LINK,
 };
-use crate::stateid::{StateId, put_state_id};
-use crate::types::{Op, What};
+use lnfs_arguments::{Op, StateId, What, put_attrs, put_state_id};
 use lnfs_attrs::{Bitmap, RawAttrs, write_bitmap};
 use lnfs_lists::Octets;
 use lnfs_xdr::XdrWriter;

@@ -1,15 +1,13 @@
 //! The writers of the operations on the content of files, and of OPEN.
 ghost use Rattle.std.specs.Prelude.{◌≡◌, ◌++◌, OnOk};
-ghost use Rattle.lnfs_arguments.specs.Texts.{making_text, claim_text, op_text};
-ghost use Rattle.lnfs_arguments.specs.Fits.{MakingFits, ClaimFits, OpFits};
+ghost use Rattle.lnfs_requests.specs.Texts.{making_text, claim_text, op_text};
+ghost use Rattle.lnfs_requests.specs.Fits.{MakingFits, ClaimFits, OpFits};
 
-use crate::attrs::put_attrs;
-use crate::numbers::{
+use lnfs_arguments::numbers::{
     CLAIM_FH, CLAIM_NULL, EXCLUSIVE4_1, GUARDED, OP_CLOSE, OP_COMMIT, OP_OPEN, OP_READ, OP_WRITE,
     OPEN_CREATE, OPEN_NOCREATE, UNCHECKED,
 };
-use crate::stateid::{StateId, put_state_id};
-use crate::types::{Claim, Making, Op};
+use lnfs_arguments::{Claim, Making, Op, StateId, put_attrs, put_state_id};
 use lnfs_lists::Octets;
 use lnfs_xdr::XdrWriter;
 use std::alloc::AllocError;

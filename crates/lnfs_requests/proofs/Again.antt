@@ -18,10 +18,10 @@ use Rattle.lnfs_arguments.specs.Numbers.{op_first, op_last, op_illegal, notsupp}
 use Rattle.lnfs_arguments.specs.Grammar.{arguments, table, entry}
 use Rattle.lnfs_arguments.specs.Further.{Further, IsLawful, listed}
 use Rattle.lnfs_arguments.specs.Message.{Message, Next, Tells}
-use Rattle.lnfs_arguments.specs.Texts.{op_text, compound_text}
-use Rattle.lnfs_arguments.specs.Fits.{OpFits, CompoundFits}
+use Rattle.lnfs_requests.specs.Texts.{op_text, compound_text}
+use Rattle.lnfs_requests.specs.Fits.{OpFits, CompoundFits}
 use Rattle.lnfs_arguments.specs.Whole.{header, served, is_cut, chosen, with_op, operations, compound}
-use Rattle.lnfs_arguments.proofs.Texts.{op_spelled}
+use Rattle.lnfs_requests.proofs.Texts.{op_spelled}
 
 -- ---- what is spelled is in the table
 

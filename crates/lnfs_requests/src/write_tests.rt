@@ -1,7 +1,8 @@
-ghost use Rattle.lnfs_arguments.specs.Fits.{OpFits};
+ghost use Rattle.lnfs_requests.specs.Fits.{OpFits};
 ghost use Rattle.lnfs_arguments.specs.SharedTexts.{AttrsFit};
 
-use crate::{Channel, Claim, Compound, CreateSession, Op, Sequence, StateId, What, write_compound};
+use crate::write_compound;
+use lnfs_arguments::{Channel, Claim, Compound, CreateSession, Op, Sequence, StateId, What};
 use lnfs_attrs::{Bitmap, RawAttrs};
 use lnfs_lists::{Items, Octets};
 use lnfs_xdr::XdrWriter;

@@ -1,0 +1,13 @@
+//! Writing the arguments of a COMPOUND, as a client does (RFC 8881 section 16.2, RFC 7862).
+#![tactic(auto)]
+
+mod write_files;
+mod write_names;
+mod write_sessions;
+mod write_table;
+mod writing;
+
+pub use writing::write_compound;
+
+#[cfg(test)]
+mod write_tests;
