@@ -11,6 +11,8 @@ use lnfs_lists::Octets;
 use lnfs_xdr::{XdrReader, XdrWriter};
 use std::alloc::{AllocError, Global};
 
+/// Attributes as they stand in a message (`fattr4`). `Fault` where the bitmap or the list isn't
+/// there.
 #[tactic(auto, unfolding(crate::specs::Shared::attrs))]
 pub fn attrs_of(alloc: Global, reader: &mut XdrReader<'_>) -> Result<RawAttrs, Halt>
     ensures { Parses (λ x. x) result reader.old reader.new (read attrs reader.old.rest) }
@@ -20,6 +22,7 @@ pub fn attrs_of(alloc: Global, reader: &mut XdrReader<'_>) -> Result<RawAttrs, H
     Ok(RawAttrs { mask, list })
 }
 
+/// Appends attributes as they stand in a message (`fattr4`). Fails only for want of memory.
 #[tactic(auto, unfolding(crate::specs::SharedTexts::attrs_text))]
 pub fn put_attrs(out: &mut XdrWriter, attrs: &RawAttrs) -> Result<(), AllocError>
     requires { length attrs.now.list ≤ 65536 }

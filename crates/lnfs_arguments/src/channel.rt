@@ -26,6 +26,7 @@ pub struct Channel {
     pub ird: Option<u32>,
 }
 
+/// The sizes of a channel (RFC 8881 section 18.36.1). `Fault` where an item isn't there.
 #[tactic(auto, unfolding(crate::specs::Shared::channel))]
 pub fn channel_of(reader: &mut XdrReader<'_>) -> Result<Channel, Halt>
     ensures { Parses (λ x. x) result reader.old reader.new (read channel reader.old.rest) }
@@ -51,6 +52,7 @@ pub fn channel_of(reader: &mut XdrReader<'_>) -> Result<Channel, Halt>
     })
 }
 
+/// Appends the sizes of a channel (RFC 8881 section 18.36.1). Fails only for want of memory.
 #[tactic(auto, unfolding(crate::specs::SharedTexts::channel_text))]
 pub fn put_channel(out: &mut XdrWriter, x: &Channel) -> Result<(), AllocError>
     ensures { OnOk result (out.new ≡ out.old ++ channel_text x.now) }

@@ -16,6 +16,7 @@ use lnfs_lists::Octets;
 use lnfs_xdr::XdrReader;
 use std::alloc::Global;
 
+/// The arguments of CLOSE (RFC 8881 section 18.2). `Fault` where an item isn't there.
 #[tactic(auto, unfolding(crate::specs::Grammar::close))]
 pub fn close_of(reader: &mut XdrReader<'_>) -> Result<Op, Halt>
     ensures { Parses (λ x. x) result reader.old reader.new (read close reader.old.rest) }
@@ -25,6 +26,7 @@ pub fn close_of(reader: &mut XdrReader<'_>) -> Result<Op, Halt>
     Ok(Op::Close { seqid, id })
 }
 
+/// The arguments of COMMIT (RFC 8881 section 18.3). `Fault` where an item isn't there.
 #[tactic(auto, unfolding(crate::specs::Grammar::commit))]
 pub fn commit_of(reader: &mut XdrReader<'_>) -> Result<Op, Halt>
     ensures { Parses (λ x. x) result reader.old reader.new (read commit reader.old.rest) }
@@ -34,6 +36,7 @@ pub fn commit_of(reader: &mut XdrReader<'_>) -> Result<Op, Halt>
     Ok(Op::Commit { offset, count })
 }
 
+/// The arguments of READ (RFC 8881 section 18.22). `Fault` where an item isn't there.
 #[tactic(auto, unfolding(crate::specs::Grammar::reading))]
 pub fn read_of(reader: &mut XdrReader<'_>) -> Result<Op, Halt>
     ensures { Parses (λ x. x) result reader.old reader.new (read reading reader.old.rest) }
@@ -44,6 +47,7 @@ pub fn read_of(reader: &mut XdrReader<'_>) -> Result<Op, Halt>
     Ok(Op::Read { id, offset, count })
 }
 
+/// The arguments of WRITE (RFC 8881 section 18.32). `Fault` where an item isn't there.
 #[tactic(auto, unfolding(crate::specs::Grammar::writing))]
 pub fn write_of(alloc: Global, reader: &mut XdrReader<'_>) -> Result<Op, Halt>
     ensures { Parses (λ x. x) result reader.old reader.new (read writing reader.old.rest) }
@@ -119,6 +123,8 @@ fn claim_of(alloc: Global, reader: &mut XdrReader<'_>) -> Result<Claim, Halt>
     }
 }
 
+/// The arguments of OPEN (RFC 8881 section 18.16). `Fault` where an item isn't there, `Outside`
+/// where the way of making the file, or the claim, isn't served.
 #[tactic(auto, unfolding(crate::specs::Grammar::opening))]
 pub fn open_of(alloc: Global, reader: &mut XdrReader<'_>) -> Result<Op, Halt>
     ensures { Parses (λ x. x) result reader.old reader.new (read opening reader.old.rest) }

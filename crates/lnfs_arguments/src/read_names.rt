@@ -20,6 +20,7 @@ pub fn name_of(alloc: Global, reader: &mut XdrReader<'_>) -> Result<Octets, Halt
     Ok(Octets::from_slice(alloc, reader.opaque(LONG_LIMIT)?)?)
 }
 
+/// The arguments of ACCESS (RFC 8881 section 18.1). `Fault` where an item isn't there.
 #[tactic(auto, unfolding(crate::specs::Grammar::access))]
 pub fn access_of(reader: &mut XdrReader<'_>) -> Result<Op, Halt>
     ensures { Parses (λ x. x) result reader.old reader.new (read access reader.old.rest) }
@@ -45,6 +46,8 @@ fn what_of(alloc: Global, reader: &mut XdrReader<'_>) -> Result<What, Halt>
     }
 }
 
+/// The arguments of CREATE (RFC 8881 section 18.4). `Fault` where an item isn't there, `Outside`
+/// where neither a directory nor a symbolic link is to be made.
 #[tactic(auto, unfolding(crate::specs::Grammar::create))]
 pub fn create_of(alloc: Global, reader: &mut XdrReader<'_>) -> Result<Op, Halt>
     ensures { Parses (λ x. x) result reader.old reader.new (read create reader.old.rest) }
@@ -55,6 +58,7 @@ pub fn create_of(alloc: Global, reader: &mut XdrReader<'_>) -> Result<Op, Halt>
     Ok(Op::Create { what, name, attrs })
 }
 
+/// The arguments of GETATTR (RFC 8881 section 18.7). `Fault` where an item isn't there.
 #[tactic(auto, unfolding(crate::specs::Grammar::getattr))]
 pub fn getattr_of(reader: &mut XdrReader<'_>) -> Result<Op, Halt>
     ensures { Parses (λ x. x) result reader.old reader.new (read getattr reader.old.rest) }
@@ -63,6 +67,7 @@ pub fn getattr_of(reader: &mut XdrReader<'_>) -> Result<Op, Halt>
     Ok(Op::GetAttr { asked })
 }
 
+/// The arguments of LINK (RFC 8881 section 18.9). `Fault` where an item isn't there.
 #[tactic(auto, unfolding(crate::specs::Grammar::link))]
 pub fn link_of(alloc: Global, reader: &mut XdrReader<'_>) -> Result<Op, Halt>
     ensures { Parses (λ x. x) result reader.old reader.new (read link reader.old.rest) }
@@ -71,6 +76,7 @@ pub fn link_of(alloc: Global, reader: &mut XdrReader<'_>) -> Result<Op, Halt>
     Ok(Op::Link { name })
 }
 
+/// The arguments of LOOKUP (RFC 8881 section 18.13). `Fault` where an item isn't there.
 #[tactic(auto, unfolding(crate::specs::Grammar::lookup))]
 pub fn lookup_of(alloc: Global, reader: &mut XdrReader<'_>) -> Result<Op, Halt>
     ensures { Parses (λ x. x) result reader.old reader.new (read lookup reader.old.rest) }
@@ -79,6 +85,7 @@ pub fn lookup_of(alloc: Global, reader: &mut XdrReader<'_>) -> Result<Op, Halt>
     Ok(Op::Lookup { name })
 }
 
+/// The arguments of REMOVE (RFC 8881 section 18.25). `Fault` where an item isn't there.
 #[tactic(auto, unfolding(crate::specs::Grammar::remove))]
 pub fn remove_of(alloc: Global, reader: &mut XdrReader<'_>) -> Result<Op, Halt>
     ensures { Parses (λ x. x) result reader.old reader.new (read remove reader.old.rest) }
@@ -87,6 +94,7 @@ pub fn remove_of(alloc: Global, reader: &mut XdrReader<'_>) -> Result<Op, Halt>
     Ok(Op::Remove { name })
 }
 
+/// The arguments of NVERIFY (RFC 8881 section 18.15). `Fault` where an item isn't there.
 #[tactic(auto, unfolding(crate::specs::Grammar::nverify))]
 pub fn nverify_of(alloc: Global, reader: &mut XdrReader<'_>) -> Result<Op, Halt>
     ensures { Parses (λ x. x) result reader.old reader.new (read nverify reader.old.rest) }
@@ -95,6 +103,7 @@ pub fn nverify_of(alloc: Global, reader: &mut XdrReader<'_>) -> Result<Op, Halt>
     Ok(Op::NVerify { attrs })
 }
 
+/// The arguments of VERIFY (RFC 8881 section 18.31). `Fault` where an item isn't there.
 #[tactic(auto, unfolding(crate::specs::Grammar::verify))]
 pub fn verify_of(alloc: Global, reader: &mut XdrReader<'_>) -> Result<Op, Halt>
     ensures { Parses (λ x. x) result reader.old reader.new (read verify reader.old.rest) }
@@ -103,6 +112,7 @@ pub fn verify_of(alloc: Global, reader: &mut XdrReader<'_>) -> Result<Op, Halt>
     Ok(Op::Verify { attrs })
 }
 
+/// The arguments of SETATTR (RFC 8881 section 18.30). `Fault` where an item isn't there.
 #[tactic(auto, unfolding(crate::specs::Grammar::setattr))]
 pub fn setattr_of(alloc: Global, reader: &mut XdrReader<'_>) -> Result<Op, Halt>
     ensures { Parses (λ x. x) result reader.old reader.new (read setattr reader.old.rest) }
@@ -112,6 +122,7 @@ pub fn setattr_of(alloc: Global, reader: &mut XdrReader<'_>) -> Result<Op, Halt>
     Ok(Op::SetAttr { id, attrs })
 }
 
+/// The arguments of PUTFH (RFC 8881 section 18.19). `Fault` where an item isn't there.
 #[tactic(auto, unfolding(crate::specs::Grammar::putfh))]
 pub fn putfh_of(alloc: Global, reader: &mut XdrReader<'_>) -> Result<Op, Halt>
     ensures { Parses (λ x. x) result reader.old reader.new (read putfh reader.old.rest) }
@@ -120,6 +131,7 @@ pub fn putfh_of(alloc: Global, reader: &mut XdrReader<'_>) -> Result<Op, Halt>
     Ok(Op::PutFh { handle })
 }
 
+/// The arguments of READDIR (RFC 8881 section 18.23). `Fault` where an item isn't there.
 #[tactic(auto, unfolding(crate::specs::Grammar::readdir))]
 pub fn readdir_of(reader: &mut XdrReader<'_>) -> Result<Op, Halt>
     ensures { Parses (λ x. x) result reader.old reader.new (read readdir reader.old.rest) }
@@ -139,6 +151,7 @@ pub fn readdir_of(reader: &mut XdrReader<'_>) -> Result<Op, Halt>
     })
 }
 
+/// The arguments of RENAME (RFC 8881 section 18.26). `Fault` where an item isn't there.
 #[tactic(auto, unfolding(crate::specs::Grammar::rename))]
 pub fn rename_of(alloc: Global, reader: &mut XdrReader<'_>) -> Result<Op, Halt>
     ensures { Parses (λ x. x) result reader.old reader.new (read rename reader.old.rest) }

@@ -51,6 +51,8 @@ fn who_made_of(alloc: Global, reader: &mut XdrReader<'_>) -> Result<Option<Imple
     }
 }
 
+/// The arguments of EXCHANGE_ID (RFC 8881 section 18.35). `Fault` where an item isn't there,
+/// `Outside` where a state protection is asked for.
 #[tactic(auto, unfolding(crate::specs::Grammar::exchange_id))]
 pub fn exchange_id_of(alloc: Global, reader: &mut XdrReader<'_>) -> Result<Op, Halt>
     ensures { Parses (λ x. x) result reader.old reader.new (read exchange_id reader.old.rest) }
@@ -149,6 +151,8 @@ fn create_session_args_of(alloc: Global, reader: &mut XdrReader<'_>) -> Result<C
     })
 }
 
+/// The arguments of CREATE_SESSION (RFC 8881 section 18.36). `Fault` where an item isn't there,
+/// `Outside` where a way to call back isn't one of `Callback`.
 #[tactic(auto, unfolding(crate::specs::Grammar::making_session))]
 pub fn create_session_of(alloc: Global, reader: &mut XdrReader<'_>) -> Result<Op, Halt>
     ensures { Parses (λ x. x) result reader.old reader.new (read making_session reader.old.rest) }
@@ -157,6 +161,7 @@ pub fn create_session_of(alloc: Global, reader: &mut XdrReader<'_>) -> Result<Op
     Ok(Op::CreateSession(args))
 }
 
+/// The arguments of DESTROY_SESSION (RFC 8881 section 18.37). `Fault` where an item isn't there.
 #[tactic(auto, unfolding(crate::specs::Grammar::destroy_session))]
 pub fn destroy_session_of(reader: &mut XdrReader<'_>) -> Result<Op, Halt>
     ensures { Parses (λ x. x) result reader.old reader.new (read destroy_session reader.old.rest) }
@@ -185,6 +190,7 @@ fn sequence_args_of(reader: &mut XdrReader<'_>) -> Result<Sequence, Halt>
     })
 }
 
+/// The arguments of SEQUENCE (RFC 8881 section 18.46). `Fault` where an item isn't there.
 #[tactic(auto, unfolding(crate::specs::Grammar::sequencing))]
 pub fn sequence_of(reader: &mut XdrReader<'_>) -> Result<Op, Halt>
     ensures { Parses (λ x. x) result reader.old reader.new (read sequencing reader.old.rest) }
@@ -193,6 +199,7 @@ pub fn sequence_of(reader: &mut XdrReader<'_>) -> Result<Op, Halt>
     Ok(Op::Sequence(args))
 }
 
+/// The arguments of DESTROY_CLIENTID (RFC 8881 section 18.50). `Fault` where an item isn't there.
 #[tactic(auto, unfolding(crate::specs::Grammar::destroy_clientid))]
 pub fn destroy_clientid_of(reader: &mut XdrReader<'_>) -> Result<Op, Halt>
     ensures { Parses (λ x. x) result reader.old reader.new (read destroy_clientid reader.old.rest) }
@@ -201,6 +208,7 @@ pub fn destroy_clientid_of(reader: &mut XdrReader<'_>) -> Result<Op, Halt>
     Ok(Op::DestroyClientId { client })
 }
 
+/// The arguments of RECLAIM_COMPLETE (RFC 8881 section 18.51). `Fault` where an item isn't there.
 #[tactic(auto, unfolding(crate::specs::Grammar::reclaim_complete))]
 pub fn reclaim_complete_of(reader: &mut XdrReader<'_>) -> Result<Op, Halt>
     ensures { Parses (λ x. x) result reader.old reader.new (read reclaim_complete reader.old.rest) }

@@ -26,6 +26,7 @@ pub struct Cinfo {
 /// What `change_info4` says of an operation that was atomic.
 const ATOMIC: u32 = 1;
 
+/// A state id (RFC 8881 section 3.3.12). `Fault` where an item isn't there.
 #[tactic(auto, unfolding(crate::specs::Shared::state_id))]
 pub fn state_id_of(reader: &mut XdrReader<'_>) -> Result<StateId, Halt>
     ensures { Parses (λ x. x) result reader.old reader.new (read state_id reader.old.rest) }
@@ -36,6 +37,7 @@ pub fn state_id_of(reader: &mut XdrReader<'_>) -> Result<StateId, Halt>
     Ok(StateId { seqid, other })
 }
 
+/// Appends a state id (RFC 8881 section 3.3.12). Fails only for want of memory.
 #[tactic(auto, unfolding(crate::specs::SharedTexts::state_id_text))]
 pub fn put_state_id(out: &mut XdrWriter, id: &StateId) -> Result<(), AllocError>
     ensures { OnOk result (out.new ≡ out.old ++ state_id_text id.now) }
@@ -44,6 +46,8 @@ pub fn put_state_id(out: &mut XdrWriter, id: &StateId) -> Result<(), AllocError>
     out.fixed(&id.other)
 }
 
+/// The change numbers of an operation (`change_info4`). `Fault` where they aren't there, or the
+/// operation was not atomic.
 #[tactic(auto, unfolding(crate::specs::Shared::cinfo))]
 pub fn cinfo_of(reader: &mut XdrReader<'_>) -> Result<Cinfo, Halt>
     ensures { Parses (λ x. x) result reader.old reader.new (read cinfo reader.old.rest) }
@@ -54,6 +58,8 @@ pub fn cinfo_of(reader: &mut XdrReader<'_>) -> Result<Cinfo, Halt>
     Ok(Cinfo { before, after })
 }
 
+/// Appends the change numbers of an operation that was atomic (`change_info4`). Fails only for want
+/// of memory.
 #[tactic(auto, unfolding(crate::specs::SharedTexts::cinfo_text))]
 pub fn put_cinfo(out: &mut XdrWriter, info: &Cinfo) -> Result<(), AllocError>
     ensures { OnOk result (out.new ≡ out.old ++ cinfo_text info.now) }

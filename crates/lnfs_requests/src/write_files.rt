@@ -12,6 +12,7 @@ use lnfs_lists::Octets;
 use lnfs_xdr::XdrWriter;
 use std::alloc::AllocError;
 
+/// Appends CLOSE (RFC 8881 section 18.2). Fails only for want of memory.
 #[tactic(auto, unfolding(crate::specs::Texts::op_text))]
 pub fn put_close(out: &mut XdrWriter, seqid: u32, id: &StateId) -> Result<(), AllocError>
     ensures { OnOk result (out.new ≡ out.old ++ op_text (Op.Close seqid id.now)) }
@@ -21,6 +22,7 @@ pub fn put_close(out: &mut XdrWriter, seqid: u32, id: &StateId) -> Result<(), Al
     put_state_id(out, id)
 }
 
+/// Appends COMMIT (RFC 8881 section 18.3). Fails only for want of memory.
 #[tactic(auto, unfolding(crate::specs::Texts::op_text))]
 pub fn put_commit(out: &mut XdrWriter, offset: u64, count: u32) -> Result<(), AllocError>
     ensures { OnOk result (out.new ≡ out.old ++ op_text (Op.Commit offset count)) }
@@ -30,6 +32,7 @@ pub fn put_commit(out: &mut XdrWriter, offset: u64, count: u32) -> Result<(), Al
     out.u32(count)
 }
 
+/// Appends READ (RFC 8881 section 18.22). Fails only for want of memory.
 #[tactic(auto, unfolding(crate::specs::Texts::op_text))]
 pub fn put_read(
     out: &mut XdrWriter,
@@ -45,6 +48,7 @@ pub fn put_read(
     out.u32(count)
 }
 
+/// Appends WRITE (RFC 8881 section 18.32). Fails only for want of memory.
 #[tactic(auto, unfolding(crate::specs::Texts::op_text))]
 pub fn put_write(
     out: &mut XdrWriter,
@@ -112,6 +116,7 @@ pub struct Opening {
     pub client: u64,
 }
 
+/// Appends OPEN (RFC 8881 section 18.16). Fails only for want of memory.
 #[tactic(auto, unfolding(crate::specs::Texts::op_text))]
 pub fn put_open(
     out: &mut XdrWriter,

@@ -13,6 +13,7 @@ use lnfs_lists::Octets;
 use lnfs_xdr::XdrWriter;
 use std::alloc::AllocError;
 
+/// Appends ACCESS (RFC 8881 section 18.1). Fails only for want of memory.
 #[tactic(auto, unfolding(crate::specs::Texts::op_text))]
 pub fn put_access(out: &mut XdrWriter, bits: u32) -> Result<(), AllocError>
     ensures { OnOk result (out.new ≡ out.old ++ op_text (Op.Access bits)) }
@@ -35,6 +36,7 @@ fn put_what(out: &mut XdrWriter, what: &What) -> Result<(), AllocError>
     }
 }
 
+/// Appends CREATE (RFC 8881 section 18.4). Fails only for want of memory.
 #[tactic(auto, unfolding(crate::specs::Texts::op_text))]
 pub fn put_create(
     out: &mut XdrWriter,
@@ -51,6 +53,7 @@ pub fn put_create(
     put_attrs(out, attrs)
 }
 
+/// Appends GETATTR (RFC 8881 section 18.7). Fails only for want of memory.
 #[tactic(auto, unfolding(crate::specs::Texts::op_text))]
 pub fn put_getattr(out: &mut XdrWriter, asked: &Bitmap) -> Result<(), AllocError>
     ensures { OnOk result (out.new ≡ out.old ++ op_text (Op.GetAttr asked.now)) }
@@ -59,6 +62,7 @@ pub fn put_getattr(out: &mut XdrWriter, asked: &Bitmap) -> Result<(), AllocError
     write_bitmap(asked, out)
 }
 
+/// Appends LINK (RFC 8881 section 18.9). Fails only for want of memory.
 #[tactic(auto, unfolding(crate::specs::Texts::op_text))]
 pub fn put_link(out: &mut XdrWriter, name: &Octets) -> Result<(), AllocError>
     requires { OpFits (Op.Link name.now) }
@@ -68,6 +72,7 @@ pub fn put_link(out: &mut XdrWriter, name: &Octets) -> Result<(), AllocError>
     out.opaque(name.as_slice())
 }
 
+/// Appends LOOKUP (RFC 8881 section 18.13). Fails only for want of memory.
 #[tactic(auto, unfolding(crate::specs::Texts::op_text))]
 pub fn put_lookup(out: &mut XdrWriter, name: &Octets) -> Result<(), AllocError>
     requires { OpFits (Op.Lookup name.now) }
@@ -77,6 +82,7 @@ pub fn put_lookup(out: &mut XdrWriter, name: &Octets) -> Result<(), AllocError>
     out.opaque(name.as_slice())
 }
 
+/// Appends REMOVE (RFC 8881 section 18.25). Fails only for want of memory.
 #[tactic(auto, unfolding(crate::specs::Texts::op_text))]
 pub fn put_remove(out: &mut XdrWriter, name: &Octets) -> Result<(), AllocError>
     requires { OpFits (Op.Remove name.now) }
@@ -86,6 +92,7 @@ pub fn put_remove(out: &mut XdrWriter, name: &Octets) -> Result<(), AllocError>
     out.opaque(name.as_slice())
 }
 
+/// Appends NVERIFY (RFC 8881 section 18.15). Fails only for want of memory.
 #[tactic(auto, unfolding(crate::specs::Texts::op_text))]
 pub fn put_nverify(out: &mut XdrWriter, attrs: &RawAttrs) -> Result<(), AllocError>
     requires { OpFits (Op.NVerify attrs.now) }
@@ -95,6 +102,7 @@ pub fn put_nverify(out: &mut XdrWriter, attrs: &RawAttrs) -> Result<(), AllocErr
     put_attrs(out, attrs)
 }
 
+/// Appends VERIFY (RFC 8881 section 18.31). Fails only for want of memory.
 #[tactic(auto, unfolding(crate::specs::Texts::op_text))]
 pub fn put_verify(out: &mut XdrWriter, attrs: &RawAttrs) -> Result<(), AllocError>
     requires { OpFits (Op.Verify attrs.now) }
@@ -104,6 +112,7 @@ pub fn put_verify(out: &mut XdrWriter, attrs: &RawAttrs) -> Result<(), AllocErro
     put_attrs(out, attrs)
 }
 
+/// Appends SETATTR (RFC 8881 section 18.30). Fails only for want of memory.
 #[tactic(auto, unfolding(crate::specs::Texts::op_text))]
 pub fn put_setattr(out: &mut XdrWriter, id: &StateId, attrs: &RawAttrs) -> Result<(), AllocError>
     requires { OpFits (Op.SetAttr id.now attrs.now) }
@@ -114,6 +123,7 @@ pub fn put_setattr(out: &mut XdrWriter, id: &StateId, attrs: &RawAttrs) -> Resul
     put_attrs(out, attrs)
 }
 
+/// Appends PUTFH (RFC 8881 section 18.19). Fails only for want of memory.
 #[tactic(auto, unfolding(crate::specs::Texts::op_text))]
 pub fn put_putfh(out: &mut XdrWriter, handle: &Octets) -> Result<(), AllocError>
     requires { OpFits (Op.PutFh handle.now) }
@@ -123,6 +133,7 @@ pub fn put_putfh(out: &mut XdrWriter, handle: &Octets) -> Result<(), AllocError>
     out.opaque(handle.as_slice())
 }
 
+/// Appends READDIR (RFC 8881 section 18.23). Fails only for want of memory.
 #[tactic(auto, unfolding(crate::specs::Texts::op_text))]
 pub fn put_readdir(
     out: &mut XdrWriter,
@@ -142,6 +153,7 @@ pub fn put_readdir(
     write_bitmap(asked, out)
 }
 
+/// Appends RENAME (RFC 8881 section 18.26). Fails only for want of memory.
 #[tactic(auto, unfolding(crate::specs::Texts::op_text))]
 pub fn put_rename(out: &mut XdrWriter, old: &Octets, new: &Octets) -> Result<(), AllocError>
     requires { OpFits (Op.Rename old.now new.now) }

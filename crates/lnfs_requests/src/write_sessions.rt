@@ -35,6 +35,7 @@ fn put_implementation(
     }
 }
 
+/// Appends EXCHANGE_ID (RFC 8881 section 18.35). Fails only for want of memory.
 #[tactic(auto, unfolding(crate::specs::Texts::op_text))]
 pub fn put_exchange_id(
     out: &mut XdrWriter,
@@ -125,6 +126,7 @@ fn put_create_session_args(out: &mut XdrWriter, args: &CreateSession) -> Result<
     put_callbacks(out, args.callbacks.as_slice())
 }
 
+/// Appends CREATE_SESSION (RFC 8881 section 18.36). Fails only for want of memory.
 #[tactic(auto, unfolding(crate::specs::Texts::op_text))]
 pub fn put_create_session(out: &mut XdrWriter, args: &CreateSession) -> Result<(), AllocError>
     requires { OpFits (Op.CreateSession args.now) }
@@ -134,6 +136,7 @@ pub fn put_create_session(out: &mut XdrWriter, args: &CreateSession) -> Result<(
     put_create_session_args(out, args)
 }
 
+/// Appends DESTROY_SESSION (RFC 8881 section 18.37). Fails only for want of memory.
 #[tactic(auto, unfolding(crate::specs::Texts::op_text))]
 pub fn put_destroy_session(out: &mut XdrWriter, session: &[u8; 16]) -> Result<(), AllocError>
     ensures { OnOk result (out.new ≡ out.old ++ op_text (Op.DestroySession session.now)) }
@@ -153,6 +156,7 @@ fn put_sequence_args(out: &mut XdrWriter, args: &Sequence) -> Result<(), AllocEr
     out.boolean(args.cachethis)
 }
 
+/// Appends SEQUENCE (RFC 8881 section 18.46). Fails only for want of memory.
 #[tactic(auto, unfolding(crate::specs::Texts::op_text))]
 pub fn put_sequence(out: &mut XdrWriter, args: &Sequence) -> Result<(), AllocError>
     ensures { OnOk result (out.new ≡ out.old ++ op_text (Op.Sequence args.now)) }
@@ -161,6 +165,7 @@ pub fn put_sequence(out: &mut XdrWriter, args: &Sequence) -> Result<(), AllocErr
     put_sequence_args(out, args)
 }
 
+/// Appends DESTROY_CLIENTID (RFC 8881 section 18.50). Fails only for want of memory.
 #[tactic(auto, unfolding(crate::specs::Texts::op_text))]
 pub fn put_destroy_clientid(out: &mut XdrWriter, client: u64) -> Result<(), AllocError>
     ensures { OnOk result (out.new ≡ out.old ++ op_text (Op.DestroyClientId client)) }
@@ -169,6 +174,7 @@ pub fn put_destroy_clientid(out: &mut XdrWriter, client: u64) -> Result<(), Allo
     out.u64(client)
 }
 
+/// Appends RECLAIM_COMPLETE (RFC 8881 section 18.51). Fails only for want of memory.
 #[tactic(auto, unfolding(crate::specs::Texts::op_text))]
 pub fn put_reclaim_complete(out: &mut XdrWriter, one_fs: bool) -> Result<(), AllocError>
     ensures { OnOk result (out.new ≡ out.old ++ op_text (Op.ReclaimComplete one_fs)) }

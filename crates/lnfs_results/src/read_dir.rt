@@ -47,6 +47,8 @@ fn entries_of(
     Ok(Items::new(entries))
 }
 
+/// What READDIR answers after status 0 (RFC 8881 section 18.23). `Fault` where an item isn't there,
+/// or there are more than `most` entries.
 #[tactic(auto, unfolding(crate::specs::Grammar::readdir))]
 pub fn readdir_of(alloc: Global, reader: &mut XdrReader<'_>, most: usize) -> Result<OpResult, Halt>
     ensures { Parses (λ x. x) result reader.old reader.new (read (readdir most) reader.old.rest) }

@@ -10,6 +10,7 @@ use lnfs_attrs::read_bitmap;
 use lnfs_xdr::XdrReader;
 use std::alloc::Global;
 
+/// What CLOSE answers after status 0 (RFC 8881 section 18.2). `Fault` where an item isn't there.
 #[tactic(auto, unfolding(crate::specs::Grammar::close))]
 pub fn close_of(reader: &mut XdrReader<'_>) -> Result<OpResult, Halt>
     ensures { Parses (λ x. x) result reader.old reader.new (read close reader.old.rest) }
@@ -18,6 +19,7 @@ pub fn close_of(reader: &mut XdrReader<'_>) -> Result<OpResult, Halt>
     Ok(OpResult::Close { id })
 }
 
+/// What COMMIT answers after status 0 (RFC 8881 section 18.3). `Fault` where an item isn't there.
 #[tactic(auto, unfolding(crate::specs::Grammar::commit))]
 pub fn commit_of(reader: &mut XdrReader<'_>) -> Result<OpResult, Halt>
     ensures { Parses (λ x. x) result reader.old reader.new (read commit reader.old.rest) }
@@ -27,6 +29,8 @@ pub fn commit_of(reader: &mut XdrReader<'_>) -> Result<OpResult, Halt>
     Ok(OpResult::Commit { verifier })
 }
 
+/// What OPEN answers after status 0 (RFC 8881 section 18.16). `Fault` where an item isn't there, or
+/// the change was not atomic.
 #[tactic(auto, unfolding(crate::specs::Grammar::opening))]
 pub fn open_of(reader: &mut XdrReader<'_>) -> Result<OpResult, Halt>
     ensures { Parses (λ x. x) result reader.old reader.new (read opening reader.old.rest) }
@@ -45,6 +49,7 @@ pub fn open_of(reader: &mut XdrReader<'_>) -> Result<OpResult, Halt>
     })
 }
 
+/// What READ answers after status 0 (RFC 8881 section 18.22). `Fault` where an item isn't there.
 #[tactic(auto, unfolding(crate::specs::Grammar::reading))]
 pub fn read_of(alloc: Global, reader: &mut XdrReader<'_>) -> Result<OpResult, Halt>
     ensures { Parses (λ x. x) result reader.old reader.new (read reading reader.old.rest) }
@@ -54,6 +59,7 @@ pub fn read_of(alloc: Global, reader: &mut XdrReader<'_>) -> Result<OpResult, Ha
     Ok(OpResult::Read { eof, content })
 }
 
+/// What WRITE answers after status 0 (RFC 8881 section 18.32). `Fault` where an item isn't there.
 #[tactic(auto, unfolding(crate::specs::Grammar::writing))]
 pub fn write_of(reader: &mut XdrReader<'_>) -> Result<OpResult, Halt>
     ensures { Parses (λ x. x) result reader.old reader.new (read writing reader.old.rest) }

@@ -21,6 +21,7 @@ pub fn octets_of(alloc: Global, reader: &mut XdrReader<'_>) -> Result<Octets, Ha
     Ok(Octets::from_slice(alloc, reader.opaque(LONGEST)?)?)
 }
 
+/// What ACCESS answers after status 0 (RFC 8881 section 18.1). `Fault` where an item isn't there.
 #[tactic(auto, unfolding(crate::specs::Grammar::access))]
 pub fn access_of(reader: &mut XdrReader<'_>) -> Result<OpResult, Halt>
     ensures { Parses (λ x. x) result reader.old reader.new (read access reader.old.rest) }
@@ -30,6 +31,8 @@ pub fn access_of(reader: &mut XdrReader<'_>) -> Result<OpResult, Halt>
     Ok(OpResult::Access { supported, granted })
 }
 
+/// What CREATE answers after status 0 (RFC 8881 section 18.4). `Fault` where an item isn't there,
+/// or the change was not atomic.
 #[tactic(auto, unfolding(crate::specs::Grammar::create))]
 pub fn create_of(reader: &mut XdrReader<'_>) -> Result<OpResult, Halt>
     ensures { Parses (λ x. x) result reader.old reader.new (read create reader.old.rest) }
@@ -39,6 +42,7 @@ pub fn create_of(reader: &mut XdrReader<'_>) -> Result<OpResult, Halt>
     Ok(OpResult::Create { info, set })
 }
 
+/// What GETATTR answers after status 0 (RFC 8881 section 18.7). `Fault` where an item isn't there.
 #[tactic(auto, unfolding(crate::specs::Grammar::getattr))]
 pub fn getattr_of(alloc: Global, reader: &mut XdrReader<'_>) -> Result<OpResult, Halt>
     ensures { Parses (λ x. x) result reader.old reader.new (read getattr reader.old.rest) }
@@ -47,6 +51,7 @@ pub fn getattr_of(alloc: Global, reader: &mut XdrReader<'_>) -> Result<OpResult,
     Ok(OpResult::GetAttr { attrs })
 }
 
+/// What GETFH answers after status 0 (RFC 8881 section 18.8). `Fault` where an item isn't there.
 #[tactic(auto, unfolding(crate::specs::Grammar::getfh))]
 pub fn getfh_of(alloc: Global, reader: &mut XdrReader<'_>) -> Result<OpResult, Halt>
     ensures { Parses (λ x. x) result reader.old reader.new (read getfh reader.old.rest) }
@@ -55,6 +60,8 @@ pub fn getfh_of(alloc: Global, reader: &mut XdrReader<'_>) -> Result<OpResult, H
     Ok(OpResult::GetFh { handle })
 }
 
+/// What LINK answers after status 0 (RFC 8881 section 18.9). `Fault` where an item isn't there, or
+/// the change was not atomic.
 #[tactic(auto, unfolding(crate::specs::Grammar::link))]
 pub fn link_of(reader: &mut XdrReader<'_>) -> Result<OpResult, Halt>
     ensures { Parses (λ x. x) result reader.old reader.new (read link reader.old.rest) }
@@ -63,6 +70,8 @@ pub fn link_of(reader: &mut XdrReader<'_>) -> Result<OpResult, Halt>
     Ok(OpResult::Link { info })
 }
 
+/// What REMOVE answers after status 0 (RFC 8881 section 18.25). `Fault` where an item isn't there,
+/// or the change was not atomic.
 #[tactic(auto, unfolding(crate::specs::Grammar::remove))]
 pub fn remove_of(reader: &mut XdrReader<'_>) -> Result<OpResult, Halt>
     ensures { Parses (λ x. x) result reader.old reader.new (read remove reader.old.rest) }
@@ -71,6 +80,8 @@ pub fn remove_of(reader: &mut XdrReader<'_>) -> Result<OpResult, Halt>
     Ok(OpResult::Remove { info })
 }
 
+/// What RENAME answers after status 0 (RFC 8881 section 18.26). `Fault` where an item isn't there,
+/// or one of the changes was not atomic.
 #[tactic(auto, unfolding(crate::specs::Grammar::rename))]
 pub fn rename_of(reader: &mut XdrReader<'_>) -> Result<OpResult, Halt>
     ensures { Parses (λ x. x) result reader.old reader.new (read rename reader.old.rest) }
@@ -80,6 +91,8 @@ pub fn rename_of(reader: &mut XdrReader<'_>) -> Result<OpResult, Halt>
     Ok(OpResult::Rename { source, target })
 }
 
+/// What READLINK answers after status 0 (RFC 8881 section 18.24). `Fault` where an item isn't
+/// there.
 #[tactic(auto, unfolding(crate::specs::Grammar::readlink))]
 pub fn readlink_of(alloc: Global, reader: &mut XdrReader<'_>) -> Result<OpResult, Halt>
     ensures { Parses (λ x. x) result reader.old reader.new (read readlink reader.old.rest) }
@@ -88,6 +101,8 @@ pub fn readlink_of(alloc: Global, reader: &mut XdrReader<'_>) -> Result<OpResult
     Ok(OpResult::ReadLink { text })
 }
 
+/// The status of SETATTR, and after any status which attributes were set (RFC 8881 section 18.30).
+/// `Fault` where an item isn't there.
 #[tactic(auto, unfolding(crate::specs::Grammar::setattr))]
 pub fn setattr_of(reader: &mut XdrReader<'_>) -> Result<OpResult, Halt>
     ensures { Parses (λ x. x) result reader.old reader.new (read setattr reader.old.rest) }

@@ -13,6 +13,8 @@ use std::alloc::Global;
 /// How many implementations are told of.
 pub const NO_IMPLEMENTATION: u32 = 0;
 
+/// What EXCHANGE_ID answers after status 0 (RFC 8881 section 18.35). `Fault` where an item isn't
+/// there, or it tells of a state protection or an implementation.
 #[tactic(auto, unfolding(crate::specs::Grammar::exchange_id))]
 pub fn exchange_id_of(alloc: Global, reader: &mut XdrReader<'_>) -> Result<OpResult, Halt>
     ensures { Parses (λ x. x) result reader.old reader.new (read exchange_id reader.old.rest) }
@@ -35,6 +37,8 @@ pub fn exchange_id_of(alloc: Global, reader: &mut XdrReader<'_>) -> Result<OpRes
     })
 }
 
+/// What CREATE_SESSION answers after status 0 (RFC 8881 section 18.36). `Fault` where an item isn't
+/// there.
 #[tactic(auto, unfolding(crate::specs::Grammar::create_session))]
 pub fn create_session_of(reader: &mut XdrReader<'_>) -> Result<OpResult, Halt>
     ensures { Parses (λ x. x) result reader.old reader.new (read create_session reader.old.rest) }
@@ -54,6 +58,8 @@ pub fn create_session_of(reader: &mut XdrReader<'_>) -> Result<OpResult, Halt>
     })
 }
 
+/// What SEQUENCE answers after status 0 (RFC 8881 section 18.46). `Fault` where an item isn't
+/// there.
 #[tactic(auto, unfolding(crate::specs::Grammar::sequence))]
 pub fn sequence_of(reader: &mut XdrReader<'_>) -> Result<OpResult, Halt>
     ensures { Parses (λ x. x) result reader.old reader.new (read sequence reader.old.rest) }

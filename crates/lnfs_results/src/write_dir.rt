@@ -31,6 +31,8 @@ fn put_entries(out: &mut XdrWriter, entries: &[DirEntry]) -> Result<(), AllocErr
     out.boolean(false)
 }
 
+/// Appends what READDIR answers after status 0 (RFC 8881 section 18.23). Fails only for want of
+/// memory.
 #[tactic(auto, unfolding(crate::specs::Texts::fields_text))]
 pub fn put_readdir(
     out: &mut XdrWriter,

@@ -51,6 +51,8 @@ fn opening_of(reader: &mut XdrReader<'_>) -> Result<u32, XdrError>
     Ok(xid)
 }
 
+/// A credential or a verifier (RFC 5531 section 8.2). An error where it isn't there, or its body
+/// has more than 400 bytes.
 #[tactic(auto, unfolding(crate::specs::Calls::auth))]
 pub fn auth_of<'a>(reader: &mut XdrReader<'a>) -> Result<Auth<'a>, XdrError>
     ensures { Parses seen_auth result reader.old reader.new (read auth reader.old.rest) }

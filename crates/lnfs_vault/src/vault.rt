@@ -90,6 +90,7 @@ impl Vault {
         })
     }
 
+    /// The policy of the site.
     pub fn policy(&self) -> &Policy
         ensures { result.now ≡ self.now.policy }
     {
