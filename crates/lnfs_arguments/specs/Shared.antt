@@ -8,7 +8,7 @@ use Rattle.lnfs_arguments.specs.declared.stateid.StateId.{StateId}
 use Rattle.lnfs_arguments.specs.declared.stateid.Cinfo.{Cinfo}
 use Rattle.lnfs_arguments.specs.declared.channel.Channel.{Channel}
 
--- fattr4, RFC 8881 section 3.3.9
+-- fattr4, RFC 8881 section 3.3.7
 unfoldable pub attrs : Args RawAttrs
 attrs = do
   mask ← bitmap
@@ -22,7 +22,7 @@ state_id = do
   other ← Fixed 12
   Done (record { seqid = seqid; other = other })
 
--- change_info4 of an operation that was atomic, RFC 8881 section 3.3.3
+-- change_info4 of an operation that was atomic, RFC 8881 section 3.3.8
 unfoldable pub cinfo : Args Cinfo
 cinfo = do
   atomic ← Among (λ n. n == 1)

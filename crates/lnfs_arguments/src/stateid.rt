@@ -16,7 +16,7 @@ pub struct StateId {
 }
 
 /// The change numbers of a directory before and after an operation that was atomic
-/// (`change_info4`, RFC 8881 section 3.3.3).
+/// (`change_info4`, RFC 8881 section 3.3.8).
 #[derive(Clone, Copy, Debug, PartialEq, Eq)]
 pub struct Cinfo {
     pub before: u64,

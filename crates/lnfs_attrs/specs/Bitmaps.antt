@@ -1,4 +1,4 @@
--- Sets of attributes (bitmap4, RFC 8881 section 3.3.7): bit n of word k is attribute 32 k + n.
+-- Sets of attributes (bitmap4, RFC 8881 section 3.2): bit n of word k is attribute 32 k + n.
 use Rattle.std.specs.Prelude.{◌≡◌, ℕ, zero, suc, ◌/◌, ◌%◌, ◌^◌, ◌<◌, Bool, List, [], ◌∷◌, ◌++◌, length, All, slice_index, ◌==◌, if◌then◌else◌}
 use Rattle.std.specs.List.{flat_map}
 use Rattle.lnfs_xdr.specs.Format.{Word, Count, Done, ◌>>=◌, times}

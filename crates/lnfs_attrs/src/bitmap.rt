@@ -12,7 +12,7 @@ pub const WORD_LIMIT: usize = 8;
 /// The bits of a word.
 const BITS: u32 = 32;
 
-/// A set of attributes (`bitmap4`, RFC 8881 section 3.3.7): bit `n` of word `k` says whether
+/// A set of attributes (`bitmap4`, RFC 8881 section 3.2): bit `n` of word `k` says whether
 /// attribute `32 * k + n` is in it.
 ///
 /// Zero words at the end are the same bitmap as none, so they are read and never written.

@@ -1,7 +1,7 @@
 use crate::bitmap::Bitmap;
 use lnfs_lists::Octets;
 
-/// Attributes as they stand in a message (`fattr4`, RFC 8881 section 3.3.9): which ones, and the
+/// Attributes as they stand in a message (`fattr4`, RFC 8881 section 3.3.7): which ones, and the
 /// bytes of their values.
 #[derive(Debug, Drop)]
 pub struct RawAttrs {

@@ -76,6 +76,7 @@ impl Label {
         insert(&mut self.bits, comp);
     }
 
+    /// The label of a bitmap of compartments.
     pub(crate) fn from_bits(doi: u32, sens: u8, bits: [u8; BITMAP_BYTES]) -> Label
         requires { IsBitmap bits }
         ensures { result ≡ record { doi = doi; sens = sens; comps = members bits } }
@@ -83,6 +84,7 @@ impl Label {
         Label { doi, sens, bits }
     }
 
+    /// The bitmap of the compartments.
     pub(crate) fn bits(&self) -> [u8; BITMAP_BYTES]
         ensures members { members result ≡ self.now.comps }
         ensures bytes { IsBitmap result }

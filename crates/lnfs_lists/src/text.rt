@@ -34,6 +34,7 @@ impl Text {
         })
     }
 
+    /// The text as a string slice.
     pub fn as_str(&self) -> &str
         ensures { result.now ≡ self.now }
     {

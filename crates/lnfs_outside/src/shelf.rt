@@ -40,6 +40,7 @@ impl Model for Stock {
 }
 
 impl Stock {
+    /// A copy of the bytes, of which none was read.
     pub fn new(alloc: Global, bytes: &[u8]) -> Result<Stock, AllocError>
         ensures { IfOk result (λ stock. stock ≡ bytes.now) }
     {
@@ -89,6 +90,7 @@ impl Model for Shelf {
 }
 
 impl Shelf {
+    /// The files, of which none is open. Takes no memory.
     pub fn new(files: Vec<MemFile>) -> Shelf
         ensures { result ≡ record { files = files.items; left = [] } }
     {
