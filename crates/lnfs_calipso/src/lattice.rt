@@ -116,6 +116,14 @@ impl Lattice {
         Ok(Lattice { labels })
     }
 
+    /// The levels of labels that are known to be those of levels. Takes no memory.
+    pub fn of(labels: Vec<Label>) -> Lattice
+        requires { AreLevels labels.items }
+        ensures { result ≡ labels.items }
+    {
+        Lattice { labels }
+    }
+
     /// The number of levels.
     pub fn len(&self) -> u32
         ensures value { result ≡ length self.now }

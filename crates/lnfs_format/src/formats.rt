@@ -113,6 +113,14 @@ impl Formats {
         }
     }
 
+    /// The formats of a list, in its order; of two with one number and policy identifier the first counts. Takes no
+    /// memory.
+    pub fn of(entries: Vec<FormatEntry>) -> Formats
+        ensures { result ≡ entries.items }
+    {
+        Formats { entries }
+    }
+
     /// Adds a format behind the others.
     ///
     /// # Errors

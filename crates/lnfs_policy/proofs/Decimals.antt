@@ -1,5 +1,5 @@
 -- The words that are numbers are their decimal texts.
-use Rattle.std.proofs.Common.{◌≡◌, ◌<◌, ◌^◌, ℕ, zero, suc, ◌==◌, true, false, not, ◌&&◌, nat_lt, List, [], ◌∷◌, length, get_or, refl, sym, ap, subst, ◌∙◌, inl, inr, rules, arith}
+use Rattle.std.proofs.Common.{◌≡◌, ◌<◌, ◌≤◌, ◌^◌, ℕ, zero, suc, ◌==◌, true, false, not, ◌&&◌, nat_lt, List, [], ◌∷◌, length, get_or, refl, sym, ap, subst, ◌∙◌, inl, inr, rules, arith}
 use Rattle.std.specs.Prelude.{Result, Ok, Err}
 use Rattle.std.specs.Char.{is_ascii_digit}
 use Rattle.std.specs.List.{list_all}
@@ -7,9 +7,8 @@ use Rattle.std.specs.Fmt.{decimal}
 use Rattle.std.specs.Str.Parse.{digits_value}
 use Rattle.std.proofs.lemmas.Str.Parse.{IsNumeralModel, numerals_by_value}
 use Rattle.std.proofs.lemmas.Fmt.{decimal_digit, decimal_nonempty, first_decimal, digits_decimal, digits_value-decimal, decimal-digits_value}
-use Rattle.std.proofs.lemmas.Bool.Decides.{nat_tests}
 use Rattle.std.proofs.lemmas.Bool.{and_parts, and_from, cases_Bool, ltb-true, lt-ltb, eq-eqb, ne_eqb}
-use Rattle.lnfs_policy.specs.Words.{is_empty, is_padded, is_plain, is_word, number}
+use Rattle.lnfs_policy.specs.Words.{is_empty, is_padded, is_plain, number_below}
 use Rattle.lnfs_policy.specs.declared.cause.Cause.{Cause}
 use Rattle.lnfs_policy.specs.declared.cause.Cause.TheVariants as because
 
@@ -17,6 +16,7 @@ use Rattle.lnfs_policy.specs.declared.cause.Cause.TheVariants as because
 abbrev pub went : {A : Type 0} → A → Result A Cause
 went a = Ok a
 
+-- a step that was refused
 abbrev pub failed : {A : Type 0} → Cause → Result A Cause
 failed cause = Err cause
 
@@ -26,6 +26,7 @@ same_ok a b e = cc
 pub not_ok : {A : Type 0} (cause : Cause) (a : A) → failed cause ≡ went a → ⊥
 not_ok cause a e = cc
 
+-- std's lemmas on decimal texts hold of the digits' test and value of this crate
 own : IsNumeralModel (λ ds. list_all is_ascii_digit ds ≡ true) (digits_value 10)
 own = numerals_by_value _ (search rules)
 
@@ -33,21 +34,23 @@ filled : (ds : List ℕ) → not (is_empty ds) ≡ true → 0 < length ds
 filled [] e = cc
 filled (d ∷ ds) e = omega arith
 
+-- a word without leading zeros that begins with a zero is that zero
 unpadded : (ds : List ℕ) → not (is_empty ds) ≡ true → not (is_padded ds) ≡ true → get_or ds 0 0 ≡ 48 → length ds ≡ 1
 unpadded [] e f z = cc
 unpadded (d ∷ []) e f z = omega arith
 unpadded (d ∷ x ∷ ds) e f z = let t : not (d == 48 && true) ≡ true = f in let here : (d == 48) ≡ true = eq-eqb d 48 z in let u : false ≡ true = rw here at t in cc
 
-pub number_is : (word : List ℕ) (n : ℕ) → number word ≡ Ok n → (word ≡ decimal n) × (n < 2 ^ 32)
-number_is word n e =
-    elim (cases_Bool (is_plain word && nat_lt (digits_value 10 word) (2 ^ 32))) [
+-- a word that spells a number is its decimal text
+pub number_is : (bound : ℕ) → bound ≤ 2 ^ 64 → (word : List ℕ) (n : ℕ) → number_below bound word ≡ Ok n → (word ≡ decimal n) × (n < bound)
+number_is bound wide word n e =
+    elim (cases_Bool (is_plain word && nat_lt (digits_value 10 word) bound)) [
       | inl t ↦
           let same : digits_value 10 word ≡ n = same_ok (digits_value 10 word) n (rw t at e) in
-          let p = and_parts (is_plain word) (nat_lt (digits_value 10 word) (2 ^ 32)) t in
-          let small : digits_value 10 word < 2 ^ 32 = ltb-true _ _ p.1 in
+          let p = and_parts (is_plain word) (nat_lt (digits_value 10 word) bound) t in
+          let small : digits_value 10 word < bound = ltb-true _ _ p.1 in
           let q = and_parts (not (is_empty word) && not (is_padded word)) (list_all is_ascii_digit word) p.0 in
           let r = and_parts (not (is_empty word)) (not (is_padded word)) q.0 in
-          (sym (decimal-digits_value own word q.1 (filled word r.0) (unpadded word r.0 r.1) (omega arith)) ∙ ap decimal same, subst (λ (k : ℕ). k < 2 ^ 32) same small)
+          (sym (decimal-digits_value own word q.1 (filled word r.0) (unpadded word r.0 r.1) (omega arith)) ∙ ap decimal same, subst (λ (k : ℕ). k < bound) same small)
       | inr f ↦ absurd (not_ok because.Number n (rw f at e))
     ]
 
@@ -63,24 +66,11 @@ decimal_unpadded : (n : ℕ) → n < 2 ^ 64 → not (is_padded (decimal n)) ≡ 
 decimal_unpadded zero small = rw (decimal_digit 0 (omega arith)) refl
 decimal_unpadded (suc n) small = not_padded (decimal (suc n)) (first_decimal (suc n) (omega arith) small)
 
-pub decimal_plain : (n : ℕ) → n < 2 ^ 32 → is_plain (decimal n) ≡ true
-decimal_plain n small =
-    let wide : n < 2 ^ 64 = omega arith in
-    and_from _ _ (and_from _ _ (not_empty (decimal n) (decimal_nonempty n wide)) (decimal_unpadded n wide)) (digits_decimal own n wide)
+decimal_plain : (n : ℕ) → n < 2 ^ 64 → is_plain (decimal n) ≡ true
+decimal_plain n small = and_from _ _ (and_from _ _ (not_empty (decimal n) (decimal_nonempty n small)) (decimal_unpadded n small)) (digits_decimal own n small)
 
-pub number_decimal : (n : ℕ) → n < 2 ^ 32 → number (decimal n) ≡ Ok n
-number_decimal n small =
+-- the decimal text of a number spells it
+pub number_decimal : (bound : ℕ) → bound ≤ 2 ^ 64 → (n : ℕ) → n < bound → number_below bound (decimal n) ≡ Ok n
+number_decimal bound wide n small =
     let value : digits_value 10 (decimal n) ≡ n = digits_value-decimal own n (omega arith) in
-    rw (decimal_plain n small, value, lt-ltb n (2 ^ 32) small) refl
-
-digit_ascii : (b : ℕ) → is_ascii_digit b ≡ true → nat_lt b 128 ≡ true
-digit_ascii b e = grind (arith, nat_tests)
-
-digits_ascii : (ds : List ℕ) → list_all is_ascii_digit ds ≡ true → list_all (λ b. nat_lt b 128) ds ≡ true
-digits_ascii [] e = refl
-digits_ascii (d ∷ ds) e = let p = and_parts (is_ascii_digit d) (list_all is_ascii_digit ds) e in and_from _ _ (digit_ascii d p.0) (digits_ascii ds p.1)
-
-pub word_decimal : (n : ℕ) → n < 2 ^ 32 → is_word (decimal n) ≡ true
-word_decimal n small =
-    let wide : n < 2 ^ 64 = omega arith in
-    and_from _ _ (not_empty (decimal n) (decimal_nonempty n wide)) (digits_ascii (decimal n) (digits_decimal own n wide))
+    rw (decimal_plain n (omega arith), value, lt-ltb n bound small) refl

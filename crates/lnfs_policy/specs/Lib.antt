@@ -1,5 +1,10 @@
-pub mod Policy
 pub mod Words
+pub mod Line
+pub mod Spelled
+pub mod Rows
+pub mod Fits
+pub mod Policy
 pub mod PolicyText
 pub mod Reading
-pub mod Grammar
+pub mod Seen
+pub mod Site

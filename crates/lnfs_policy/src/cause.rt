@@ -5,12 +5,12 @@ ghost use Rattle.lnfs_policy.specs.Policy.{cause_name};
 ghost use Rattle.lnfs_policy.specs.Reading.{error_at};
 ghost use Rattle.lnfs_policy.specs.declared.cause.Stop.TheVariants.{Broken, Memory as ShortOfMemory};
 
-use std::alloc::AllocFailed;
+use std::alloc::{AllocError, AllocFailed};
 
 /// The rule that a line breaks. Where it breaks several, the first in this order is told.
 #[derive(Clone, Copy, Debug, PartialEq, Eq)]
 pub enum Cause {
-    /// The first line isn't the version line, or a later one is.
+    /// The first line that isn't skipped isn't the version line, or a later one is.
     Version,
     /// The line has none of the known forms, or its newline is missing.
     Words,
@@ -21,19 +21,20 @@ pub enum Cause {
     /// A level isn't the next one, its sensitivity or compartments are none, or its label is taken or doesn't
     /// dominate that of level 0.
     Level,
-    /// Not given yet.
+    /// A format's kind is unknown, its pair of numbers is taken, or it is the ninth.
     Format,
-    /// Not given yet.
+    /// A name's format is none of names, its level is unknown or taken, or its bytes are none or taken.
     Name,
-    /// Not given yet.
+    /// A parent's number is taken, its secret isn't 32 bytes, or its level is unknown.
     Parent,
     /// A guest's class is above 7, or its level is unknown.
     Guest,
-    /// Not given yet.
+    /// A quota's level is unknown or taken.
     Quota,
-    /// Not given yet.
+    /// A directory's path is none or taken, its parent isn't there, its level doesn't dominate the parent's, or it
+    /// is the 257th.
     Dir,
-    /// Behind the last line: a line is lacking that every policy has.
+    /// Behind the last line: a line is lacking that every policy has, or the first format has no spelling of a level.
     Missing,
 }
 
@@ -92,6 +93,14 @@ impl From<Cause> for Stop {
 
     fn from(cause: Cause) -> Stop {
         Stop::Broken(cause)
+    }
+}
+
+impl From<AllocError> for Stop {
+    ghost from_gives = { λ _ stop. stop ≡ ShortOfMemory };
+
+    fn from(_error: AllocError) -> Stop {
+        Stop::Memory
     }
 }
 

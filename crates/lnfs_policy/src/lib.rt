@@ -1,18 +1,27 @@
-//! The site's policy: the text of the policy file, and the levels and guests that it spells.
+//! The site's policy: the text of the policy file, and the levels, formats, guests and limits that it spells.
 #![tactic(auto)]
 
 mod cause;
-mod label;
+mod fits;
+mod formats;
+pub mod laws;
 mod line;
+mod mode;
 mod parts;
 mod policy;
 mod read;
 mod reading;
+mod rows;
 mod words;
 
 pub use cause::{Cause, PolicyError};
-pub use policy::{Guest, MAX_CLASS, MAX_LEVELS, Policy};
-pub use read::{read_policy, reads_its_grammar};
+pub use mode::Mode;
+pub use policy::Policy;
+pub use read::{read_policy, write_policy};
+pub use rows::{DirLine, Guest, Limit, Parent, Quota};
+pub use words::number;
 
+#[cfg(test)]
+mod site_tests;
 #[cfg(test)]
 mod tests;

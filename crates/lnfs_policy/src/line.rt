@@ -1,50 +1,122 @@
-//! What the lines of a policy say, one function for each kind.
+//! What the words of a line say, one function for each kind.
 
 ghost use Rattle.std.specs.Prelude.{◌≡◌};
 ghost use Rattle.lnfs_policy.specs.Words.{words};
-ghost use Rattle.lnfs_policy.specs.PolicyText.{comps_of, label_of, uid_of, version_line, mode_line, level_line, guest_line, line_of};
+ghost use Rattle.lnfs_policy.specs.Line.{rank, is_mode, cause_of, uid_of, says_version, says_mode, says_level, says_format, says_name, says_parent, says_guest, says_quota, says_dir, line_of};
+ghost use Rattle.lnfs_policy.specs.Seen.{seen, seen_line};
 
 use crate::cause::Cause;
-use crate::label::Label;
+use crate::mode::Mode;
 use crate::parts::Parts;
-use crate::policy::Guest;
-use crate::words::{is, number};
-use lnfs_calipso::Level;
+use crate::words::{is, long_number, number};
 
-/// What a line says, by its kind.
-#[derive(Debug, Drop)]
-pub enum Line {
+/// What a line says: its kind, its numbers, and the words that are no numbers.
+#[derive(Clone, Copy, Debug)]
+pub enum Line<'a> {
     Version,
-    Mode,
-    /// The level's place, and its label where the words spell one.
-    Level { place: u32, label: Option<Label> },
-    Guest(Guest),
+    Mode(Mode),
+    Level {
+        place: u32,
+        doi: u32,
+        sens: u32,
+        comps: &'a [u8],
+    },
+    Format {
+        lfs: u32,
+        pi: u32,
+        kind: &'a [u8],
+    },
+    Name {
+        lfs: u32,
+        pi: u32,
+        level: u32,
+        hex: &'a [u8],
+    },
+    Parent {
+        number: u32,
+        hex: &'a [u8],
+        level: u32,
+    },
+    Guest {
+        class: u32,
+        uid: Option<u32>,
+        level: u32,
+    },
+    Quota {
+        level: u32,
+        nodes: u64,
+        bytes: u64,
+    },
+    Dir {
+        path: &'a [u8],
+        level: u32,
+    },
+}
+
+impl Line<'_> {
+    /// The place of the line's kind in the order of the kinds.
+    pub fn rank(&self) -> u8
+        ensures { result ≡ rank (seen self.now) }
+    {
+        match self {
+            Line::Version => 0,
+            Line::Mode(_) => 1,
+            Line::Level { .. } => 2,
+            Line::Format { .. } => 3,
+            Line::Name { .. } => 4,
+            Line::Parent { .. } => 5,
+            Line::Guest { .. } => 6,
+            Line::Quota { .. } => 7,
+            Line::Dir { .. } => 8,
+        }
+    }
+
+    /// Whether the line is a mode.
+    pub fn is_mode(&self) -> bool
+        ensures { result ≡ is_mode (seen self.now) }
+    {
+        match self {
+            Line::Mode(_) => true,
+            _ => false,
+        }
+    }
 }
 
 /// The line of some words. Where they have no known form the cause is Words, and where one of them should
 /// be a number and isn't, Number.
-pub fn line_of(text: &[u8]) -> Result<Line, Cause>
-    ensures { result ≡ line_of (words text.now) }
+#[tactic(auto, unfolding(crate::specs::Line::line_of))]
+pub fn line_of<'a>(text: &'a [u8]) -> Result<Line<'a>, Cause>
+    ensures { seen_line result ≡ line_of (words text.now) }
 {
     let mut words = Parts::new(text, b' ');
     let Some(name) = words.next() else {
         return Err(Cause::Words);
     };
     if is(name, "lnfs-policy") {
-        version_line(&mut words)
+        version(&mut words)
     } else if is(name, "mode") {
-        mode_line(&mut words)
+        mode(&mut words)
     } else if is(name, "level") {
-        level_line(&mut words)
+        level(&mut words)
+    } else if is(name, "format") {
+        format(&mut words)
+    } else if is(name, "name") {
+        level_name(&mut words)
+    } else if is(name, "parent") {
+        parent(&mut words)
     } else if is(name, "guest") {
-        guest_line(&mut words)
+        guest(&mut words)
+    } else if is(name, "quota") {
+        quota(&mut words)
+    } else if is(name, "dir") {
+        dir(&mut words)
     } else {
         Err(Cause::Words)
     }
 }
 
-fn version_line(words: &mut Parts<'_>) -> Result<Line, Cause>
-    ensures { result ≡ version_line words.old }
+fn version<'a>(words: &mut Parts<'a>) -> Result<Line<'a>, Cause>
+    ensures { seen_line result ≡ says_version words.old }
 {
     match (words.next(), words.next()) {
         (Some(one), None) if is(one, "1") => Ok(Line::Version),
@@ -52,31 +124,23 @@ fn version_line(words: &mut Parts<'_>) -> Result<Line, Cause>
     }
 }
 
-fn mode_line(words: &mut Parts<'_>) -> Result<Line, Cause>
-    ensures { result ≡ mode_line words.old }
+fn mode<'a>(words: &mut Parts<'a>) -> Result<Line<'a>, Cause>
+    ensures { seen_line result ≡ says_mode words.old }
 {
-    match (words.next(), words.next()) {
-        (Some(mode), None) if is(mode, "enforcing") => Ok(Line::Mode),
-        _ => Err(Cause::Words),
-    }
-}
-
-/// The label of a level line, unless the sensitivity is above 255 or the word spells no compartments.
-fn label_of(doi: u32, sens: u32, comps: &[u8]) -> Option<Label>
-    ensures { result ≡ label_of doi sens (comps_of comps.now) }
-{
-    if is(comps, "-") && sens <= 255 {
-        Some(Label {
-            doi,
-            sens: sens as u8,
-        })
+    let (Some(mode), None) = (words.next(), words.next()) else {
+        return Err(Cause::Words);
+    };
+    if is(mode, "enforcing") {
+        Ok(Line::Mode(Mode::Enforcing))
+    } else if is(mode, "limited") {
+        Ok(Line::Mode(Mode::Limited))
     } else {
-        None
+        Err(Cause::Words)
     }
 }
 
-fn level_line(words: &mut Parts<'_>) -> Result<Line, Cause>
-    ensures { result ≡ level_line words.old }
+fn level<'a>(words: &mut Parts<'a>) -> Result<Line<'a>, Cause>
+    ensures { seen_line result ≡ says_level words.old }
 {
     let (Some(place), Some(doi), Some(sens), Some(comps), None) = (
         words.next(),
@@ -87,9 +151,68 @@ fn level_line(words: &mut Parts<'_>) -> Result<Line, Cause>
     ) else {
         return Err(Cause::Words);
     };
-    let place = number(place)?;
-    let label = label_of(number(doi)?, number(sens)?, comps);
-    Ok(Line::Level { place, label })
+    Ok(Line::Level {
+        place: number(place)?,
+        doi: number(doi)?,
+        sens: number(sens)?,
+        comps,
+    })
+}
+
+fn format<'a>(words: &mut Parts<'a>) -> Result<Line<'a>, Cause>
+    ensures { seen_line result ≡ says_format words.old }
+{
+    let (Some(lfs), Some(pi), Some(kind), None) = (
+        words.next(),
+        words.next(),
+        words.next(),
+        words.next(),
+    ) else {
+        return Err(Cause::Words);
+    };
+    Ok(Line::Format {
+        lfs: number(lfs)?,
+        pi: number(pi)?,
+        kind,
+    })
+}
+
+fn level_name<'a>(words: &mut Parts<'a>) -> Result<Line<'a>, Cause>
+    ensures { seen_line result ≡ says_name words.old }
+{
+    let (Some(lfs), Some(pi), Some(level), Some(hex), None) = (
+        words.next(),
+        words.next(),
+        words.next(),
+        words.next(),
+        words.next(),
+    ) else {
+        return Err(Cause::Words);
+    };
+    Ok(Line::Name {
+        lfs: number(lfs)?,
+        pi: number(pi)?,
+        level: number(level)?,
+        hex,
+    })
+}
+
+fn parent<'a>(words: &mut Parts<'a>) -> Result<Line<'a>, Cause>
+    ensures { seen_line result ≡ says_parent words.old }
+{
+    let (Some(place), Some(hex), Some(level), None) = (
+        words.next(),
+        words.next(),
+        words.next(),
+        words.next(),
+    ) else {
+        return Err(Cause::Words);
+    };
+    Ok(Line::Parent {
+        number: number(place)?,
+        hex,
+        level: number(level)?,
+    })
 }
 
 fn uid_of(word: &[u8]) -> Result<Option<u32>, Cause>
@@ -101,8 +224,8 @@ fn uid_of(word: &[u8]) -> Result<Option<u32>, Cause>
     Ok(Some(number(word)?))
 }
 
-fn guest_line(words: &mut Parts<'_>) -> Result<Line, Cause>
-    ensures { result ≡ guest_line words.old }
+fn guest<'a>(words: &mut Parts<'a>) -> Result<Line<'a>, Cause>
+    ensures { seen_line result ≡ says_guest words.old }
 {
     let (Some(class), Some(uid), Some(level), None) = (
         words.next(),
@@ -112,9 +235,39 @@ fn guest_line(words: &mut Parts<'_>) -> Result<Line, Cause>
     ) else {
         return Err(Cause::Words);
     };
-    Ok(Line::Guest(Guest {
+    Ok(Line::Guest {
         class: number(class)?,
         uid: uid_of(uid)?,
-        level: Level(number(level)?),
-    }))
+        level: number(level)?,
+    })
+}
+
+fn quota<'a>(words: &mut Parts<'a>) -> Result<Line<'a>, Cause>
+    ensures { seen_line result ≡ says_quota words.old }
+{
+    let (Some(level), Some(nodes), Some(bytes), None) = (
+        words.next(),
+        words.next(),
+        words.next(),
+        words.next(),
+    ) else {
+        return Err(Cause::Words);
+    };
+    Ok(Line::Quota {
+        level: number(level)?,
+        nodes: long_number(nodes)?,
+        bytes: long_number(bytes)?,
+    })
+}
+
+fn dir<'a>(words: &mut Parts<'a>) -> Result<Line<'a>, Cause>
+    ensures { seen_line result ≡ says_dir words.old }
+{
+    let (Some(path), Some(level), None) = (words.next(), words.next(), words.next()) else {
+        return Err(Cause::Words);
+    };
+    Ok(Line::Dir {
+        path,
+        level: number(level)?,
+    })
 }

@@ -1,103 +1,95 @@
 //! The policy of a site.
 
-ghost use Rattle.std.specs.Prelude.{◌≡◌, ◌<◌, option_map, vec_len};
-ghost use Rattle.lnfs_calipso.specs.Label.{IsLattice, label_at};
-ghost use Rattle.lnfs_policy.specs.Policy.{IsPolicy, fits, level_count, dominance, guest_level};
-ghost use Rattle.lnfs_policy.specs.Reading.{IsSound};
+ghost use Rattle.std.specs.Prelude.{◌≡◌, option_map};
+ghost use Rattle.std.specs.Option.{option_copied};
+ghost use Rattle.lnfs_calipso.specs.Label.{IsLattice};
+ghost use Rattle.lnfs_policy.specs.Policy.{dominance, guest_level, parent_at, limit_of};
+ghost use Rattle.lnfs_policy.specs.PolicyText.{IsPolicy};
 
-use crate::label::Label;
-use lnfs_calipso::Level;
+use crate::mode::Mode;
+use crate::rows::{DirLine, Guest, Limit, Parent, Quota};
+use lnfs_calipso::{Lattice, Level};
+use lnfs_format::Formats;
+use std::collections::BTreeMap;
 use std::marker::Model;
 
-/// The most levels of a site.
-pub const MAX_LEVELS: usize = 32;
+/// The limit of a level without a quota line.
+const DEFAULT_LIMIT: Limit = Limit {
+    nodes: 4096,
+    bytes: 67_108_864,
+};
 
-/// The highest class of a guest.
-pub const MAX_CLASS: u32 = 7;
-
-/// A guest line: callers of a class, with one uid or with any, have a level.
-#[derive(Clone, Copy, Debug, PartialEq, Eq)]
-pub struct Guest {
-    pub class: u32,
-    /// None is for all, also for those who have no uid.
-    pub uid: Option<u32>,
-    pub level: Level,
-}
-
-impl Guest {
-    /// Whether the line is for a caller. None asks for a caller without a uid.
-    pub fn fits(&self, class: u32, uid: Option<u32>) -> bool
-        ensures { result ≡ fits class uid self.now }
-    {
-        let admitted = match (self.uid, uid) {
-            (None, _) => true,
-            (Some(_), None) => false,
-            (Some(named), Some(asked)) => named == asked,
-        };
-        self.class == class && admitted
-    }
-}
-
-/// The levels of a site and its guests.
-#[derive(Debug, Drop)]
+/// What the policy file of a site says.
+#[derive(Drop)]
 pub struct Policy {
-    labels: Vec<Label>,
-    guests: Vec<Guest>,
+    /// The canonical text.
+    pub(crate) text: Vec<u8>,
+    pub(crate) mode: Mode,
+    pub(crate) lattice: Lattice,
+    pub(crate) formats: Formats,
+    /// The parents by their numbers.
+    pub(crate) parents: BTreeMap<u32, Parent>,
+    pub(crate) guests: Vec<Guest>,
+    pub(crate) quotas: Vec<Quota>,
+    pub(crate) dirs: Vec<DirLine>,
 }
 
 impl Model for Policy {
     ghost use Rattle.lnfs_policy.specs.Policy as policy;
+    ghost use Rattle.lnfs_policy.specs.PolicyText.{IsPolicy};
 
     ghost Value = { policy.Policy };
 
-    ghost view = { λ p. record { labels = p.labels.items; guests = p.guests.items } };
+    ghost view = { λ p. record {
+      text = p.text.items;
+      mode = p.mode;
+      labels = p.lattice;
+      formats = p.formats;
+      parents = p.parents.entries;
+      guests = p.guests.items;
+      quotas = p.quotas.items;
+      dirs = p.dirs.items;
+    } };
 
-    ghost invariant = { λ p. policy.IsPolicy (record { labels = p.labels.items; guests = p.guests.items }) };
+    ghost invariant = { λ p. IsPolicy (record {
+      text = p.text.items;
+      mode = p.mode;
+      labels = p.lattice;
+      formats = p.formats;
+      parents = p.parents.entries;
+      guests = p.guests.items;
+      quotas = p.quotas.items;
+      dirs = p.dirs.items;
+    }) };
 }
 
 impl Policy {
-    /// The policy of labels and guests that were read.
-    pub(crate) fn new(labels: Vec<Label>, guests: Vec<Guest>) -> Policy
-        requires some { 0 < vec_len labels }
-        requires sound { IsSound labels.items guests.items }
-        ensures labels { result.labels ≡ labels.items }
-        ensures guests { result.guests ≡ guests.items }
+    /// Who enforces the labels.
+    pub fn mode(&self) -> Mode
+        ensures { result ≡ self.now.mode }
     {
-        Policy { labels, guests }
+        self.mode
     }
 
-    /// How many levels there are, from 1 to 32.
-    pub fn level_count(&self) -> u32
-        ensures { result ≡ level_count self.now }
+    /// The labels of the levels, from 1 to 32.
+    pub fn lattice(&self) -> &Lattice
+        ensures { result.now ≡ self.now.labels }
     {
-        self.labels.len() as u32
+        &self.lattice
     }
 
-    fn label(&self, level: Level) -> &Label
-        ensures { result.now ≡ label_at self.now.labels level.0 }
+    /// The formats, in the order of the file.
+    pub fn formats(&self) -> &Formats
+        ensures { result.now ≡ self.now.formats }
     {
-        match self.labels.get(level.0 as usize) {
-            Some(label) => label,
-            None => &self.labels[0],
-        }
+        &self.formats
     }
 
-    /// Whether the first level dominates the second. A number past the last level counts as level 0.
-    pub fn dom(&self, a: Level, b: Level) -> bool
-        ensures { result ≡ dominance self.now a.0 b.0 }
+    /// The parent of a number, or None where no parent line has it.
+    pub fn parent(&self, number: u32) -> Option<&Parent>
+        ensures { option_copied result ≡ parent_at self.now number }
     {
-        self.label(a).dominates(self.label(b))
-    }
-
-    /// The level of the first guest line that fits, or None where none fits. The uid None, of a caller
-    /// without one, meets only lines for all.
-    pub fn guest_level(&self, class: u32, uid: Option<u32>) -> Option<Level>
-        ensures { option_map (λ level. level.0) result ≡ guest_level self.now class uid }
-    {
-        self.guests
-            .iter()
-            .find(|guest| guest.fits(class, uid))
-            .map(|guest| guest.level)
+        self.parents.get(&number)
     }
 
     /// The guest lines, in the order of the file.
@@ -107,17 +99,47 @@ impl Policy {
         &self.guests
     }
 
+    /// The level of the first guest line that fits, or None where none fits. The uid None, of a caller
+    /// without one, meets only lines for all.
+    pub fn guest_level(&self, class: u32, uid: Option<u32>) -> Option<Level>
+        ensures { option_map (λ level. level.0) result ≡ guest_level self.now class uid }
+    {
+        self.guests
+            .iter()
+            .find(|guest| guest.is_for(class, uid))
+            .map(|guest| guest.level)
+    }
+
+    /// How much a level may hold, in nodes and in bytes: what its quota line says, or else 4,096 nodes and
+    /// 67,108,864 bytes.
+    pub fn limit(&self, level: Level) -> Limit
+        ensures { result ≡ limit_of self.now level.0 }
+    {
+        self.quotas
+            .iter()
+            .find(|quota| quota.level.0 == level.0)
+            .map(|quota| quota.limit)
+            .unwrap_or(DEFAULT_LIMIT)
+    }
+
+    /// The directories that stand from the beginning, each behind its parent.
+    pub fn dirs(&self) -> &[DirLine]
+        ensures { result.now ≡ self.now.dirs }
+    {
+        &self.dirs
+    }
+
     /// Dominance is an order of the levels, with level 0 below all.
     pub fn is_ordered(&self)
         ensures { IsLattice (dominance self.now) }
     {
-        let _labels = &self.labels;
+        self.lattice.is_lattice();
     }
 
-    /// What every policy keeps.
+    /// A policy is what its own text spells.
     pub fn is_policy(&self)
         ensures { IsPolicy self.now }
     {
-        let _labels = &self.labels;
+        let _text = &self.text;
     }
 }

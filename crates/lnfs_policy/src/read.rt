@@ -1,19 +1,31 @@
-//! Reading the policy file.
+//! Reading and writing the policy file.
 
-ghost use Rattle.std.specs.Prelude.{◌≡◌, Ok, IfOk, IfErr};
+ghost use Rattle.std.specs.Prelude.{◌≡◌, ◌&&◌, Ok, IfOk, IfErr};
+ghost use Rattle.lnfs_policy.specs.Words.{is_empty};
 ghost use Rattle.lnfs_policy.specs.PolicyText.{policy_of, IsRefusal};
-ghost use Rattle.lnfs_policy.specs.Grammar.{IsGrammar};
 
 use crate::cause::PolicyError;
 use crate::parts::Parts;
 use crate::policy::Policy;
 use crate::reading::Reading;
-use std::alloc::Global;
+use lnfs_format::Codecs;
+use std::alloc::{AllocError, Global};
 
-/// The policy that a text spells. A text that spells none is refused with the first line that breaks a
-/// rule, counted from 1, and the first rule that it breaks in the order of the causes. No line is skipped: an
-/// empty line or a comment has the cause Words.
-pub fn read_policy(alloc: Global, text: &[u8]) -> Result<Policy, PolicyError>
+/// Whether nothing stands behind the last newline.
+fn is_end(line: &[u8], last: bool) -> bool
+    ensures { result ≡ (is_empty line.now && last) }
+{
+    line.is_empty() && last
+}
+
+/// The policy that a text spells.
+///
+/// # Errors
+///
+/// `Refused` where the text spells none: the first line that breaks a rule, counted from 1, and the first rule that
+/// it breaks in the order of the causes. Empty lines and those that begin with `#` are skipped and counted.
+/// `Memory` where there is no memory.
+pub fn read_policy(alloc: Global, text: &[u8], codecs: &Codecs) -> Result<Policy, PolicyError>
     ensures accepted { IfOk result (λ policy. policy_of text.now ≡ Ok policy) }
     ensures refused { IfErr result (IsRefusal (policy_of text.now)) }
 {
@@ -21,25 +33,31 @@ pub fn read_policy(alloc: Global, text: &[u8]) -> Result<Policy, PolicyError>
     let mut reading = Reading::new(alloc);
     let mut number: u64 = 1;
     while let Some(line) = lines.next() {
-        let ended = !lines.is_done();
-        if !ended && line.is_empty() {
+        let last = lines.is_done();
+        if is_end(line, last) {
             break;
         }
-        if let Err(stop) = reading.judge(ended, line) {
+        if let Err(stop) = reading.judge(!last, line) {
             return Err(stop.at(number));
         }
         number += 1;
     }
-    match reading.finish() {
+    match reading.finish(codecs) {
         Ok(policy) => Ok(policy),
-        Err(cause) => Err(PolicyError::Refused {
-            line: number,
-            cause,
-        }),
+        Err(stop) => Err(stop.at(number)),
     }
 }
 
-/// The policy that is read from a text is the one that the text spells, and each that can be written is read.
-pub fn reads_its_grammar(text: &[u8])
-    ensures { IsGrammar text.now }
-{}
+/// The canonical text of a policy: its lines as they stand, without the skipped ones.
+///
+/// # Errors
+///
+/// `AllocError` where there is no memory.
+pub fn write_policy(alloc: Global, policy: &Policy) -> Result<Vec<u8>, AllocError>
+    ensures text { IfOk result (λ text. text.items ≡ policy.now.text) }
+    // reading it gives the policy again
+    ensures again { IfOk result (λ text. policy_of text.items ≡ Ok policy.now) }
+{
+    policy.is_policy();
+    Vec::from_slice(alloc, &policy.text)
+}

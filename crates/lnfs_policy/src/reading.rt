@@ -1,134 +1,245 @@
 //! Reading the lines of a policy, one after another.
 
 ghost use Rattle.std.specs.Prelude.{◌≡◌, Ok, MatchResult};
-ghost use Rattle.std.specs.List.{list_any, slice_index_or};
-ghost use Rattle.lnfs_policy.specs.PolicyText.{Read, nothing, is_same, is_next, is_known, version_in_place, add, judge, finish};
-ghost use Rattle.lnfs_policy.specs.Reading.{IsStop};
-ghost use Rattle.lnfs_policy.specs.declared.line.Line.TheVariants as said;
+ghost use Rattle.lnfs_policy.specs.Seen.{seen};
+ghost use Rattle.lnfs_policy.specs.Rows.{label_of, spelling_of};
+ghost use Rattle.lnfs_policy.specs.Words.{hex_of, hex_sized};
+ghost use Rattle.lnfs_policy.specs.PolicyText.{IsPolicy};
+ghost use Rattle.lnfs_policy.specs.Reading.{nothing, add, add_label, add_format, add_name, add_parent, add_guest, add_quota, add_dir, stands, judge, judge_line, finish, IsStop};
 
 use crate::cause::{Cause, Stop};
-use crate::label::Label;
+use crate::fits::{
+    dir_fits, format_fits, guest_fits, is_known, is_next, label_of, name_fits, quota_fits,
+    spelling_of,
+};
+use crate::formats::{entries_of, spells_all};
 use crate::line::{Line, line_of};
-use crate::policy::{Guest, MAX_CLASS, MAX_LEVELS, Policy};
-use crate::words::{is, is_worded};
+use crate::mode::Mode;
+use crate::policy::Policy;
+use crate::rows::{DirLine, FormatRow, Guest, LevelName, Limit, Parent, Quota, Spelling};
+use crate::words::{hex_of, is, is_ascii, is_worded, secret_of};
+use lnfs_calipso::{Label, Lattice, Level};
+use lnfs_format::{Codecs, Formats};
+use lnfs_lists::Octets;
 use std::alloc::Global;
+use std::collections::BTreeMap;
 use std::marker::Model;
 
 /// What was read so far.
 #[derive(Drop)]
 pub struct Reading {
+    alloc: Global,
+    /// Whether a line was read.
     begun: bool,
-    mode: bool,
+    /// The rank of the last line.
+    stage: u8,
+    text: Vec<u8>,
+    mode: Option<Mode>,
     labels: Vec<Label>,
+    rows: Vec<FormatRow>,
+    names: Vec<LevelName>,
+    parents: BTreeMap<u32, Parent>,
     guests: Vec<Guest>,
+    quotas: Vec<Quota>,
+    dirs: Vec<DirLine>,
 }
 
 impl Model for Reading {
-    ghost use Rattle.lnfs_policy.specs.PolicyText as text;
-    ghost use Rattle.lnfs_policy.specs.Reading.{IsSound};
+    ghost use Rattle.lnfs_policy.specs.Reading as reading;
 
-    ghost Value = { text.Read };
+    ghost Value = { reading.Read };
 
-    ghost view = { λ r. record { begun = r.begun; mode = r.mode; labels = r.labels.items; guests = r.guests.items } };
+    ghost view = { λ r. record {
+      begun = r.begun;
+      stage = r.stage;
+      text = r.text.items;
+      mode = r.mode;
+      labels = r.labels.items;
+      rows = r.rows.items;
+      names = r.names.items;
+      parents = r.parents.entries;
+      guests = r.guests.items;
+      quotas = r.quotas.items;
+      dirs = r.dirs.items;
+    } };
 
-    ghost invariant = { λ r. IsSound r.labels.items r.guests.items };
-}
-
-fn is_taken(labels: &[Label], label: &Label) -> bool
-    ensures { result ≡ list_any (is_same label.now) labels.now }
-{
-    labels.iter().any(|other| label.is_same(other))
-}
-
-fn first_or<'a>(labels: &'a [Label], label: &'a Label) -> &'a Label
-    ensures { result.now ≡ slice_index_or labels.now 0 label.now }
-{
-    labels.first().unwrap_or(label)
-}
-
-/// Whether a label may come next: there is room, it dominates the first, and it is new.
-fn is_next(labels: &[Label], label: &Label) -> bool
-    ensures { result ≡ is_next labels.now label.now }
-{
-    labels.len() < MAX_LEVELS
-        && label.dominates(first_or(labels, label))
-        && !is_taken(labels, label)
-}
-
-fn is_known(labels: &[Label], guest: &Guest) -> bool
-    ensures { result ≡ is_known labels.now guest.now }
-{
-    guest.class <= MAX_CLASS && (guest.level.0 as usize) < labels.len()
+    ghost invariant = { λ r. reading.IsSound r.labels.items };
 }
 
 impl Reading {
+    /// Nothing was read. Takes no memory.
     pub fn new(alloc: Global) -> Reading
         ensures { result ≡ nothing }
     {
         Reading {
+            alloc,
             begun: false,
-            mode: false,
+            stage: 0,
+            text: Vec::new(alloc),
+            mode: None,
             labels: Vec::new(alloc),
+            rows: Vec::new(alloc),
+            names: Vec::new(alloc),
+            parents: BTreeMap::new(alloc),
             guests: Vec::new(alloc),
+            quotas: Vec::new(alloc),
+            dirs: Vec::new(alloc),
         }
     }
 
-    fn add_mode(&mut self) -> Result<(), Stop>
-        ensures { MatchResult result (λ _. add self.old said.Mode ≡ Ok self.new) (IsStop (add self.old said.Mode)) }
+    fn add_label(&mut self, place: u32, label: Option<Label>) -> Result<(), Stop>
+        ensures { MatchResult result (λ _. add_label self.old place label ≡ Ok self.new) (IsStop (add_label self.old place label)) }
     {
-        if self.mode || !self.labels.is_empty() || !self.guests.is_empty() {
-            return Err(Stop::Broken(Cause::Order));
-        }
-        self.mode = true;
-        Ok(())
-    }
-
-    fn add_level(&mut self, place: u32, label: Option<Label>) -> Result<(), Stop>
-        ensures { MatchResult result (λ _. add self.old (said.Level place label) ≡ Ok self.new) (IsStop (add self.old (said.Level place label))) }
-    {
-        if !self.guests.is_empty() {
-            return Err(Stop::Broken(Cause::Order));
-        }
-        if place as usize != self.labels.len() {
-            return Err(Stop::Broken(Cause::Level));
-        }
         let Some(label) = label else {
             return Err(Stop::Broken(Cause::Level));
         };
-        if !is_next(&self.labels, &label) {
+        if place as usize != self.labels.len() || !is_next(&self.labels, &label) {
             return Err(Stop::Broken(Cause::Level));
         }
         self.labels.push(label)?;
         Ok(())
     }
 
-    fn add_guest(&mut self, guest: Guest) -> Result<(), Stop>
-        ensures { MatchResult result (λ _. add self.old (said.Guest guest) ≡ Ok self.new) (IsStop (add self.old (said.Guest guest))) }
+    fn add_format(&mut self, lfs: u32, pi: u32, spelling: Option<Spelling>) -> Result<(), Stop>
+        ensures { MatchResult result (λ _. add_format self.old lfs pi spelling ≡ Ok self.new) (IsStop (add_format self.old lfs pi spelling)) }
     {
-        if !is_known(&self.labels, &guest) {
-            return Err(Stop::Broken(Cause::Guest));
+        let Some(spelling) = spelling else {
+            return Err(Stop::Broken(Cause::Format));
+        };
+        if !format_fits(&self.rows, lfs, pi) {
+            return Err(Stop::Broken(Cause::Format));
         }
-        self.guests.push(guest)?;
+        self.rows.push(FormatRow { lfs, pi, spelling })?;
         Ok(())
     }
 
-    fn add(&mut self, line: Line) -> Result<(), Stop>
-        ensures { MatchResult result (λ _. add self.old line ≡ Ok self.new) (IsStop (add self.old line)) }
+    fn add_name(&mut self, lfs: u32, pi: u32, level: u32, hex: &[u8]) -> Result<(), Stop>
+        ensures { MatchResult result (λ _. add_name self.old lfs pi level (hex_of hex.now) ≡ Ok self.new) (IsStop (add_name self.old lfs pi level (hex_of hex.now))) }
     {
-        match line {
-            Line::Version => {
-                self.begun = true;
+        let Some(bytes) = hex_of(self.alloc, hex)? else {
+            return Err(Stop::Broken(Cause::Name));
+        };
+        if !name_fits(
+            &self.labels,
+            &self.rows,
+            &self.names,
+            (lfs, pi, level),
+            &bytes,
+        ) {
+            return Err(Stop::Broken(Cause::Name));
+        }
+        self.names.push(LevelName {
+            lfs,
+            pi,
+            level: Level(level),
+            bytes: Octets::new(bytes),
+        })?;
+        Ok(())
+    }
+
+    fn add_parent(&mut self, number: u32, secret: Option<[u8; 32]>, level: u32) -> Result<(), Stop>
+        ensures { MatchResult result (λ _. add_parent self.old number secret level ≡ Ok self.new) (IsStop (add_parent self.old number secret level)) }
+    {
+        let Some(secret) = secret else {
+            return Err(Stop::Broken(Cause::Parent));
+        };
+        if self.parents.contains_key(&number) || !is_known(&self.labels, level) {
+            return Err(Stop::Broken(Cause::Parent));
+        }
+        let parent = Parent {
+            number,
+            secret,
+            clearance: Level(level),
+        };
+        self.parents.insert(number, parent)?;
+        Ok(())
+    }
+
+    fn add_guest(&mut self, class: u32, uid: Option<u32>, level: u32) -> Result<(), Stop>
+        ensures { MatchResult result (λ _. add_guest self.old class uid level ≡ Ok self.new) (IsStop (add_guest self.old class uid level)) }
+    {
+        if !guest_fits(&self.labels, class, level) {
+            return Err(Stop::Broken(Cause::Guest));
+        }
+        self.guests.push(Guest {
+            class,
+            uid,
+            level: Level(level),
+        })?;
+        Ok(())
+    }
+
+    fn add_quota(&mut self, level: u32, nodes: u64, bytes: u64) -> Result<(), Stop>
+        ensures { MatchResult result (λ _. add_quota self.old level nodes bytes ≡ Ok self.new) (IsStop (add_quota self.old level nodes bytes)) }
+    {
+        if !quota_fits(&self.labels, &self.quotas, level) {
+            return Err(Stop::Broken(Cause::Quota));
+        }
+        self.quotas.push(Quota {
+            level: Level(level),
+            limit: Limit { nodes, bytes },
+        })?;
+        Ok(())
+    }
+
+    fn add_dir(&mut self, path: &[u8], level: u32) -> Result<(), Stop>
+        ensures { MatchResult result (λ _. add_dir self.old path.now level ≡ Ok self.new) (IsStop (add_dir self.old path.now level)) }
+    {
+        if !dir_fits(&self.labels, &self.dirs, path, level) {
+            return Err(Stop::Broken(Cause::Dir));
+        }
+        self.dirs.push(DirLine {
+            path: Octets::from_slice(self.alloc, path)?,
+            level: Level(level),
+        })?;
+        Ok(())
+    }
+
+    fn add(&mut self, line: &Line<'_>) -> Result<(), Stop>
+        ensures { MatchResult result (λ _. add self.old (seen line.now) ≡ Ok self.new) (IsStop (add self.old (seen line.now))) }
+    {
+        match *line {
+            Line::Version => Ok(()),
+            Line::Mode(mode) => {
+                self.mode = Some(mode);
                 Ok(())
             }
-            Line::Mode => self.add_mode(),
-            Line::Level { place, label } => self.add_level(place, label),
-            Line::Guest(guest) => self.add_guest(guest),
+            Line::Level {
+                place,
+                doi,
+                sens,
+                comps,
+            } => {
+                let label = label_of(self.alloc, doi, sens, comps)?;
+                self.add_label(place, label)
+            }
+            Line::Format { lfs, pi, kind } => self.add_format(lfs, pi, spelling_of(kind)),
+            Line::Name {
+                lfs,
+                pi,
+                level,
+                hex,
+            } => self.add_name(lfs, pi, level, hex),
+            Line::Parent { number, hex, level } => self.add_parent(number, secret_of(hex), level),
+            Line::Guest { class, uid, level } => self.add_guest(class, uid, level),
+            Line::Quota {
+                level,
+                nodes,
+                bytes,
+            } => self.add_quota(level, nodes, bytes),
+            Line::Dir { path, level } => self.add_dir(path, level),
         }
     }
 
-    /// Reads a line, without its newline. `ended` says whether it had one.
-    pub fn judge(&mut self, ended: bool, text: &[u8]) -> Result<(), Stop>
-        ensures { MatchResult result (λ _. judge self.old ended text.now ≡ Ok self.new) (IsStop (judge self.old ended text.now)) }
+    /// Whether no line of a later kind was read, and a mode is the first.
+    fn stands(&self, line: &Line<'_>) -> bool
+        ensures { result ≡ stands self.now (seen line.now) }
+    {
+        self.stage <= line.rank() && !(line.is_mode() && self.mode.is_some())
+    }
+
+    fn judge_line(&mut self, ended: bool, text: &[u8]) -> Result<(), Stop>
+        ensures { MatchResult result (λ _. judge_line self.old ended text.now ≡ Ok self.new) (IsStop (judge_line self.old ended text.now)) }
     {
         if is(text, "lnfs-policy 1") == self.begun {
             return Err(Stop::Broken(Cause::Version));
@@ -136,22 +247,71 @@ impl Reading {
         if !ended || !is_worded(text) {
             return Err(Stop::Broken(Cause::Words));
         }
-        self.add(line_of(text)?)
+        let line = line_of(text)?;
+        if !self.stands(&line) {
+            return Err(Stop::Broken(Cause::Order));
+        }
+        self.add(&line)?;
+        self.begun = true;
+        self.stage = line.rank();
+        self.text.extend_from_slice(text)?;
+        self.text.push(b'\n')?;
+        Ok(())
+    }
+
+    /// Reads a line, without its newline. `ended` says whether it had one. An empty line and a comment are
+    /// skipped.
+    pub fn judge(&mut self, ended: bool, text: &[u8]) -> Result<(), Stop>
+        ensures { MatchResult result (λ _. judge self.old ended text.now ≡ Ok self.new) (IsStop (judge self.old ended text.now)) }
+    {
+        if !text.is_empty() && text[0] != b'#' {
+            return self.judge_line(ended, text);
+        }
+        if ended && is_ascii(text) {
+            Ok(())
+        } else {
+            Err(Stop::Broken(Cause::Words))
+        }
     }
 
     /// The policy, behind the last line.
-    pub fn finish(self) -> Result<Policy, Cause>
-        ensures { result ≡ finish self }
+    pub fn finish(self, codecs: &Codecs) -> Result<Policy, Stop>
+        requires { (policy : _) → finish self ≡ Ok policy → IsPolicy policy }
+        ensures { MatchResult result (λ policy. finish self ≡ Ok policy) (IsStop (finish self)) }
     {
         let Reading {
+            alloc,
             begun,
+            stage: _,
+            text,
             mode,
             labels,
+            rows,
+            names,
+            parents,
             guests,
+            quotas,
+            dirs,
         } = self;
-        if !begun || !mode || labels.is_empty() {
-            return Err(Cause::Missing);
+        let Some(mode) = mode else {
+            return Err(Stop::Broken(Cause::Missing));
+        };
+        if !begun || labels.is_empty() {
+            return Err(Stop::Broken(Cause::Missing));
         }
-        Ok(Policy::new(labels, guests))
+        let entries = entries_of(alloc, &labels, &names, &rows)?;
+        if !spells_all(codecs, &entries, &labels)? {
+            return Err(Stop::Broken(Cause::Missing));
+        }
+        Ok(Policy {
+            text,
+            mode,
+            lattice: Lattice::of(labels),
+            formats: Formats::of(entries),
+            parents,
+            guests,
+            quotas,
+            dirs,
+        })
     }
 }

@@ -1,17 +1,47 @@
-//! Texts that spell no policy, with the line and the cause of each, and the answers of those that do.
+//! Texts that spell no policy, with the line and the cause of each.
 
-use crate::{Cause, Guest, PolicyError, read_policy, reads_its_grammar};
-use lnfs_calipso::Level;
+ghost use Rattle.std.specs.Prelude.{◌≡◌, IfOk};
+ghost use Rattle.std.specs.Option.{option_map};
+ghost use Rattle.lnfs_format.specs.Kinds.{reads, writes};
+
+use crate::{Cause, Policy, PolicyError, laws, read_policy};
+use lnfs_calipso::Label;
+use lnfs_format::{Codec, Codecs, Kind, read_kind, write_kind};
 use std::alloc::{AllocError, Global};
 use std::process::Abort;
 use std::test::Fail;
 
-const SITE: &str =
-    "lnfs-policy 1\nmode enforcing\nlevel 0 1 0 -\nlevel 1 1 1 -\nlevel 2 1 2 -\nlevel 3 1 3 -\nguest 0 * 0\nguest 1 100 1\nguest 1 200 2\nguest 1 300 3\n";
+/// Four lines: the version, the mode and two levels.
+const LEVELS: &str = "lnfs-policy 1\nmode enforcing\nlevel 0 1 0 -\nlevel 1 1 1 c0\n";
+
+/// And three formats.
+const FORMATS: &str = "format 101 1 calipso\nformat 102 1 text\nformat 103 0 name\n";
+
+/// 32 bytes in hex.
+const SECRET: &str = "0101010101010101010101010101010101010101010101010101010101010101";
+
+/// Reads a policy with the codecs that the program has.
+fn read_with(alloc: Global, text: &[u8]) -> Result<Result<Policy, PolicyError>, AllocError> {
+    let read = move |kind: &Kind, bytes: &[u8]|
+        ensures { IfOk result (λ label. label ≡ reads kind.now bytes.now) }
+    { read_kind(alloc, kind, bytes) };
+    let write = move |kind: &Kind, label: &Label|
+        ensures { IfOk result (λ text. option_map (λ v. v.items) text ≡ writes kind.now label.now) }
+    { write_kind(alloc, kind, label) };
+    let calipso = Codec::new(0, Box::new(alloc, read)?, Box::new(alloc, write)?);
+    let text_codec = Codec::new(1, Box::new(alloc, read)?, Box::new(alloc, write)?);
+    let name = Codec::new(2, Box::new(alloc, read)?, Box::new(alloc, write)?);
+    Ok(read_policy(alloc, text, &Codecs::new(calipso, text_codec, name)))
+}
+
+/// Reads a policy. Want of memory for the codecs is want of memory for the policy.
+pub fn read(alloc: Global, text: &str) -> Result<Policy, PolicyError> {
+    read_with(alloc, text.as_bytes()).unwrap_or(Err(PolicyError::Memory))
+}
 
 /// Whether the text is refused at that line for that cause.
 fn expect(rt: &impl Abort, alloc: Global, text: &str, line: u64, cause: Cause) {
-    let refused = read_policy(alloc, text.as_bytes()).err();
+    let refused = read(alloc, text).err();
     assert_eq!(rt;
         refused,
         Some(PolicyError::Refused { line, cause }),
@@ -19,195 +49,268 @@ fn expect(rt: &impl Abort, alloc: Global, text: &str, line: u64, cause: Cause) {
     );
 }
 
-/// The first lines of a policy of one level, and others behind them.
+/// Whether lines behind others are refused.
 fn expect_behind(
     rt: &impl Abort,
     alloc: Global,
-    others: &str,
-    line: u64,
-    cause: Cause,
+    front: &str,
+    rows: &[(&str, u64, Cause)],
 ) -> Result<(), AllocError> {
-    let text = format!(in alloc; "lnfs-policy 1\nmode enforcing\nlevel 0 1 7 -\n{others}")?;
-    expect(rt, alloc, &text, line, cause);
+    for (others, line, cause) in rows {
+        let text = format!(in alloc; "{front}{others}")?;
+        expect(rt, alloc, &text, *line, *cause);
+    }
     Ok(())
 }
 
 #[test]
-fn refuses_the_first_lines(rt: HostRuntime) {
+fn refuses_the_first_lines(rt: HostRuntime) -> Result<(), Fail> {
+    expect_behind(
+        &rt,
+        rt.alloc(),
+        "",
+        &[
+            ("", 1, Cause::Missing),
+            ("\n", 2, Cause::Missing),
+            ("# nothing\n\n", 3, Cause::Missing),
+            ("# nothing", 1, Cause::Words),
+            ("# é\nlnfs-policy 1\n", 1, Cause::Words),
+            ("lnfs-policy 2\n", 1, Cause::Version),
+            ("\n# two\nlnfs-policy 2\n", 3, Cause::Version),
+            ("lnfs-policy  1\n", 1, Cause::Version),
+            (" \nlnfs-policy 1\n", 1, Cause::Version),
+            ("lnfs-policy 2", 1, Cause::Version),
+            ("mode enforcing\n", 1, Cause::Version),
+            ("lnfs-policy 1", 1, Cause::Words),
+            ("lnfs-policy 1\n", 2, Cause::Missing),
+            ("lnfs-policy 1\nlnfs-policy 1\n", 2, Cause::Version),
+            ("lnfs-policy 1\n#\nlnfs-policy 1", 3, Cause::Version),
+            ("lnfs-policy 1\nlnfs-policy 2\n", 2, Cause::Words),
+            (
+                "lnfs-policy 1\nlevel 0 1 0 -\nformat 1 1 calipso\n",
+                4,
+                Cause::Missing,
+            ),
+            (
+                "lnfs-policy 1\nmode enforcing\nformat 1 1 calipso\n",
+                4,
+                Cause::Missing,
+            ),
+        ],
+    )?;
+    Ok(())
+}
+
+#[test]
+fn refuses_words_and_modes(rt: HostRuntime) -> Result<(), Fail> {
+    expect_behind(
+        &rt,
+        rt.alloc(),
+        "lnfs-policy 1\n",
+        &[
+            ("mode strict\n", 2, Cause::Words),
+            ("mode\n", 2, Cause::Words),
+            ("mode enforcing limited\n", 2, Cause::Words),
+            ("mode  enforcing\n", 2, Cause::Words),
+            ("mode enforcing \n", 2, Cause::Words),
+            (" mode enforcing\n", 2, Cause::Words),
+            ("mode enforcing\r\n", 2, Cause::Words),
+            ("mode enforcing", 2, Cause::Words),
+            ("modes enforcing\n", 2, Cause::Words),
+            ("mode enforcing\nmode enforcing\n", 3, Cause::Order),
+            ("mode limited\nmode enforcing\n", 3, Cause::Order),
+            ("level 0 1 0 -\nmode enforcing\n", 3, Cause::Order),
+            ("mode enforcing\n\n# a comment\nlevel 0\n", 5, Cause::Words),
+            ("mode enforcing\nguest 0 * 0\n", 3, Cause::Guest),
+        ],
+    )?;
+    Ok(())
+}
+
+#[test]
+fn refuses_levels(rt: HostRuntime) -> Result<(), Fail> {
+    expect_behind(
+        &rt,
+        rt.alloc(),
+        LEVELS,
+        &[
+            ("", 5, Cause::Missing),
+            ("level 2 1 1\n", 5, Cause::Words),
+            ("level 2 1 1 c0 c1\n", 5, Cause::Words),
+            ("level 2 1 1 é\n", 5, Cause::Words),
+            ("level\t2 1 1 c1\n", 5, Cause::Words),
+            ("level 2 +1 1 c1\n", 5, Cause::Number),
+            ("level 2 1 0x1 c1\n", 5, Cause::Number),
+            ("level 02 1 1 c1\n", 5, Cause::Number),
+            ("level 2 1 01 c1\n", 5, Cause::Number),
+            ("level 2 4294967296 1 c1\n", 5, Cause::Number),
+            ("level 2 1 99999999999999999999 c1\n", 5, Cause::Number),
+            ("level 3 1 1 c1\n", 5, Cause::Level),
+            ("level 1 1 1 c1\n", 5, Cause::Level),
+            ("level 2 1 256 c1\n", 5, Cause::Level),
+            ("level 2 1 1 c0\n", 5, Cause::Level),
+            ("level 2 1 0 -\n", 5, Cause::Level),
+            ("level 2 2 1 c1\n", 5, Cause::Level),
+            ("level 2 1 1 c256\n", 5, Cause::Level),
+            ("level 2 1 1 c1,c0\n", 5, Cause::Level),
+            ("level 2 1 1 c01\n", 5, Cause::Level),
+            ("level 2 1 1 c1.c2\n", 5, Cause::Level),
+            ("level 2 1 1 --\n", 5, Cause::Level),
+            ("level 2 1 1 c1", 5, Cause::Words),
+        ],
+    )?;
+    Ok(())
+}
+
+#[test]
+fn refuses_formats(rt: HostRuntime) -> Result<(), Fail> {
+    expect_behind(
+        &rt,
+        rt.alloc(),
+        LEVELS,
+        &[
+            ("format 101 1\n", 5, Cause::Words),
+            ("format 101 1 calipso 2\n", 5, Cause::Words),
+            ("format x 1 calipso\n", 5, Cause::Number),
+            ("format 101 -1 calipso\n", 5, Cause::Number),
+            ("format 101 1 Calipso\n", 5, Cause::Format),
+            ("format 101 1 names\n", 5, Cause::Format),
+            (
+                "format 101 1 calipso\nformat 101 1 text\n",
+                6,
+                Cause::Format,
+            ),
+            ("format 101 1 calipso\nlevel 2 1 1 c1\n", 6, Cause::Order),
+            ("format 101 1 calipso\nlevel 9 1 256 c1\n", 6, Cause::Order),
+            ("format 101 1 calipso\nlevel z 1 1 c1\n", 6, Cause::Number),
+            ("format 101 1 calipso\nmode limited\n", 6, Cause::Order),
+            // a text under another DOI and a table without level 1 don't spell every level
+            ("format 102 2 text\n", 6, Cause::Missing),
+            ("format 103 0 name\nname 103 0 0 6f\n", 7, Cause::Missing),
+            (
+                "format 103 0 name\nformat 101 1 calipso\n",
+                7,
+                Cause::Missing,
+            ),
+        ],
+    )?;
+    Ok(())
+}
+
+#[test]
+fn refuses_names(rt: HostRuntime) -> Result<(), Fail> {
     let alloc = rt.alloc();
-    for (text, line, cause) in [
-        ("", 1, Cause::Missing),
-        ("\n", 1, Cause::Version),
-        ("lnfs-policy 2\n", 1, Cause::Version),
-        ("lnfs-policy  1\n", 1, Cause::Version),
-        ("lnfs-policy 2", 1, Cause::Version),
-        ("mode enforcing\n", 1, Cause::Version),
-        ("lnfs-policy 1", 1, Cause::Words),
-        ("lnfs-policy 1\n", 2, Cause::Missing),
-        ("lnfs-policy 1\nlnfs-policy 1\n", 2, Cause::Version),
-        ("lnfs-policy 1\nlnfs-policy 1", 2, Cause::Version),
-        ("lnfs-policy 1\nlnfs-policy 2\n", 2, Cause::Words),
-        ("lnfs-policy 1\n\nmode enforcing\n", 2, Cause::Words),
-        ("lnfs-policy 1\n# a comment\n", 2, Cause::Words),
-        ("lnfs-policy 1\nmode limited\n", 2, Cause::Words),
-        ("lnfs-policy 1\nmode  enforcing\n", 2, Cause::Words),
-        ("lnfs-policy 1\nmode enforcing \n", 2, Cause::Words),
-        ("lnfs-policy 1\n mode enforcing\n", 2, Cause::Words),
-        ("lnfs-policy 1\nmode enforcing\r\n", 2, Cause::Words),
-        ("lnfs-policy 1\nmode enforcing", 2, Cause::Words),
-        ("lnfs-policy 1\nmode enforcing\n", 3, Cause::Missing),
-        ("lnfs-policy 1\nlevel 0 1 0 -\n", 3, Cause::Missing),
-        (
-            "lnfs-policy 1\nmode enforcing\nmode enforcing\n",
-            3,
-            Cause::Order,
-        ),
-        (
-            "lnfs-policy 1\nlevel 0 1 0 -\nmode enforcing\n",
-            3,
-            Cause::Order,
-        ),
-        (
-            "lnfs-policy 1\nmode enforcing\nguest 0 * 0\n",
-            3,
-            Cause::Guest,
-        ),
-        (
-            "lnfs-policy 1\nmode enforcing\nlevel 1 1 0 -\n",
-            3,
-            Cause::Level,
-        ),
-        (
-            "lnfs-policy 1\nmode enforcing\nlevel 00 1 0 -\n",
-            3,
-            Cause::Number,
-        ),
-        (
-            "lnfs-policy 1\nmode enforcing\nlevel 0 4294967296 0 -\n",
-            3,
-            Cause::Number,
-        ),
-        (
-            "lnfs-policy 1\nmode enforcing\nlevel 0 1 256 -\n",
-            3,
-            Cause::Level,
-        ),
-        (
-            "lnfs-policy 1\nmode enforcing\nlevel 0 1 0 -",
-            3,
-            Cause::Words,
-        ),
-    ] {
-        expect(&rt, alloc, text, line, cause);
+    let front = format!(in alloc; "{LEVELS}{FORMATS}")?;
+    expect_behind(
+        &rt,
+        alloc,
+        &front,
+        &[
+            ("name 103 0 0\n", 8, Cause::Words),
+            ("name 103 0 0 6f 70\n", 8, Cause::Words),
+            ("name 103 0 00 6f\n", 8, Cause::Number),
+            ("name 101 1 0 6f\n", 8, Cause::Name),
+            ("name 102 1 0 6f\n", 8, Cause::Name),
+            ("name 103 1 0 6f\n", 8, Cause::Name),
+            ("name 103 0 2 6f\n", 8, Cause::Name),
+            ("name 103 0 0 6\n", 8, Cause::Name),
+            ("name 103 0 0 6F\n", 8, Cause::Name),
+            ("name 103 0 0 6g\n", 8, Cause::Name),
+            ("name 103 0 0 6f\nname 103 0 0 70\n", 9, Cause::Name),
+            ("name 103 0 0 6f\nname 103 0 1 6f\n", 9, Cause::Name),
+            ("name 103 0 0 6f\nformat 104 0 name\n", 9, Cause::Order),
+        ],
+    )?;
+    let mut text = format!(in alloc; "{front}name 103 0 0 ")?;
+    for _ in 0..1024 {
+        text.push_str("6f")?;
     }
+    let long = format!(in alloc; "{text}6f\n")?;
+    expect(&rt, alloc, &long, 8, Cause::Name);
+    text.push_str("\n")?;
+    assert!(rt; read(alloc, &text).is_ok());
+    Ok(())
 }
 
 #[test]
-fn refuses_the_lines_behind(rt: HostRuntime) -> Result<(), Fail> {
+fn refuses_parents_and_guests(rt: HostRuntime) -> Result<(), Fail> {
     let alloc = rt.alloc();
-    for (others, line, cause) in [
-        ("level 1 1 7 -\n", 4, Cause::Level),
-        ("level 1 1 6 -\n", 4, Cause::Level),
-        ("level 1 2 8 -\n", 4, Cause::Level),
-        ("level 2 1 8 -\n", 4, Cause::Level),
-        ("level 1 1 8 3\n", 4, Cause::Level),
-        ("level 1 1 8\n", 4, Cause::Words),
-        ("level 1 1 8 - -\n", 4, Cause::Words),
-        ("level 1 1 8 é\n", 4, Cause::Words),
-        ("level 1 1  -\n", 4, Cause::Words),
-        ("level\t1 1 8 -\n", 4, Cause::Words),
-        ("level 1 +1 8 -\n", 4, Cause::Number),
-        ("level 1 1 0x8 -\n", 4, Cause::Number),
-        ("level 1 01 256 -\n", 4, Cause::Number),
-        ("level 1 1 99999999999 -\n", 4, Cause::Number),
-        ("format 1 2 calipso\n", 4, Cause::Words),
-        ("level 1 1 8 -\nlevel 2 1 8 -\n", 5, Cause::Level),
-        ("guest 8 * 0\n", 4, Cause::Guest),
-        ("guest 0 * 1\n", 4, Cause::Guest),
-        ("guest 0 ** 0\n", 4, Cause::Number),
-        ("guest 4294967296 * 0\n", 4, Cause::Number),
-        ("guest 0 *\n", 4, Cause::Words),
-        ("guest 0 * 0", 4, Cause::Words),
-        ("guest 0 * 0\nlevel 1 1 8 -\n", 5, Cause::Order),
-        ("guest 0 * 0\nlevel 1 1 256 -\n", 5, Cause::Order),
-        ("guest 0 * 0\nlevel x 1 8 -\n", 5, Cause::Number),
-        ("guest 0 * 0\nmode enforcing\n", 5, Cause::Order),
-        ("guest 0 * 1\nnothing\n", 4, Cause::Guest),
-    ] {
-        expect_behind(&rt, alloc, others, line, cause)?;
-    }
+    let front = format!(in alloc; "{LEVELS}{FORMATS}parent 7 {SECRET} 1\n")?;
+    let again = format!(in alloc; "parent 7 {SECRET} 0\n")?;
+    let unknown = format!(in alloc; "parent 8 {SECRET} 2\n")?;
+    let longer = format!(in alloc; "parent 8 {SECRET}01 1\n")?;
+    let below = format!(in alloc; "guest 0 * 0\nparent 8 {SECRET} 1\n")?;
+    expect_behind(
+        &rt,
+        alloc,
+        &front,
+        &[
+            ("parent 8\n", 9, Cause::Words),
+            ("parent 08 01 1\n", 9, Cause::Number),
+            ("parent 8 01 1\n", 9, Cause::Parent),
+            (&again, 9, Cause::Parent),
+            (&unknown, 9, Cause::Parent),
+            (&longer, 9, Cause::Parent),
+            (&below, 10, Cause::Order),
+            ("name 103 0 0 6f\n", 9, Cause::Order),
+            ("guest 8 * 0\n", 9, Cause::Guest),
+            ("guest 0 * 2\n", 9, Cause::Guest),
+            ("guest 0 ** 0\n", 9, Cause::Number),
+            ("guest 4294967296 * 0\n", 9, Cause::Number),
+            ("guest 0 *\n", 9, Cause::Words),
+            ("guest 0 * 0", 9, Cause::Words),
+            ("guest 0 * 2\nnothing\n", 9, Cause::Guest),
+        ],
+    )?;
     Ok(())
 }
 
 #[test]
-fn takes_32_levels(rt: HostRuntime) -> Result<(), Fail> {
+fn refuses_quotas_and_dirs(rt: HostRuntime) -> Result<(), Fail> {
     let alloc = rt.alloc();
-    let mut text = String::from_str(alloc, "lnfs-policy 1\nmode enforcing\n")?;
-    for level in 0..32 {
-        text.push_str(&format!(in alloc; "level {level} 4294967295 {level} -\n")?)?;
-    }
-    let policy = read_policy(alloc, text.as_bytes()).ok().ok_or("refused")?;
-    assert_eq!(rt; policy.level_count(), 32);
-    text.push_str("level 32 4294967295 255 -\n")?;
-    expect(&rt, alloc, &text, 35, Cause::Level);
+    let front = format!(in alloc; "{LEVELS}{FORMATS}quota 1 8 4096\ndir /a 1\n")?;
+    expect_behind(
+        &rt,
+        alloc,
+        &front,
+        &[
+            ("quota 0 8 4096\n", 10, Cause::Order),
+            ("guest 0 * 0\n", 10, Cause::Order),
+            ("dir /b\n", 10, Cause::Words),
+            ("dir /b 01\n", 10, Cause::Number),
+            ("dir /a 1\n", 10, Cause::Dir),
+            ("dir /b 2\n", 10, Cause::Dir),
+            ("dir / 0\n", 10, Cause::Dir),
+            ("dir b 0\n", 10, Cause::Dir),
+            ("dir /b/ 0\n", 10, Cause::Dir),
+            ("dir //b 0\n", 10, Cause::Dir),
+            ("dir /. 0\n", 10, Cause::Dir),
+            ("dir /.. 0\n", 10, Cause::Dir),
+            ("dir /b/c 0\n", 10, Cause::Dir),
+            ("dir /a/c 0\n", 10, Cause::Dir),
+            ("dir /a/c 1\ndir /a/c/d 0\n", 11, Cause::Dir),
+            ("dir /b\u{7f} 0\n", 10, Cause::Dir),
+        ],
+    )?;
+    let front = format!(in alloc; "{LEVELS}{FORMATS}quota 1 8 4096\n")?;
+    expect_behind(
+        &rt,
+        alloc,
+        &front,
+        &[
+            ("quota 1 8 4096\n", 9, Cause::Quota),
+            ("quota 2 8 4096\n", 9, Cause::Quota),
+            ("quota 0 8\n", 9, Cause::Words),
+            ("quota 0 4611686018427387905 0\n", 9, Cause::Number),
+            ("quota 0 0 18446744073709551616\n", 9, Cause::Number),
+            ("quota 0 8 4096\nquota 2 01 0\n", 10, Cause::Number),
+        ],
+    )?;
     Ok(())
 }
 
 #[test]
-fn answers_of_a_site(rt: HostRuntime) -> Result<(), Fail> {
-    let policy = read_policy(rt.alloc(), SITE.as_bytes())
-        .ok()
-        .ok_or("refused")?;
-    assert_eq!(rt; policy.level_count(), 4);
-    assert_eq!(rt; policy.guests().len(), 4);
-    let last = Guest {
-        class: 1,
-        uid: Some(300),
-        level: Level(3),
-    };
-    assert_eq!(rt; policy.guests().last().copied(), Some(last));
-    for (class, uid, level) in [
-        (0, None, Some(0)),
-        (0, Some(7), Some(0)),
-        (1, Some(100), Some(1)),
-        (1, Some(200), Some(2)),
-        (1, Some(300), Some(3)),
-        (1, Some(400), None),
-        (1, None, None),
-        (2, Some(100), None),
-    ] {
-        assert_eq!(rt; policy.guest_level(class, uid).map(|level| level.0), level);
-    }
-    for (a, b, dominates) in [
-        (0, 0, true),
-        (3, 0, true),
-        (0, 3, false),
-        (2, 3, false),
-        (3, 2, true),
-    ] {
-        assert_eq!(rt; policy.dom(Level(a), Level(b)), dominates);
-    }
-    policy.is_ordered();
-    policy.is_policy();
-    reads_its_grammar(SITE.as_bytes());
-    Ok(())
-}
-
-#[test]
-fn the_first_guest_line_that_fits(rt: HostRuntime) -> Result<(), Fail> {
-    let text =
-        "lnfs-policy 1\nmode enforcing\nlevel 0 1 0 -\nlevel 1 1 255 -\nguest 7 5 1\nguest 7 * 0\nguest 7 6 1\n";
-    let policy = read_policy(rt.alloc(), text.as_bytes())
-        .ok()
-        .ok_or("refused")?;
-    assert_eq!(rt; policy.guest_level(7, Some(5)), Some(Level(1)));
-    assert_eq!(rt; policy.guest_level(7, Some(6)), Some(Level(0)));
-    assert_eq!(rt; policy.guest_level(7, None), Some(Level(0)));
-    Ok(())
-}
-
-#[test]
-fn names_of_causes(rt: HostRuntime) {
-    assert_eq!(rt; Cause::Level.as_str(), "Level");
-    assert_eq!(rt; Cause::Missing.as_str(), "Missing");
+fn laws_of_texts(_rt: HostRuntime) {
+    laws::lines();
+    laws::site();
 }

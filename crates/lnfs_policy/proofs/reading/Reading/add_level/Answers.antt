@@ -1,6 +1,0 @@
-use Rattle.std.proofs.Common.{sym}
-use Rattle.lnfs_policy.proofs.NextLabel.{next_sound}
-use Rattle.lnfs_policy.proofs.reading.Reading.add_level.Goals as goal
-
-pub invariant_of-self-2 : goal.invariant_of-self-2
-invariant_of-self-2 c = rw (c.in_ok-push.ensures.items) (next_sound c.self.inside.labels.items c.self.inside.guests.items c.in-Some.label c.self.invariant (sym (rw c.deref.ensures.value at c.if-not-is_next.ensures)))

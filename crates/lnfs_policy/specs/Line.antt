@@ -1,0 +1,145 @@
+-- What a line of the policy file says: its kind, its numbers, and the words that are no numbers.
+use Rattle.std.specs.Prelude.{ℕ, ◌==◌, ◌&&◌, Bool, true, false, not, if◌then◌else◌, nat_le, List, [], ◌∷◌, Option, Some, None, Result, Ok, Err, codes}
+use Rattle.std.specs.List.{list_all, list_any}
+use Rattle.lnfs_policy.specs.Words.{is, number, long_number}
+use Rattle.lnfs_policy.specs.declared.mode.Mode.{Mode}
+use Rattle.lnfs_policy.specs.declared.mode.Mode.TheVariants.{Enforcing, Limited}
+use Rattle.lnfs_policy.specs.declared.cause.Cause.{Cause}
+use Rattle.lnfs_policy.specs.declared.cause.Cause.TheVariants as because
+
+pub data Line : Type 0 where
+  version_line : Line
+  mode_line : Mode → Line
+  level_line : (place doi sens : ℕ) (comps : List ℕ) → Line
+  format_line : (lfs pi : ℕ) (kind : List ℕ) → Line
+  name_line : (lfs pi level : ℕ) (hex : List ℕ) → Line
+  parent_line : (number : ℕ) (hex : List ℕ) (level : ℕ) → Line
+  guest_line : (class : ℕ) (uid : Option ℕ) (level : ℕ) → Line
+  quota_line : (level nodes bytes : ℕ) → Line
+  dir_line : (path : List ℕ) (level : ℕ) → Line
+
+-- ---- steps that may be refused
+
+infixl 10 ◌>>=◌
+abbrev pub ◌>>=◌ : {A B : Type 0} → Result A Cause → (A → Result B Cause) → Result B Cause
+(Ok a) >>= next = next a
+(Err cause) >>= next = Err cause
+
+abbrev pub demand : Bool → Cause → Result (Unit {0}) Cause
+demand true cause = Ok tt
+demand false cause = Err cause
+
+-- ---- the words of a line: one definition for each kind, of the words behind the first
+
+abbrev pub says_version : List (List ℕ) → Result Line Cause
+says_version (one ∷ []) = if is one (codes "1") then Ok version_line else Err because.Words
+says_version others = Err because.Words
+
+abbrev pub says_mode : List (List ℕ) → Result Line Cause
+says_mode (mode ∷ []) =
+    if is mode (codes "enforcing") then Ok (mode_line Enforcing)
+    else (if is mode (codes "limited") then Ok (mode_line Limited) else Err because.Words)
+says_mode others = Err because.Words
+
+abbrev pub says_level : List (List ℕ) → Result Line Cause
+says_level (place ∷ doi ∷ sens ∷ comps ∷ []) = do
+  place ← number place
+  doi ← number doi
+  sens ← number sens
+  Ok (level_line place doi sens comps)
+says_level others = Err because.Words
+
+abbrev pub says_format : List (List ℕ) → Result Line Cause
+says_format (lfs ∷ pi ∷ kind ∷ []) = do
+  lfs ← number lfs
+  pi ← number pi
+  Ok (format_line lfs pi kind)
+says_format others = Err because.Words
+
+abbrev pub says_name : List (List ℕ) → Result Line Cause
+says_name (lfs ∷ pi ∷ level ∷ hex ∷ []) = do
+  lfs ← number lfs
+  pi ← number pi
+  level ← number level
+  Ok (name_line lfs pi level hex)
+says_name others = Err because.Words
+
+abbrev pub says_parent : List (List ℕ) → Result Line Cause
+says_parent (place ∷ hex ∷ level ∷ []) = do
+  place ← number place
+  level ← number level
+  Ok (parent_line place hex level)
+says_parent others = Err because.Words
+
+-- `*` is any user id, and none
+abbrev pub uid_of : List ℕ → Result (Option ℕ) Cause
+uid_of word = if is word (codes "*") then Ok None else (number word >>= (λ uid. Ok (Some uid)))
+
+abbrev pub says_guest : List (List ℕ) → Result Line Cause
+says_guest (class ∷ uid ∷ level ∷ []) = do
+  class ← number class
+  uid ← uid_of uid
+  level ← number level
+  Ok (guest_line class uid level)
+says_guest others = Err because.Words
+
+abbrev pub says_quota : List (List ℕ) → Result Line Cause
+says_quota (level ∷ nodes ∷ bytes ∷ []) = do
+  level ← number level
+  nodes ← long_number nodes
+  bytes ← long_number bytes
+  Ok (quota_line level nodes bytes)
+says_quota others = Err because.Words
+
+abbrev pub says_dir : List (List ℕ) → Result Line Cause
+says_dir (path ∷ level ∷ []) = do
+  level ← number level
+  Ok (dir_line path level)
+says_dir others = Err because.Words
+
+unfoldable pub line_of : List (List ℕ) → Result Line Cause
+line_of [] = Err because.Words
+line_of (name ∷ others) =
+    if is name (codes "lnfs-policy") then says_version others
+    else (if is name (codes "mode") then says_mode others
+    else (if is name (codes "level") then says_level others
+    else (if is name (codes "format") then says_format others
+    else (if is name (codes "name") then says_name others
+    else (if is name (codes "parent") then says_parent others
+    else (if is name (codes "guest") then says_guest others
+    else (if is name (codes "quota") then says_quota others
+    else (if is name (codes "dir") then says_dir others
+    else Err because.Words))))))))
+
+-- ---- the order of the kinds
+
+abbrev pub rank : Line → ℕ
+rank version_line = 0
+rank (mode_line mode) = 1
+rank (level_line place doi sens comps) = 2
+rank (format_line lfs pi kind) = 3
+rank (name_line lfs pi level hex) = 4
+rank (parent_line number hex level) = 5
+rank (guest_line class uid level) = 6
+rank (quota_line level nodes bytes) = 7
+rank (dir_line path level) = 8
+
+abbrev pub is_mode : Line → Bool
+is_mode line = rank line == 1
+
+-- no line of a later kind stands before it, and a mode stands once
+abbrev pub in_order : List Line → Line → Bool
+in_order before line =
+    list_all (λ earlier. nat_le (rank earlier) (rank line)) before && not (is_mode line && list_any is_mode before)
+
+-- the cause where a line's own rules don't hold
+abbrev pub cause_of : Line → Cause
+cause_of version_line = because.Version
+cause_of (mode_line mode) = because.Words
+cause_of (level_line place doi sens comps) = because.Level
+cause_of (format_line lfs pi kind) = because.Format
+cause_of (name_line lfs pi level hex) = because.Name
+cause_of (parent_line number hex level) = because.Parent
+cause_of (guest_line class uid level) = because.Guest
+cause_of (quota_line level nodes bytes) = because.Quota
+cause_of (dir_line path level) = because.Dir

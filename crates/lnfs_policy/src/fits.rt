@@ -1,0 +1,288 @@
+//! The rules of the lines after those before them, one function for each kind.
+
+ghost use Rattle.std.specs.Prelude.{◌≡◌, ◌==◌, ◌&&◌, ◌<◌, Some, length, find, IfOk};
+ghost use Rattle.std.specs.List.{list_all, list_any, slice_index_or};
+ghost use Rattle.std.specs.Option.{option_copied};
+ghost use Rattle.lnfs_calipso.specs.Same.{same_list, same_label};
+ghost use Rattle.lnfs_calipso.specs.Label.{label_at};
+ghost use Rattle.lnfs_policy.specs.Words.{is_name_byte};
+ghost use Rattle.lnfs_policy.specs.Rows.{label_of, spelling_of};
+ghost use Rattle.lnfs_policy.specs.Fits.{is_known, is_next, is_pair, is_table, format_fits, clashes, name_fits, guest_fits, quota_fits, is_component, is_path, level_at, is_above, dir_fits};
+
+use crate::parts::Parts;
+use crate::rows::{DirLine, FormatRow, LevelName, Quota, Spelling};
+use crate::words::{before_last, is};
+use lnfs_calipso::{Label, Level};
+use lnfs_format::read_comps;
+use std::alloc::{AllocError, Global};
+
+/// The most levels of a site.
+pub const MAX_LEVELS: usize = 32;
+
+/// The most formats of a site.
+pub const MAX_FORMATS: usize = 8;
+
+/// The highest class of a guest.
+pub const MAX_CLASS: u32 = 7;
+
+/// The most directories of a policy.
+pub const MAX_DIRS: usize = 256;
+
+/// The most names of a path.
+const MAX_COMPONENTS: usize = 16;
+
+/// The longest name of a directory, in bytes.
+const MAX_NAME: usize = 255;
+
+/// The longest spelling of a label, in bytes.
+const MAX_SPELLING: usize = 1024;
+
+/// Whether there is such a level.
+pub fn is_known(labels: &[Label], level: u32) -> bool
+    ensures { result ≡ is_known labels.now level }
+{
+    (level as usize) < labels.len()
+}
+
+/// The label of a level line, where its sensitivity and its compartments are some.
+///
+/// # Errors
+///
+/// `AllocError` where there is no memory.
+#[tactic(auto, unfolding(crate::specs::Rows::label_of))]
+pub fn label_of(
+    alloc: Global,
+    doi: u32,
+    sens: u32,
+    comps: &[u8],
+) -> Result<Option<Label>, AllocError>
+    ensures { IfOk result (λ label. label ≡ label_of doi sens comps.now) }
+{
+    if sens > 255 {
+        return Ok(None);
+    }
+    if is(comps, "-") {
+        return Ok(Some(Label::bare(doi, sens as u8)));
+    }
+    read_comps(alloc, doi, sens as u8, comps)
+}
+
+fn first_or<'a>(labels: &'a [Label], label: &'a Label) -> &'a Label
+    ensures { result.now ≡ slice_index_or labels.now 0 label.now }
+{
+    labels.first().unwrap_or(label)
+}
+
+/// Whether a label may come next: there is room, it is new, and it dominates the first.
+#[tactic(auto, unfolding(crate::specs::Fits::is_next))]
+pub fn is_next(labels: &[Label], label: &Label) -> bool
+    ensures { result ≡ is_next labels.now label.now }
+{
+    labels.len() < MAX_LEVELS && label.dominates(first_or(labels, label)) && !labels.contains(label)
+}
+
+/// The kind of format that a word names.
+pub fn spelling_of(word: &[u8]) -> Option<Spelling>
+    ensures { result ≡ spelling_of word.now }
+{
+    if is(word, "calipso") {
+        Some(Spelling::Calipso)
+    } else if is(word, "text") {
+        Some(Spelling::Text)
+    } else if is(word, "name") {
+        Some(Spelling::Name)
+    } else {
+        None
+    }
+}
+
+fn has_pair(rows: &[FormatRow], lfs: u32, pi: u32) -> bool
+    ensures { result ≡ list_any (is_pair lfs pi) rows.now }
+{
+    rows.iter().any(|row| row.lfs == lfs && row.pi == pi)
+}
+
+/// Whether a format may come next: there is room, and its number and policy identifier are new together.
+pub fn format_fits(rows: &[FormatRow], lfs: u32, pi: u32) -> bool
+    ensures { result ≡ format_fits rows.now lfs pi (Some Spelling.Calipso) }
+{
+    rows.len() < MAX_FORMATS && !has_pair(rows, lfs, pi)
+}
+
+impl Spelling {
+    fn is_table(&self) -> bool
+        ensures { result ≡ is_table self.now }
+    {
+        match self {
+            Spelling::Calipso | Spelling::Text => false,
+            Spelling::Name => true,
+        }
+    }
+}
+
+fn is_same(a: &[u8], b: &[u8]) -> bool
+    ensures { result ≡ same_list a.now b.now }
+{
+    a == b
+}
+
+impl LevelName {
+    /// Whether the name has the level or the bytes in the same format.
+    fn clashes(&self, lfs: u32, pi: u32, level: u32, bytes: &[u8]) -> bool
+        ensures { result ≡ clashes lfs pi level bytes.now self.now }
+    {
+        self.lfs == lfs
+            && self.pi == pi
+            && (self.level.0 == level || is_same(self.bytes.as_slice(), bytes))
+    }
+}
+
+fn has_table(rows: &[FormatRow], lfs: u32, pi: u32) -> bool
+    ensures { result ≡ list_any (λ row. is_pair lfs pi row && is_table row.spelling) rows.now }
+{
+    rows.iter().any(|row| row.lfs == lfs && row.pi == pi && row.spelling.is_table())
+}
+
+fn has_clash(names: &[LevelName], lfs: u32, pi: u32, level: u32, bytes: &[u8]) -> bool
+    ensures { result ≡ list_any (clashes lfs pi level bytes.now) names.now }
+{
+    names.iter().any(|name| name.clashes(lfs, pi, level, bytes))
+}
+
+/// Whether a name may come next: the format is one of names, the level is known, both level and bytes are new in
+/// the format, and there are from 1 to 1,024 bytes.
+#[tactic(auto, unfolding(crate::specs::Fits::name_fits))]
+pub fn name_fits(
+    labels: &[Label],
+    rows: &[FormatRow],
+    names: &[LevelName],
+    name: (u32, u32, u32),
+    bytes: &[u8],
+) -> bool
+    ensures { result ≡ name_fits labels.now rows.now names.now name.0 name.1 name.2 (Some bytes.now) }
+{
+    let (lfs, pi, level) = name;
+    has_table(rows, lfs, pi)
+        && is_known(labels, level)
+        && !has_clash(names, lfs, pi, level, bytes)
+        && !bytes.is_empty()
+        && bytes.len() <= MAX_SPELLING
+}
+
+/// Whether a guest's class and level are some.
+pub fn guest_fits(labels: &[Label], class: u32, level: u32) -> bool
+    ensures { result ≡ guest_fits labels.now class level }
+{
+    class <= MAX_CLASS && is_known(labels, level)
+}
+
+fn has_quota(quotas: &[Quota], level: u32) -> bool
+    ensures { result ≡ list_any (λ quota. quota.level.0 == level) quotas.now }
+{
+    quotas.iter().any(|quota| quota.level.0 == level)
+}
+
+/// Whether the level of a quota is known, and has none yet.
+pub fn quota_fits(labels: &[Label], quotas: &[Quota], level: u32) -> bool
+    ensures { result ≡ quota_fits labels.now quotas.now level }
+{
+    is_known(labels, level) && !has_quota(quotas, level)
+}
+
+fn all_name_bytes(name: &[u8]) -> bool
+    ensures { result ≡ list_all is_name_byte name.now }
+{
+    name.iter().all(|b| 32 < *b && *b < 127)
+}
+
+fn is_component(name: &[u8]) -> bool
+    ensures { result ≡ is_component name.now }
+{
+    !name.is_empty()
+        && name.len() <= MAX_NAME
+        && all_name_bytes(name)
+        && !is(name, ".")
+        && !is(name, "..")
+}
+
+/// Whether the path is from 1 to 16 names, each behind a slash.
+#[tactic(auto, unfolding(crate::specs::Fits::is_path))]
+fn is_path(path: &[u8]) -> bool
+    ensures { result ≡ is_path path.now }
+{
+    let mut names = Parts::new(path, b'/');
+    let Some(front) = names.next() else {
+        return false;
+    };
+    if !front.is_empty() {
+        return false;
+    }
+    let mut count = 0;
+    while let Some(name) = names.next() {
+        if count == MAX_COMPONENTS || !is_component(name) {
+            return false;
+        }
+        count += 1;
+    }
+    count > 0
+}
+
+fn dir_at<'a>(dirs: &'a [DirLine], path: &[u8]) -> Option<&'a DirLine>
+    ensures { option_copied result ≡ find (λ dir. same_list dir.path path.now) dirs.now }
+{
+    dirs.iter().find(|dir| is_same(dir.path.as_slice(), path))
+}
+
+/// The level of the directory of a path, where it was made before or is the root.
+fn level_at(dirs: &[DirLine], path: &[u8]) -> Option<u32>
+    ensures { result ≡ level_at dirs.now path.now }
+{
+    if path.is_empty() {
+        return Some(0);
+    }
+    match dir_at(dirs, path) {
+        Some(dir) => Some(dir.level.0),
+        None => None,
+    }
+}
+
+/// The label of a level; a number past the last level counts as level 0.
+pub fn label_at(labels: &[Label], level: u32) -> &Label
+    requires { 0 < length labels.now }
+    ensures { result.now ≡ label_at labels.now level }
+{
+    match labels.get(level as usize) {
+        Some(label) => label,
+        None => &labels[0],
+    }
+}
+
+/// Whether a level dominates that of the parent, where there is a parent.
+fn is_above(labels: &[Label], level: u32, parent: Option<u32>) -> bool
+    requires { 0 < length labels.now }
+    ensures { result ≡ is_above labels.now level parent }
+{
+    match parent {
+        Some(parent) => label_at(labels, level).dominates(label_at(labels, parent)),
+        None => false,
+    }
+}
+
+fn has_path(dirs: &[DirLine], path: &[u8]) -> bool
+    ensures { result ≡ list_any (λ dir. same_list dir.path path.now) dirs.now }
+{
+    dirs.iter().any(|dir| is_same(dir.path.as_slice(), path))
+}
+
+/// Whether a directory may come next: its path is one and is new, its parent was made before or is the root, its
+/// level dominates the parent's, and there is room.
+#[tactic(auto, unfolding(crate::specs::Fits::dir_fits))]
+pub fn dir_fits(labels: &[Label], dirs: &[DirLine], path: &[u8], level: u32) -> bool
+    ensures { result ≡ dir_fits labels.now dirs.now path.now level }
+{
+    is_path(path)
+        && dirs.len() < MAX_DIRS
+        && is_known(labels, level)
+        && !has_path(dirs, path)
+        && is_above(labels, level, level_at(dirs, before_last(path, b'/')))
+}

@@ -1,0 +1,85 @@
+//! What the lines of a policy give.
+
+ghost use Rattle.std.specs.Prelude.{◌≡◌};
+ghost use Rattle.lnfs_policy.specs.Policy.{is_for};
+
+use lnfs_calipso::Level;
+use lnfs_lists::Octets;
+
+/// How a format spells labels, as a format line names it.
+#[derive(Clone, Copy, Debug)]
+pub enum Spelling {
+    Calipso,
+    Text,
+    Name,
+}
+
+/// A format line.
+#[derive(Clone, Copy, Debug)]
+pub struct FormatRow {
+    pub lfs: u32,
+    pub pi: u32,
+    pub spelling: Spelling,
+}
+
+/// A name line: in a format of names, the bytes that spell the label of a level.
+#[derive(Debug, Drop)]
+pub struct LevelName {
+    pub lfs: u32,
+    pub pi: u32,
+    pub level: Level,
+    pub bytes: Octets,
+}
+
+/// A parent line: a program of the site whose calls assert labels up to a clearance, signed with its secret
+/// (RFC 7861 section 2).
+#[derive(Clone, Copy, Debug)]
+pub struct Parent {
+    pub number: u32,
+    pub secret: [u8; 32],
+    pub clearance: Level,
+}
+
+/// A guest line: callers of a class, with one uid or with any, have a level.
+#[derive(Clone, Copy, Debug, PartialEq, Eq)]
+pub struct Guest {
+    pub class: u32,
+    /// None is for all, also for those who have no uid.
+    pub uid: Option<u32>,
+    pub level: Level,
+}
+
+impl Guest {
+    /// Whether the line is for a caller. None asks for a caller without a uid.
+    pub fn is_for(&self, class: u32, uid: Option<u32>) -> bool
+        ensures { result ≡ is_for class uid self.now }
+    {
+        let admitted = match (self.uid, uid) {
+            (None, _) => true,
+            (Some(_), None) => false,
+            (Some(named), Some(asked)) => named == asked,
+        };
+        self.class == class && admitted
+    }
+}
+
+/// What the nodes and the bytes of a level may come to.
+#[derive(Clone, Copy, Debug, PartialEq, Eq)]
+pub struct Limit {
+    pub nodes: u64,
+    pub bytes: u64,
+}
+
+/// A quota line.
+#[derive(Clone, Copy, Debug, PartialEq, Eq)]
+pub struct Quota {
+    pub level: Level,
+    pub limit: Limit,
+}
+
+/// A dir line: a directory that stands from the beginning, with its level.
+#[derive(Debug, Drop)]
+pub struct DirLine {
+    pub path: Octets,
+    pub level: Level,
+}
