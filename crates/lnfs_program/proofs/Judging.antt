@@ -1,6 +1,6 @@
 -- What is due, case by case, and runs that do it.
-use Rattle.std.proofs.Common.{◌≡◌, ℕ, ◌+◌, true, false, cond, nat_eq, List, [], length, drop, refl, sym, ap, ◌∙◌, subst}
-use Rattle.std.specs.Prelude.{Result, Ok, Err, OnOk, IfOk, IfSome, MatchOption}
+use Rattle.std.proofs.Common.{◌≡◌, ℕ, ◌+◌, true, false, cond, nat_eq, List, [], length, drop, refl, sym, ◌∙◌, subst}
+use Rattle.std.specs.Prelude.{Result, Ok, Err, OnOk, IfOk, MatchOption}
 use Rattle.std.specs.declared.option.Option.{Option}
 use Rattle.std.specs.declared.option.Option.TheVariants.{Some, None}
 use Rattle.std.specs.Global.{Vec}
@@ -14,10 +14,10 @@ use Rattle.lnfs_program.specs.declared.status.Status.{Status}
 use Rattle.lnfs_program.specs.declared.status.Status.TheVariants as statuses
 use Rattle.lnfs_program.specs.declared.status.Stop.{Stop}
 use Rattle.lnfs_program.specs.Ending.{told_by}
-use Rattle.lnfs_program.specs.Due.{Due, due, due_replay, only, shown, replayed}
+use Rattle.lnfs_program.specs.Due.{Due, due, due_under, given, judged, only, shown, replayed}
 use Rattle.lnfs_program.specs.Refusals.{refusal_of}
-use Rattle.lnfs_program.specs.Runs.{Holds, Plays, Judges, held}
-use Rattle.lnfs_program.specs.Words.{Form, help, version, replay, first_name, second_name, help_text, version_text}
+use Rattle.lnfs_program.specs.Runs.{Holds, Plays, Judges, Performs, held}
+use Rattle.lnfs_program.specs.Words.{Task, Form, help, version, under, file_of, first_name, second_name, help_text, version_text}
 use Rattle.lnfs_program.specs.Recording.{begins, events_of, taken_of}
 use Rattle.lnfs_program.specs.Writes.{Takes, writes_after}
 use Rattle.lnfs_program.proofs.Writing.{does_out, front_none, front_whole_of, takes_none}
@@ -32,21 +32,21 @@ unfolding seen
 seen_held None name = tt
 seen_held (Some look) name = refl
 
-due_is : (p t : List ℕ) (policy traffic : Option (List ℕ)) → due (Some (replay p t)) policy traffic ≡ due_replay p t policy traffic
+due_is : (name : List ℕ) (task : Task) (policy file : Option (List ℕ)) → due (Some (under name task)) policy file ≡ given policy name (λ text. judged (policy_of text) (λ rules. due_under rules task file))
 unfolding due
-due_is p t policy traffic = refl
+due_is name task policy file = refl
 
-due_usage : (policy traffic : Option (List ℕ)) → due None policy traffic ≡ only statuses.Usage
+due_usage : (policy file : Option (List ℕ)) → due None policy file ≡ only statuses.Usage
 unfolding due
-due_usage policy traffic = refl
+due_usage policy file = refl
 
-due_help : (policy traffic : Option (List ℕ)) → due (Some help) policy traffic ≡ shown help_text
+due_help : (policy file : Option (List ℕ)) → due (Some help) policy file ≡ shown help_text
 unfolding due
-due_help policy traffic = refl
+due_help policy file = refl
 
-due_version : (policy traffic : Option (List ℕ)) → due (Some version) policy traffic ≡ shown version_text
+due_version : (policy file : Option (List ℕ)) → due (Some version) policy file ≡ shown version_text
 unfolding due
-due_version policy traffic = refl
+due_version policy file = refl
 
 module _ {result : Result Status Stop} {o a : Option (List ℕ)} where
   -- a call that gave up before it wrote
@@ -79,73 +79,63 @@ module _ (policy : Policy) (traffic : List ℕ) {o o' a a' : Option (List ℕ)} 
   plays_all n = let m = rw e at n in plays_ending statuses.Ok (rw m refl)
 
 -- whatever the files hold
-judges_with : (told : Told) (form : Option Form) {result : Result Status Stop} {o o' a a' : Option (List ℕ)} → ((policy traffic : Option (List ℕ)) → Plays (due form policy traffic) result o o' a a') → Judges told form result o o' a a'
+judges_with : (told : Told) (form : Option Form) {result : Result Status Stop} {o o' a a' : Option (List ℕ)} → ((policy file : Option (List ℕ)) → Plays (due form policy file) result o o' a a') → Judges told form result o o' a a'
 judges_with told form plays = record {
   policy = seen told (first_name form);
-  traffic = seen told (second_name form);
+  file = seen told (second_name form);
   policy_held = seen_held told (first_name form);
-  traffic_held = seen_held told (second_name form);
+  file_held = seen_held told (second_name form);
   plays = plays (seen told (first_name form)) (seen told (second_name form));
 }
 
 pub judges_gave_up : (told : Told) (form : Option Form) {result : Result Status Stop} {o a : Option (List ℕ)} → OnOk result ⊥ → Judges told form result o o a a
-judges_gave_up told form never = judges_with told form (λ policy traffic. gave_up (due form policy traffic) never)
+judges_gave_up told form never = judges_with told form (λ policy file. gave_up (due form policy file) never)
 
 pub judges_usage : (told : Told) {form : Option Form} {result : Result Status Stop} {o a : Option (List ℕ)} → form ≡ None → IfOk result (λ status. told_by status ≡ Some statuses.Usage) → Judges told form result o o a a
-judges_usage told {form} e t = rw e (judges_with told None (λ policy traffic. told_only (due None policy traffic) statuses.Usage (due_usage policy traffic) t))
+judges_usage told {form} e t = rw e (judges_with told None (λ policy file. told_only (due None policy file) statuses.Usage (due_usage policy file) t))
 
 -- a text that is shown
-plays_shown : {result : Result Status Stop} {o o' : Option (List ℕ)} (a : Option (List ℕ)) {text written : List ℕ} → written ≡ text → Puts o o' result written → IfOk result (λ status. told_by status ≡ Some statuses.Ok) → Plays (shown text) result o o' a a
+pub plays_shown : {result : Result Status Stop} {o o' : Option (List ℕ)} (a : Option (List ℕ)) {text written : List ℕ} → written ≡ text → Puts o o' result written → IfOk result (λ status. told_by status ≡ Some statuses.Ok) → Plays (shown text) result o o' a a
 plays_shown a e p t = record { does = does_out a e p; ending = t }
 
 module _ (told : Told) {form : Option Form} {result : Result Status Stop} {o o' : Option (List ℕ)} (a : Option (List ℕ)) {written : List ℕ} (p : Puts o o' result written) (t : IfOk result (λ status. told_by status ≡ Some statuses.Ok)) where
   pub judges_help : form ≡ Some help → written ≡ help_text → Judges told form result o o' a a
-  judges_help e w = rw e (judges_with told (Some help) (λ policy traffic. subst (λ d. Plays d result o o' a a) (sym (due_help policy traffic)) (plays_shown a w p t)))
+  judges_help e w = rw e (judges_with told (Some help) (λ policy file. subst (λ d. Plays d result o o' a a) (sym (due_help policy file)) (plays_shown a w p t)))
 
   pub judges_version : form ≡ Some version → written ≡ version_text → Judges told form result o o' a a
-  judges_version e w = rw e (judges_with told (Some version) (λ policy traffic. subst (λ d. Plays d result o o' a a) (sym (due_version policy traffic)) (plays_shown a w p t)))
+  judges_version e w = rw e (judges_with told (Some version) (λ policy file. subst (λ d. Plays d result o o' a a) (sym (due_version policy file)) (plays_shown a w p t)))
 
--- The exits of `replay_files`, by the facts that it has there.
-module _ (told : Told) {p t : List ℕ} {result : Result Status Stop} {o a : Option (List ℕ)} (first : Option (Vec ℕ)) (held_first : Holds told p (held first)) where
-  pub judges_no_policy : first ≡ None → IfOk result (λ status. told_by status ≡ Some (statuses.NoFile p)) → Judges told (Some (replay p t)) result o o a a
+-- The exits of `under`, by the facts that it has there.
+module _ (told : Told) {name : List ℕ} (task : Task) {result : Result Status Stop} {o a : Option (List ℕ)} (first : Option (Vec ℕ)) (held_first : Holds told name (held first)) where
+  pub judges_no_policy : first ≡ None → IfOk result (λ status. told_by status ≡ Some (statuses.NoFile name)) → Judges told (Some (under name task)) result o o a a
   judges_no_policy e s = record {
     policy = held first;
-    traffic = seen told t;
+    file = seen told (file_of task);
     policy_held = held_first;
-    traffic_held = seen_held told t;
-    plays = told_only (due (Some (replay p t)) (held first) (seen told t)) (statuses.NoFile p) (due_is p t (held first) (seen told t) ∙ rw e refl) s;
+    file_held = seen_held told (file_of task);
+    plays = told_only (due (Some (under name task)) (held first) (seen told (file_of task))) (statuses.NoFile name) (due_is name task (held first) (seen told (file_of task)) ∙ rw e refl) s;
   }
 
   module _ (text : Vec ℕ) (is_first : first ≡ Some text) where
-    pub judges_refused : (refused : Refused) → policy_of text.items ≡ Err refused → IfOk result (λ status. told_by status ≡ Some (statuses.PolicyRefused refused.line refused.cause)) → Judges told (Some (replay p t)) result o o a a
+    judges_refused : (refused : Refused) → policy_of text.items ≡ Err refused → IfOk result (λ status. told_by status ≡ Some (statuses.PolicyRefused refused.line refused.cause)) → Judges told (Some (under name task)) result o o a a
     judges_refused refused q s = record {
       policy = held first;
-      traffic = seen told t;
+      file = seen told (file_of task);
       policy_held = held_first;
-      traffic_held = seen_held told t;
-      plays = told_only (due (Some (replay p t)) (held first) (seen told t)) (statuses.PolicyRefused refused.line refused.cause) (due_is p t (held first) (seen told t) ∙ rw (is_first, q) refl) s;
+      file_held = seen_held told (file_of task);
+      plays = told_only (due (Some (under name task)) (held first) (seen told (file_of task))) (statuses.PolicyRefused refused.line refused.cause) (due_is name task (held first) (seen told (file_of task)) ∙ rw (is_first, q) refl) s;
     }
 
     -- or there was no memory for the policy
-    pub judges_no_rules : (error : PolicyError) → IsRefusal (policy_of text.items) error → MatchOption (refusal_of error) (OnOk result ⊥) (λ refused. IfOk result (λ status. told_by status ≡ Some (statuses.PolicyRefused refused.line refused.cause))) → Judges told (Some (replay p t)) result o o a a
+    pub judges_no_rules : (error : PolicyError) → IsRefusal (policy_of text.items) error → MatchOption (refusal_of error) (OnOk result ⊥) (λ refused. IfOk result (λ status. told_by status ≡ Some (statuses.PolicyRefused refused.line refused.cause))) → Judges told (Some (under name task)) result o o a a
     judges_no_rules (error.Refused line cause) q s = judges_refused (record { line = line; cause = cause }) q s
-    judges_no_rules error.Memory q s = judges_gave_up told (Some (replay p t)) s
+    judges_no_rules error.Memory q s = judges_gave_up told (Some (under name task)) s
 
-    module _ (rules : Policy) (good : policy_of text.items ≡ Ok rules) (second : Option (Vec ℕ)) (held_second : Holds told t (held second)) where
-      pub judges_no_traffic : second ≡ None → IfOk result (λ status. told_by status ≡ Some (statuses.NoFile t)) → Judges told (Some (replay p t)) result o o a a
-      judges_no_traffic e s = record {
-        policy = held first;
-        traffic = held second;
-        policy_held = held_first;
-        traffic_held = held_second;
-        plays = told_only (due (Some (replay p t)) (held first) (held second)) (statuses.NoFile t) (due_is p t (held first) (held second) ∙ rw (is_first, good, e) refl) s;
-      }
-
-      pub judges_replay : {o' a' : Option (List ℕ)} (bytes : Vec ℕ) → second ≡ Some bytes → {read : List ℕ} → read ≡ bytes.items → Plays (replayed rules read) result o o' a a' → Judges told (Some (replay p t)) result o o' a a'
-      judges_replay {o'} {a'} bytes e {read} same plays = record {
-        policy = held first;
-        traffic = held second;
-        policy_held = held_first;
-        traffic_held = held_second;
-        plays = subst (λ d. Plays d result o o' a a') (sym (due_is p t (held first) (held second) ∙ rw (is_first, good, e) (ap (replayed rules) (sym same)))) plays;
-      }
+    pub judges_under : (rules : Policy) → policy_of text.items ≡ Ok rules → {o' a' : Option (List ℕ)} → Performs told rules task result o o' a a' → Judges told (Some (under name task)) result o o' a a'
+    judges_under rules good {o'} {a'} p = record {
+      policy = held first;
+      file = p.file;
+      policy_held = held_first;
+      file_held = p.file_held;
+      plays = subst (λ d. Plays d result o o' a a') (sym (due_is name task (held first) p.file ∙ rw (is_first, good) refl)) p.plays;
+    }

@@ -1,15 +1,22 @@
--- What is defined for a form of the words and for what the two files hold.
+-- What is due for a form of the words and for what the two files hold: the policy, and the file of the task.
 use Rattle.std.specs.Prelude.{ℕ, cond, List, [], ◌∷◌, ◌++◌, Result, Ok, Err}
 use Rattle.std.specs.declared.option.Option.{Option}
 use Rattle.std.specs.declared.option.Option.TheVariants.{Some, None}
 use Rattle.lnfs_policy.specs.Policy.{Policy}
 use Rattle.lnfs_policy.specs.PolicyText.{Refused, policy_of}
+use Rattle.lnfs_policy.specs.declared.mode.Mode.{Mode}
+use Rattle.lnfs_policy.specs.declared.mode.Mode.TheVariants.{Enforcing, Limited}
+use Rattle.hex.specs.Hex.{encode_lower}
+use Rattle.lnfs_map.specs.Translated.{translated}
+use Rattle.lnfs_map.specs.declared.table.MapError.{MapError}
+use Rattle.lnfs_map.specs.declared.table.MapError.TheVariants as error
 use Rattle.lnfs_step.specs.Journal.{answer, audit_at}
 use Rattle.lnfs_program.specs.declared.status.Status.{Status}
 use Rattle.lnfs_program.specs.declared.status.Status.TheVariants as status
+use Rattle.lnfs_program.specs.declared.status.MapCause.TheVariants as cause
 use Rattle.lnfs_program.specs.Ending.{fault_line}
 use Rattle.lnfs_program.specs.Recording.{recorded, is_recording, place_of}
-use Rattle.lnfs_program.specs.Words.{Form, help, version, replay, help_text, version_text}
+use Rattle.lnfs_program.specs.Words.{Task, check, replay, translate, Form, help, version, under, help_text, version_text}
 use Rattle.lnfs_program.specs.Writes.{Write, to_out, to_audit, writes_after}
 
 -- what is due: what is written, but for the ending's line, and the ending
@@ -42,14 +49,34 @@ abbrev pub judged : Result Policy Refused → (Policy → Due) → Due
 judged (Err refused) next = only (status.PolicyRefused refused.line refused.cause)
 judged (Ok policy) next = next policy
 
-abbrev pub due_replay : List ℕ → List ℕ → Option (List ℕ) → Option (List ℕ) → Due
-due_replay policy_name traffic_name policy traffic = given policy policy_name (λ text. judged (policy_of text) (λ rules. given traffic traffic_name (replayed rules)))
+-- where the server enforces the labels of a policy
+abbrev pub enforced : Mode → Due → Due
+enforced Enforcing due = due
+enforced Limited due = only status.Usage
+
+-- the ending where a label has no translation; `translated` isn't short of memory
+abbrev pub no_translation : MapError → Status
+no_translation error.WrongLfs = status.Untranslated cause.WrongLfs
+no_translation error.BadLabel = status.Untranslated cause.BadLabel
+no_translation error.NoRow = status.Untranslated cause.NoRow
+no_translation error.Memory = status.Memory
+
+-- a translation in hex of lower case
+abbrev pub spelled : Result (List ℕ) MapError → Due
+spelled (Ok bytes) = shown (encode_lower bytes ++ 10 ∷ [])
+spelled (Err error) = only (no_translation error)
+
+-- a task under a policy
+abbrev pub due_under : Policy → Task → Option (List ℕ) → Due
+due_under policy check file = shown policy.text
+due_under policy (replay traffic) file = enforced policy.mode (given file traffic (replayed policy))
+due_under policy (translate source target bytes) file = spelled (translated policy.formats policy.labels source target bytes)
 
 unfoldable pub due : Option Form → Option (List ℕ) → Option (List ℕ) → Due
-due None policy traffic = only status.Usage
-due (Some help) policy traffic = shown help_text
-due (Some version) policy traffic = shown version_text
-due (Some (replay policy_name traffic_name)) policy traffic = due_replay policy_name traffic_name policy traffic
+due None policy file = only status.Usage
+due (Some help) policy file = shown help_text
+due (Some version) policy file = shown version_text
+due (Some (under name task)) policy file = given policy name (λ text. judged (policy_of text) (λ rules. due_under rules task file))
 
 -- with the line that tells the ending
 abbrev pub all_writes : Due → List Write

@@ -3,7 +3,9 @@ use Rattle.std.specs.Prelude.{ℕ, List, [], ◌∷◌, ◌++◌, codes}
 use Rattle.std.specs.Fmt.{decimal}
 use Rattle.lnfs_policy.specs.Policy.{cause_name}
 use Rattle.lnfs_program.specs.declared.status.Status.{Status}
-use Rattle.lnfs_program.specs.declared.status.Status.TheVariants.{Ok, Usage, PolicyRefused, TrafficDamaged, NoFile, ReadFault, WriteFault, Memory}
+use Rattle.lnfs_program.specs.declared.status.Status.TheVariants.{Ok, Usage, PolicyRefused, TrafficDamaged, NoFile, Untranslated, ReadFault, WriteFault, Memory}
+use Rattle.lnfs_program.specs.declared.status.MapCause.{MapCause}
+use Rattle.lnfs_program.specs.declared.status.MapCause.TheVariants.{WrongLfs, BadLabel, NoRow}
 use Rattle.std.specs.declared.option.Option.{Option}
 use Rattle.std.specs.declared.option.Option.TheVariants.{Some, None}
 
@@ -17,6 +19,13 @@ told_by Usage = Some Usage
 told_by (PolicyRefused line cause) = Some (PolicyRefused line cause)
 told_by (TrafficDamaged at) = Some (TrafficDamaged at)
 told_by (NoFile name) = Some (NoFile name)
+told_by (Untranslated cause) = Some (Untranslated cause)
+
+-- the text of a cause
+abbrev pub map_cause_name : MapCause → List ℕ
+map_cause_name WrongLfs = codes "WrongLfs"
+map_cause_name BadLabel = codes "BadLabel"
+map_cause_name NoRow = codes "NoRow"
 
 -- the line on the audit stream that tells an ending
 abbrev pub fault_line : Status → List ℕ
@@ -24,6 +33,7 @@ fault_line Usage = codes "fault 2 usage\n"
 fault_line (PolicyRefused line cause) = codes "fault 3 policy line " ++ decimal line ++ codes " cause " ++ cause_name cause ++ 10 ∷ []
 fault_line (TrafficDamaged at) = codes "fault 4 traffic damaged at " ++ decimal at ++ 10 ∷ []
 fault_line (NoFile name) = codes "fault 9 no file " ++ name ++ 10 ∷ []
+fault_line (Untranslated cause) = codes "fault 10 untranslated " ++ map_cause_name cause ++ 10 ∷ []
 fault_line Ok = []
 fault_line ReadFault = []
 fault_line WriteFault = []
@@ -39,3 +49,4 @@ number_of ReadFault = 5
 number_of WriteFault = 6
 number_of Memory = 7
 number_of (NoFile name) = 9
+number_of (Untranslated cause) = 10

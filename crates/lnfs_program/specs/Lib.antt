@@ -3,6 +3,7 @@ pub mod Recording
 pub mod Refusals
 pub mod Lines
 pub mod Words
+pub mod Tasks
 pub mod Writes
 pub mod Ending
 pub mod Due

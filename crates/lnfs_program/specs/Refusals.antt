@@ -1,5 +1,4 @@
 -- What the errors of reading a policy tell.
-use Rattle.std.specs.Prelude.{ℕ}
 use Rattle.std.specs.declared.option.Option.{Option}
 use Rattle.std.specs.declared.option.Option.TheVariants.{Some, None}
 use Rattle.lnfs_policy.specs.PolicyText.{Refused}

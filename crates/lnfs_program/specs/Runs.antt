@@ -8,9 +8,10 @@ use Rattle.lnfs_outside.specs.Bytes.{Told}
 use Rattle.lnfs_program.specs.declared.status.Stop.{Stop}
 use Rattle.lnfs_program.specs.declared.status.Stop.TheVariants.{ReadFault, WriteFault, Memory}
 use Rattle.lnfs_program.specs.declared.status.Status.{Status}
-use Rattle.lnfs_program.specs.Due.{Due, due, all_writes}
+use Rattle.lnfs_policy.specs.Policy.{Policy}
+use Rattle.lnfs_program.specs.Due.{Due, due, due_under, all_writes}
 use Rattle.lnfs_program.specs.Ending.{told_by}
-use Rattle.lnfs_program.specs.Words.{Form, first_name, second_name}
+use Rattle.lnfs_program.specs.Words.{Task, Form, file_of, first_name, second_name}
 use Rattle.lnfs_program.specs.Writes.{Takes, TakesFront, Does}
 
 -- a file of the name holds this, or there is none, as far as contents are told
@@ -21,11 +22,11 @@ Holds told name found = IfSome told (λ look. look name ≡ found)
 pub record Runs (told : Told) (form : Option Form) (ending : Option Status) (out out' audit audit' : Option (List ℕ)) : Type 0 where
   -- the two files that the words name
   pub policy : Option (List ℕ)
-  pub traffic : Option (List ℕ)
+  pub file : Option (List ℕ)
   pub policy_held : Holds told (first_name form) policy
-  pub traffic_held : Holds told (second_name form) traffic
-  pub told_all : IfSome ending (λ e. (e ≡ (due form policy traffic).ending) × Takes out out' audit audit' (all_writes (due form policy traffic)))
-  pub begun : TakesFront out out' audit audit' (all_writes (due form policy traffic))
+  pub file_held : Holds told (second_name form) file
+  pub told_all : IfSome ending (λ e. (e ≡ (due form policy file).ending) × Takes out out' audit audit' (all_writes (due form policy file)))
+  pub begun : TakesFront out out' audit audit' (all_writes (due form policy file))
 
 -- what is due was done, all but the ending's line
 pub record Plays (d : Due) (result : Result Status Stop) (out out' audit audit' : Option (List ℕ)) : Type 0 where
@@ -35,10 +36,16 @@ pub record Plays (d : Due) (result : Result Status Stop) (out out' audit audit' 
 -- the same of a run before the ending's line is written
 pub record Judges (told : Told) (form : Option Form) (result : Result Status Stop) (out out' audit audit' : Option (List ℕ)) : Type 0 where
   pub policy : Option (List ℕ)
-  pub traffic : Option (List ℕ)
+  pub file : Option (List ℕ)
   pub policy_held : Holds told (first_name form) policy
-  pub traffic_held : Holds told (second_name form) traffic
-  pub plays : Plays (due form policy traffic) result out out' audit audit'
+  pub file_held : Holds told (second_name form) file
+  pub plays : Plays (due form policy file) result out out' audit audit'
+
+-- the same of a task under a policy that was read
+pub record Performs (told : Told) (policy : Policy) (task : Task) (result : Result Status Stop) (out out' audit audit' : Option (List ℕ)) : Type 0 where
+  pub file : Option (List ℕ)
+  pub file_held : Holds told (file_of task) file
+  pub plays : Plays (due_under policy task file) result out out' audit audit'
 
 -- why a call gave up
 abbrev pub IsExcused : Stop → Type 0 → Type 0 → Type 0

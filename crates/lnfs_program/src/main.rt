@@ -6,17 +6,23 @@
 
 mod laws;
 #[cfg(test)]
+mod policy_tests;
+#[cfg(test)]
 mod record_tests;
 mod recording;
 mod replay;
 mod run;
+mod start;
 mod status;
 mod streams;
 #[cfg(test)]
 mod tests;
+mod texts;
+mod under;
 mod words;
 
 use lnfs_outside::{DiskFiles, StdSink};
+use start::start;
 use status::Status;
 use std::env;
 use std::process::ExitCode;
@@ -34,6 +40,9 @@ fn main(rt: HostRuntime) -> ExitCode {
             return ExitCode::from(Status::Memory.number());
         }
     }
-    let status = run::run(rt.alloc(), &words, &mut files, &mut out, &mut audit);
+    let status = match start(rt.alloc(), &words, &mut files, &mut out, &mut audit) {
+        Ok(status) => status,
+        Err(_) => Status::Memory,
+    };
     ExitCode::from(status.number())
 }

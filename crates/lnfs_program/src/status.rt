@@ -2,11 +2,35 @@
 ghost use Rattle.std.specs.Prelude.{◌≡◌, [], ◌∷◌, ◌++◌, IfOk, string_bytes, codes};
 ghost use Rattle.std.specs.Fmt.{decimal};
 ghost use Rattle.lnfs_program.specs.declared.status.Stop.TheVariants.{Memory};
-ghost use Rattle.lnfs_program.specs.Ending.{fault_line, number_of};
+ghost use Rattle.lnfs_program.specs.Ending.{fault_line, map_cause_name, number_of};
 
 use lnfs_lists::Text;
 use lnfs_policy::Cause;
 use std::alloc::{AllocError, Global};
+
+/// Why some bytes have no translation.
+#[derive(Clone, Copy, Debug, Drop)]
+pub enum MapCause {
+    /// One of the two formats isn't there.
+    WrongLfs,
+    /// The bytes spell no label, or one that is no level's.
+    BadLabel,
+    /// The second format has no spelling of the label.
+    NoRow,
+}
+
+impl MapCause {
+    /// The name of the cause, as it is printed.
+    pub fn as_str(&self) -> &'static str
+        ensures { result.now ≡ map_cause_name self.now }
+    {
+        match self {
+            MapCause::WrongLfs => "WrongLfs",
+            MapCause::BadLabel => "BadLabel",
+            MapCause::NoRow => "NoRow",
+        }
+    }
+}
 
 /// The status of a run.
 #[derive(Debug, Drop)]
@@ -27,6 +51,8 @@ pub enum Status {
     Memory,
     /// There is no file of this name.
     NoFile { name: Text },
+    /// The bytes have no translation.
+    Untranslated { cause: MapCause },
 }
 
 impl Status {
@@ -43,6 +69,7 @@ impl Status {
             Status::WriteFault => 6,
             Status::Memory => 7,
             Status::NoFile { name: _ } => 9,
+            Status::Untranslated { cause: _ } => 10,
         }
     }
 
@@ -59,6 +86,10 @@ impl Status {
             Status::NoFile { name } => {
                 let name = name.as_str();
                 format!(in alloc; "fault 9 no file {name}\n")
+            }
+            Status::Untranslated { cause } => {
+                let cause = cause.as_str();
+                format!(in alloc; "fault 10 untranslated {cause}\n")
             }
             Status::Ok | Status::ReadFault | Status::WriteFault | Status::Memory => {
                 Ok(String::new(alloc))

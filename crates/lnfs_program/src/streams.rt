@@ -1,11 +1,12 @@
 //! Reading a file whole, and writing to a stream.
-ghost use Rattle.std.specs.Prelude.{◌≡◌, ◌≤◌, IfOk, IfErr, IfSome, length};
+ghost use Rattle.std.specs.Prelude.{◌≡◌, ◌≤◌, IfOk, IfErr, IfSome, Some, length};
 ghost use Rattle.lnfs_outside.specs.Causes.{Rose};
 ghost use Rattle.lnfs_outside.specs.Bytes.{Puts};
+ghost use Rattle.lnfs_program.specs.Ending.{told_by};
 ghost use Rattle.lnfs_program.specs.Runs.{Holds, ReadsOnly, held};
 ghost use Rattle.lnfs_program.specs.Writes.{framed};
 
-use crate::status::Stop;
+use crate::status::{Status, Stop};
 use lnfs_lists::Octets;
 use lnfs_outside::{Files, Sink, put_all};
 use std::alloc::{AllocError, Global};
@@ -23,6 +24,17 @@ pub fn put<K: Sink>(sink: &mut K, bytes: &[u8]) -> Result<(), Stop>
         Ok(()) => Ok(()),
         Err(_) => Err(Stop::WriteFault),
     }
+}
+
+/// Shows a text.
+pub fn show<K: Sink>(out: &mut K, text: &[u8]) -> Result<Status, Stop>
+    ensures bytes { Puts (K.taken out.old) (K.taken out.new) result text.now }
+    ensures told { IfOk result (λ status. told_by status ≡ Some Status.Ok) }
+    ensures later { K.write_faults out.old ≤ K.write_faults out.new }
+    ensures excused { IfErr result (λ stop. (stop ≡ Stop.WriteFault) × Rose (K.write_faults out.old) (K.write_faults out.new)) }
+{
+    put(out, text)?;
+    Ok(Status::Ok)
 }
 
 /// Reads the current file to its end.

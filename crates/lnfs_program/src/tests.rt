@@ -1,20 +1,30 @@
 //! Runs over objects in memory: what no clause says. The bytes are laid out by hand from RFC 5531,
 //! RFC 4506 and RFC 8881 section 18.35.
-use crate::run::run;
+use crate::start::start;
 use lnfs_lists::{Octets, Text};
 use lnfs_outside::{MemFile, MemFiles, MemSink};
 use std::alloc::{AllocError, Global};
 
-const POLICY: &[u8] = b"lnfs-policy 1
+/// Levels 1 and 2 don't compare, and level 3 is above all.
+pub const POLICY: &[u8] = b"lnfs-policy 1
 mode enforcing
 level 0 1 0 -
-level 1 1 1 -
-level 2 1 2 -
-level 3 1 3 -
+level 1 1 1 c0
+level 2 1 1 c1
+level 3 1 3 c0.c2,c5
+format 101 1 calipso
+format 102 1 text
+format 103 0 name
+name 103 0 0 6f70656e
+parent 7 0101010101010101010101010101010101010101010101010101010101010101 3
 guest 0 * 0
 guest 1 100 1
 guest 1 200 2
 guest 1 300 3
+quota 1 8 4096
+dir /one 1
+dir /two 2
+dir /top 3
 ";
 
 /// Its tenth line names a level that isn't there.
@@ -102,7 +112,7 @@ fn recording(alloc: Global, events: &[(u8, [u8; 108])]) -> Result<Vec<u8>, Alloc
     Ok(traffic)
 }
 
-fn file(alloc: Global, name: &str, content: &[u8]) -> Result<MemFile, AllocError> {
+pub fn file(alloc: Global, name: &str, content: &[u8]) -> Result<MemFile, AllocError> {
     Ok(MemFile {
         name: Text::copy_of(alloc, name)?,
         content: Octets::from_slice(alloc, content)?,
@@ -123,7 +133,27 @@ pub const NONE: Failing<'static> = Failing {
     audits: &[],
 };
 
-/// The status and what the two streams took. The recording has the name `t`.
+/// The status and what the two streams took, of words with a space between.
+pub fn run_files(
+    alloc: Global,
+    line: &str,
+    files: Vec<MemFile>,
+    failing: Failing<'_>,
+) -> Result<(u8, MemSink, MemSink), AllocError> {
+    let mut words = Vec::new(alloc);
+    if !line.is_empty() {
+        for word in line.split(' ') {
+            words.push(String::from_str(alloc, word)?)?;
+        }
+    }
+    let mut files = MemFiles::new(alloc, files, &[], failing.reads)?;
+    let mut out = MemSink::new(alloc, failing.outs)?;
+    let mut audit = MemSink::new(alloc, failing.audits)?;
+    let status = start(alloc, &words, &mut files, &mut out, &mut audit)?;
+    Ok((status.number(), out, audit))
+}
+
+/// The same over the policies `p` and `q` and a recording of the name `t`.
 pub fn run_over(
     alloc: Global,
     line: &str,
@@ -135,15 +165,7 @@ pub fn run_over(
         file(alloc, "q", BAD_POLICY)?,
         file(alloc, "t", traffic)?,
     ]?;
-    let mut words = Vec::new(alloc);
-    for word in line.split_ascii_whitespace() {
-        words.push(String::from_str(alloc, word)?)?;
-    }
-    let mut files = MemFiles::new(alloc, files, &[], failing.reads)?;
-    let mut out = MemSink::new(alloc, failing.outs)?;
-    let mut audit = MemSink::new(alloc, failing.audits)?;
-    let status = run(alloc, &words, &mut files, &mut out, &mut audit);
-    Ok((status.number(), out, audit))
+    run_files(alloc, line, files, failing)
 }
 
 #[test]

@@ -1,48 +1,115 @@
 //! The forms of the command line.
-ghost use Rattle.std.specs.Prelude.{◌≡◌, ◌∷◌, [], None, Some, MatchOption};
-ghost use Rattle.lnfs_program.specs.Words.{form_of, texts, named, help_text, version_text};
+ghost use Rattle.std.specs.Prelude.{◌≡◌, ◌∷◌, [], None, IfOk, MatchOption};
+ghost use Rattle.lnfs_program.specs.Runs.{held};
+ghost use Rattle.lnfs_program.specs.Words.{form_of, texts, named, pair_in, bytes_in, help_text, version_text};
+
+use hex::FromHexError;
+use lnfs_map::Pair;
+use lnfs_policy::number;
+use std::alloc::{AllocError, Global};
+
+/// The longest word that spells bytes, in digits.
+const MAX_HEX: usize = 2048;
 
 const VERSION: &str = "lnfs 0.1.0\n";
 
-const HELP: &str = "usage: lnfs replay POLICY TRAFFIC\n\
+const HELP: &str = "usage: lnfs check POLICY\n\
+usage: lnfs translate POLICY LFS PI HEX LFS PI\n\
+usage: lnfs replay POLICY TRAFFIC\n\
 usage: lnfs --help\n\
 usage: lnfs --version\n\
+\n\
+check shows the lines of POLICY, without comments and empty lines.\n\
+\n\
+translate shows in hex, with a newline, the bytes that spell a label in the second\n\
+format, by its number LFS and its policy identifier PI, where the bytes HEX spell\n\
+that label in the first.\n\
 \n\
 replay serves the events of the recording TRAFFIC, one after another, in a new\n\
 server under POLICY. Standard output gets the reply to each, as a record with its\n\
 fragment head (RFC 5531). Standard error gets one audit line for each refusal,\n\
-EVENT PLACE NUMBER GATE STATUS, and a line that begins with 'fault' where the run\n\
-ends with status 2, 3, 4 or 9.\n\
+EVENT PLACE NUMBER GATE STATUS.\n\
+\n\
+Standard error gets a line that begins with 'fault' where the run ends with status\n\
+2, 3, 4, 9 or 10.\n\
 \n\
 exit status:\n\
 0 all was written\n\
-2 the words are no form of the above\n\
+2 the words are no form of the above, or POLICY of replay has the mode limited\n\
 3 POLICY is refused\n\
 4 TRAFFIC is damaged; the events before the damage were served\n\
 5 a file could not be read\n\
 6 a stream could not be written\n\
 7 there was no memory\n\
-9 there is no such file\n";
+9 there is no such file\n\
+10 the label has no translation\n";
 
 /// What the words ask for.
 #[derive(Clone, Copy, Debug, Drop)]
 pub enum Command<'a> {
     Help,
     Version,
-    Replay { policy: &'a str, traffic: &'a str },
+    Check {
+        policy: &'a str,
+    },
+    Replay {
+        policy: &'a str,
+        traffic: &'a str,
+    },
+    /// It is none of the command line where `hex` spells no bytes.
+    Translate {
+        policy: &'a str,
+        source: Pair,
+        target: Pair,
+        hex: &'a str,
+    },
 }
 
 /// What the words ask for; none where they are no form of the command line.
 pub fn command_of<'a>(words: &'a [String]) -> Option<Command<'a>>
-    ensures { MatchOption result (form_of (texts words.now) ≡ None) (λ command. form_of (texts words.now) ≡ Some (named command)) }
+    ensures { MatchOption result (form_of (texts words.now) ≡ None) (λ command. form_of (texts words.now) ≡ named command) }
 {
     match words {
         [word] => option_of(word),
+        [word, policy] if word.as_str() == "check" => Some(Command::Check {
+            policy: policy.as_str(),
+        }),
         [word, policy, traffic] if word.as_str() == "replay" => Some(Command::Replay {
             policy: policy.as_str(),
             traffic: traffic.as_str(),
         }),
+        [word, policy, lfs, pi, hex, to_lfs, to_pi] if word.as_str() == "translate" => {
+            Some(Command::Translate {
+                policy: policy.as_str(),
+                source: pair_of(lfs, pi)?,
+                target: pair_of(to_lfs, to_pi)?,
+                hex: hex.as_str(),
+            })
+        }
         _ => None,
+    }
+}
+
+/// The format that two words name.
+fn pair_of(lfs: &str, pi: &str) -> Option<Pair>
+    ensures { result ≡ pair_in lfs.now pi.now }
+{
+    let lfs = number(lfs.as_bytes()).ok()?;
+    let pi = number(pi.as_bytes()).ok()?;
+    Some(Pair { lfs, pi })
+}
+
+/// The bytes that a word spells in hex, where they are at most 1,024.
+pub fn bytes_of(alloc: Global, hex: &str) -> Result<Option<Vec<u8>>, AllocError>
+    ensures { IfOk result (λ bytes. held bytes ≡ bytes_in hex.now) }
+{
+    if hex.len() > MAX_HEX {
+        return Ok(None);
+    }
+    match hex::decode(alloc, hex.as_bytes()) {
+        Ok(bytes) => Ok(Some(bytes)),
+        Err(FromHexError::OutOfMemory) => Err(AllocError),
+        Err(_) => Ok(None),
     }
 }
 
@@ -62,7 +129,7 @@ pub fn version() -> &'static str
 
 /// What a word asks for that stands alone.
 fn option_of<'a>(word: &str) -> Option<Command<'a>>
-    ensures { MatchOption result (form_of (word.now ∷ []) ≡ None) (λ command. form_of (word.now ∷ []) ≡ Some (named command)) }
+    ensures { MatchOption result (form_of (word.now ∷ []) ≡ None) (λ command. form_of (word.now ∷ []) ≡ named command) }
 {
     match word {
         "--help" => Some(Command::Help),
