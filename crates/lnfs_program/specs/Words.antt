@@ -62,7 +62,7 @@ named Help = Some help
 named Version = Some version
 named (Check policy) = Some (under policy.now check)
 named (Replay policy traffic) = Some (under policy.now (replay traffic.now))
-named (Translate policy source target hex) = translation policy.now (Some source) (Some target) (bytes_in hex.now)
+named (Translate policy pairs hex) = translation policy.now (Some pairs.0) (Some pairs.1) (bytes_in hex.now)
 
 -- the words' bytes
 abbrev pub texts : List (String Global) → List (List ℕ)

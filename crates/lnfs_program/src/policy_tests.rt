@@ -9,35 +9,18 @@ type Row = (&'static str, u8, &'static [u8], &'static [u8]);
 
 const USAGE: &[u8] = b"fault 2 usage\n";
 
-/// The policy with another text in the place of a line, counted from 1.
-fn with_line(alloc: Global, number: usize, text: &[u8]) -> Result<Vec<u8>, AllocError> {
-    let mut policy = Vec::new(alloc);
-    let mut at = 1;
-    for b in POLICY {
-        if at != number {
-            policy.push(*b)?;
-        }
-        if *b == b'\n' {
-            if at == number {
-                policy.extend_from_slice(text)?;
-            }
-            at += 1;
-        }
-    }
-    Ok(policy)
-}
-
 /// The policy `p`, and others that differ from it in a line.
 fn policies(alloc: Global) -> Result<Vec<MemFile>, AllocError> {
-    let cases: [(&str, usize, &[u8]); 4] = [
-        ("commented", 3, b"# a comment\n\nlevel 0 1 0 -\n#\n"),
-        ("level", 4, b"level 1 2 1 c0\n"),
-        ("guest", 12, b"guest 0 * 9\n"),
-        ("limited", 2, b"mode limited\n"),
+    let cases: [(&str, &str, &str); 4] = [
+        ("commented", "level 0", "# a comment\n\n#\nlevel 0"),
+        ("level", "level 1 1 1 c0", "level 1 2 1 c0"),
+        ("guest", "guest 0 * 0", "guest 0 * 9"),
+        ("limited", "mode enforcing", "mode limited"),
     ];
-    let mut files = vec![in alloc; file(alloc, "p", POLICY)?]?;
-    for (name, number, text) in cases {
-        files.push(file(alloc, name, &with_line(alloc, number, text)?)?)?;
+    let mut files = vec![in alloc; file(alloc, "p", POLICY.as_bytes())?]?;
+    for (name, from, to) in cases {
+        let text = POLICY.replace(alloc, from, to)?;
+        files.push(file(alloc, name, text.as_bytes())?)?;
     }
     Ok(files)
 }
@@ -55,8 +38,8 @@ fn are_run(rt: &impl Abort, alloc: Global, rows: &[Row]) -> Result<(), AllocErro
 #[test]
 fn policies_are_checked(rt: HostRuntime) -> Result<(), AllocError> {
     let rows: [Row; 8] = [
-        ("check p", 0, POLICY, b""),
-        ("check commented", 0, POLICY, b""),
+        ("check p", 0, POLICY.as_bytes(), b""),
+        ("check commented", 0, POLICY.as_bytes(), b""),
         (
             "check level",
             3,
@@ -75,10 +58,10 @@ fn policies_are_checked(rt: HostRuntime) -> Result<(), AllocError> {
         ("replay limited no", 2, b"", USAGE),
     ];
     are_run(&rt, rt.alloc(), &rows)?;
-    let limited = with_line(rt.alloc(), 2, b"mode limited\n")?;
+    let limited = POLICY.replace(rt.alloc(), "mode enforcing", "mode limited")?;
     let (status, out, audit) = run_files(rt.alloc(), "check limited", policies(rt.alloc())?, NONE)?;
     assert_eq!(rt; status, 0);
-    assert!(rt; out.bytes() == limited.as_slice(), "out");
+    assert!(rt; out.bytes() == limited.as_bytes(), "out");
     assert!(rt; audit.bytes().is_empty(), "audit");
     Ok(())
 }

@@ -37,20 +37,13 @@ fn judge<F: Files, K: Sink, A: Sink>(
             let task = Task::Replay { traffic };
             under(alloc, codecs, policy, task, files, out, audit)
         }
-        Some(
-            Command::Translate {
-                policy,
-                source,
-                target,
-                hex,
-            },
-        ) => {
+        Some(Command::Translate { policy, pairs, hex }) => {
             let Some(bytes) = bytes_of(alloc, hex)? else {
                 return Ok(Status::Usage);
             };
             let task = Task::Translate {
-                source,
-                target,
+                source: pairs.0,
+                target: pairs.1,
                 bytes: &bytes,
             };
             under(alloc, codecs, policy, task, files, out, audit)

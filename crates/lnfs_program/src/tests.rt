@@ -6,7 +6,7 @@ use lnfs_outside::{MemFile, MemFiles, MemSink};
 use std::alloc::{AllocError, Global};
 
 /// Levels 1 and 2 don't compare, and level 3 is above all.
-pub const POLICY: &[u8] = b"lnfs-policy 1
+pub const POLICY: &str = "lnfs-policy 1
 mode enforcing
 level 0 1 0 -
 level 1 1 1 c0
@@ -161,7 +161,7 @@ pub fn run_over(
     failing: Failing<'_>,
 ) -> Result<(u8, MemSink, MemSink), AllocError> {
     let files = vec![in alloc;
-        file(alloc, "p", POLICY)?,
+        file(alloc, "p", POLICY.as_bytes())?,
         file(alloc, "q", BAD_POLICY)?,
         file(alloc, "t", traffic)?,
     ]?;

@@ -56,11 +56,10 @@ pub enum Command<'a> {
         policy: &'a str,
         traffic: &'a str,
     },
-    /// It is none of the command line where `hex` spells no bytes.
+    /// From the first format to the second. It is none of the command line where `hex` spells no bytes.
     Translate {
         policy: &'a str,
-        source: Pair,
-        target: Pair,
+        pairs: (Pair, Pair),
         hex: &'a str,
     },
 }
@@ -81,8 +80,7 @@ pub fn command_of<'a>(words: &'a [String]) -> Option<Command<'a>>
         [word, policy, lfs, pi, hex, to_lfs, to_pi] if word.as_str() == "translate" => {
             Some(Command::Translate {
                 policy: policy.as_str(),
-                source: pair_of(lfs, pi)?,
-                target: pair_of(to_lfs, to_pi)?,
+                pairs: (pair_of(lfs, pi)?, pair_of(to_lfs, to_pi)?),
                 hex: hex.as_str(),
             })
         }

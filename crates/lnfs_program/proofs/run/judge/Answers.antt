@@ -20,4 +20,4 @@ pub returns-in_default-clause-judges : goal.returns-in_default-clause-judges
 returns-in_default-clause-judges g c =
     let t = c.in-Some-Translate in
     let none = sym c.in_ok-bytes-in-Some-Translate.ensures ∙ ap held c.in_default.is in
-    judges_usage _ (t.ensures ∙ ap named t.field-0-is ∙ ap (translation t.policy.now (Some t.source) (Some t.target)) none) refl
+    judges_usage _ (t.ensures ∙ ap named t.field-0-is ∙ ap (translation t.policy.now (Some t.pairs.0) (Some t.pairs.1)) none) refl
