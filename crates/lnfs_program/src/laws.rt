@@ -1,7 +1,12 @@
 //! What the definitions mean: facts about them alone.
-ghost use Rattle.std.specs.Prelude.{◌≡◌, ◌≤◌, ◌↔◌, ◌++◌, List, ℕ, true, take, length};
+ghost use Rattle.std.specs.Prelude.{◌≡◌, ◌≤◌, ◌↔◌, ◌++◌, List, ℕ, Ok, true, take, length};
 ghost use Rattle.std.specs.declared.option.Option.{Option};
+ghost use Rattle.lnfs_map.specs.Kept.{IsOneLevel, dom_by};
+ghost use Rattle.lnfs_map.specs.Translated.{translated};
+ghost use Rattle.lnfs_map.specs.declared.table.Pair.{Pair};
 ghost use Rattle.lnfs_outside.specs.declared.event.Event.{Event};
+ghost use Rattle.lnfs_policy.specs.Policy.{Policy};
+ghost use Rattle.lnfs_policy.specs.PolicyText.{policy_of};
 ghost use Rattle.lnfs_program.specs.Recording.{IsRecording, begins, is_recording, place_of};
 ghost use Rattle.lnfs_program.specs.Writes.{on_out, on_audit, writes_after, frames_after, lines_after};
 
@@ -18,3 +23,19 @@ pub fn streams()
     ensures out { (reply line : List Event → Event → Option (List ℕ)) (journal events : List Event) → on_out (writes_after reply line journal events) ≡ frames_after reply journal events }
     ensures audit { (reply line : List Event → Event → Option (List ℕ)) (journal events : List Event) → on_audit (writes_after reply line journal events) ≡ lines_after line journal events }
 {}
+
+/// Under a policy a translation keeps the level, and so dominance in both directions.
+pub fn translation()
+    ensures level { (text : List ℕ) (p : Policy) → policy_of text ≡ Ok p
+        → (source target : Pair) (bytes spelled : List ℕ)
+        → translated p.formats p.labels source target bytes ≡ Ok spelled
+        → IsOneLevel p.formats p.labels source target bytes spelled }
+    ensures dominance { (text : List ℕ) (p : Policy) → policy_of text ≡ Ok p
+        → (source target : Pair) (a b spelled_a spelled_b : List ℕ)
+        → translated p.formats p.labels source target a ≡ Ok spelled_a
+        → translated p.formats p.labels source target b ≡ Ok spelled_b
+        → dom_by p.formats p.labels target spelled_a spelled_b ≡ dom_by p.formats p.labels source a b }
+{
+    lnfs_policy::laws::site();
+    lnfs_map::laws::translation();
+}
