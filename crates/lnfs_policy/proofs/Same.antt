@@ -74,7 +74,7 @@ module _ (k : List ℕ) (ls : List Line) (text : List ℕ) where
   format_added lfs pi word e (Some s) h =
       let line = format_line lfs pi word in
       let row : FormatRow = record { lfs = lfs; pi = pi; spelling = s } in
-      rw h (tested (format_fits (rows_of ls) lfs pi (Some s)) because.Format (record (tables k ls) { rows = rows_of ls ++ row ∷ [] }) line
+      rw h (tested (format_fits (rows_of ls) lfs pi) because.Format (record (tables k ls) { rows = rows_of ls ++ row ∷ [] }) line
       ((λ i. record (settled line) { rows = and_some (rows_of ls) (option_map (λ s. record { lfs = lfs; pi = pi; spelling = s }) (sym h i)) }) ∙ settle line e))
 
   name_added : (lfs pi level : ℕ) (hex : List ℕ) → in_order ls (name_line lfs pi level hex) ≡ true

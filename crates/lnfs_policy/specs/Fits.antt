@@ -1,5 +1,5 @@
 -- The rules of a line of the policy file after the lines before it: one definition for each kind.
-use Rattle.std.specs.Prelude.{ℕ, ◌==◌, ◌&&◌, ◌||◌, Bool, true, false, not, if◌then◌else◌, nat_lt, nat_le, List, [], ◌∷◌, length, Option, Some, None, option_map, find, codes}
+use Rattle.std.specs.Prelude.{ℕ, ◌==◌, ◌&&◌, ◌||◌, Bool, true, false, not, if◌then◌else◌, nat_lt, nat_le, List, [], ◌∷◌, length, Option, Some, None, is_some, option_map, find, codes}
 use Rattle.std.specs.List.{list_all, list_any, slice_index_or}
 use Rattle.lnfs_calipso.specs.Label.{Label, dominates, dom_of}
 use Rattle.lnfs_calipso.specs.Same.{same_list, same_label}
@@ -55,9 +55,8 @@ level_fits labels place (Some label) = place == length labels && is_next labels 
 abbrev pub is_pair : (lfs pi : ℕ) → FormatRow → Bool
 is_pair lfs pi row = row.lfs == lfs && row.pi == pi
 
-abbrev pub format_fits : List FormatRow → (lfs pi : ℕ) → Option Spelling → Bool
-format_fits rows lfs pi None = false
-format_fits rows lfs pi (Some spelling) = nat_lt (length rows) max_formats && not (list_any (is_pair lfs pi) rows)
+abbrev pub format_fits : List FormatRow → (lfs pi : ℕ) → Bool
+format_fits rows lfs pi = nat_lt (length rows) max_formats && not (list_any (is_pair lfs pi) rows)
 
 -- ---- name
 
@@ -134,7 +133,7 @@ abbrev pub fits : List Line → Line → Bool
 fits before version_line = true
 fits before (mode_line mode) = true
 fits before (level_line place doi sens comps) = level_fits (labels_of before) place (label_of doi sens comps)
-fits before (format_line lfs pi word) = format_fits (rows_of before) lfs pi (spelling_of word)
+fits before (format_line lfs pi word) = is_some (spelling_of word) && format_fits (rows_of before) lfs pi
 fits before (name_line lfs pi level hex) = name_fits (labels_of before) (rows_of before) (names_of before) lfs pi level (hex_of hex)
 fits before (parent_line number hex level) = parent_fits (labels_of before) (is_taken (parents_of before) number) (hex_sized 32 hex) level
 fits before (guest_line class uid level) = guest_fits (labels_of before) class level

@@ -60,7 +60,7 @@ add_label read place (Some label) = do
 abbrev pub add_format : Read → (lfs pi : ℕ) → Option Spelling → Result Read Cause
 add_format read lfs pi None = Err because.Format
 add_format read lfs pi (Some spelling) = do
-  _ ← demand (format_fits read.rows lfs pi (Some spelling)) because.Format
+  _ ← demand (format_fits read.rows lfs pi) because.Format
   Ok (record read { rows = read.rows ++ record { lfs = lfs; pi = pi; spelling = spelling } ∷ [] })
 
 abbrev pub add_name : Read → (lfs pi level : ℕ) → Option (List ℕ) → Result Read Cause

@@ -17,16 +17,16 @@ use lnfs_format::read_comps;
 use std::alloc::{AllocError, Global};
 
 /// The most levels of a site.
-pub const MAX_LEVELS: usize = 32;
+const MAX_LEVELS: usize = 32;
 
 /// The most formats of a site.
-pub const MAX_FORMATS: usize = 8;
+const MAX_FORMATS: usize = 8;
 
 /// The highest class of a guest.
-pub const MAX_CLASS: u32 = 7;
+const MAX_CLASS: u32 = 7;
 
 /// The most directories of a policy.
-pub const MAX_DIRS: usize = 256;
+const MAX_DIRS: usize = 256;
 
 /// The most names of a path.
 const MAX_COMPONENTS: usize = 16;
@@ -104,7 +104,7 @@ fn has_pair(rows: &[FormatRow], lfs: u32, pi: u32) -> bool
 
 /// Whether a format may come next: there is room, and its number and policy identifier are new together.
 pub fn format_fits(rows: &[FormatRow], lfs: u32, pi: u32) -> bool
-    ensures { result ≡ format_fits rows.now lfs pi (Some Spelling.Calipso) }
+    ensures { result ≡ format_fits rows.now lfs pi }
 {
     rows.len() < MAX_FORMATS && !has_pair(rows, lfs, pi)
 }
@@ -127,13 +127,14 @@ fn is_same(a: &[u8], b: &[u8]) -> bool
 }
 
 impl LevelName {
-    /// Whether the name has the level or the bytes in the same format.
-    fn clashes(&self, lfs: u32, pi: u32, level: u32, bytes: &[u8]) -> bool
-        ensures { result ≡ clashes lfs pi level bytes.now self.now }
+    /// Whether a later name has the level or the bytes in the same format.
+    fn clashes(&self, later: &LevelName) -> bool
+        ensures { result ≡ clashes later.now.lfs later.now.pi later.now.level.0 later.now.bytes self.now }
     {
-        self.lfs == lfs
-            && self.pi == pi
-            && (self.level.0 == level || is_same(self.bytes.as_slice(), bytes))
+        self.lfs == later.lfs
+            && self.pi == later.pi
+            && (self.level.0 == later.level.0
+                || is_same(self.bytes.as_slice(), later.bytes.as_slice()))
     }
 }
 
@@ -143,10 +144,10 @@ fn has_table(rows: &[FormatRow], lfs: u32, pi: u32) -> bool
     rows.iter().any(|row| row.lfs == lfs && row.pi == pi && row.spelling.is_table())
 }
 
-fn has_clash(names: &[LevelName], lfs: u32, pi: u32, level: u32, bytes: &[u8]) -> bool
-    ensures { result ≡ list_any (clashes lfs pi level bytes.now) names.now }
+fn has_clash(names: &[LevelName], name: &LevelName) -> bool
+    ensures { result ≡ list_any (clashes name.now.lfs name.now.pi name.now.level.0 name.now.bytes) names.now }
 {
-    names.iter().any(|name| name.clashes(lfs, pi, level, bytes))
+    names.iter().any(|earlier| earlier.clashes(name))
 }
 
 /// Whether a name may come next: the format is one of names, the level is known, both level and bytes are new in
@@ -156,17 +157,15 @@ pub fn name_fits(
     labels: &[Label],
     rows: &[FormatRow],
     names: &[LevelName],
-    name: (u32, u32, u32),
-    bytes: &[u8],
+    name: &LevelName,
 ) -> bool
-    ensures { result ≡ name_fits labels.now rows.now names.now name.0 name.1 name.2 (Some bytes.now) }
+    ensures { result ≡ name_fits labels.now rows.now names.now name.now.lfs name.now.pi name.now.level.0 (Some name.now.bytes) }
 {
-    let (lfs, pi, level) = name;
-    has_table(rows, lfs, pi)
-        && is_known(labels, level)
-        && !has_clash(names, lfs, pi, level, bytes)
-        && !bytes.is_empty()
-        && bytes.len() <= MAX_SPELLING
+    has_table(rows, name.lfs, name.pi)
+        && is_known(labels, name.level.0)
+        && !has_clash(names, name)
+        && !name.bytes.is_empty()
+        && name.bytes.len() <= MAX_SPELLING
 }
 
 /// Whether a guest's class and level are some.

@@ -119,21 +119,16 @@ impl Reading {
         let Some(bytes) = hex_of(self.alloc, hex)? else {
             return Err(Stop::Broken(Cause::Name));
         };
-        if !name_fits(
-            &self.labels,
-            &self.rows,
-            &self.names,
-            (lfs, pi, level),
-            &bytes,
-        ) {
-            return Err(Stop::Broken(Cause::Name));
-        }
-        self.names.push(LevelName {
+        let name = LevelName {
             lfs,
             pi,
             level: Level(level),
             bytes: Octets::new(bytes),
-        })?;
+        };
+        if !name_fits(&self.labels, &self.rows, &self.names, &name) {
+            return Err(Stop::Broken(Cause::Name));
+        }
+        self.names.push(name)?;
         Ok(())
     }
 
