@@ -68,7 +68,7 @@ fn policies_are_checked(rt: HostRuntime) -> Result<(), AllocError> {
 
 #[test]
 fn labels_are_translated(rt: HostRuntime) -> Result<(), AllocError> {
-    let rows: [Row; 11] = [
+    let rows: [Row; 4] = [
         (
             "translate p 101 1 000000010103e4000000 102 1",
             0,
@@ -93,6 +93,13 @@ fn labels_are_translated(rt: HostRuntime) -> Result<(), AllocError> {
             b"6f70656e\n",
             b"",
         ),
+    ];
+    are_run(&rt, rt.alloc(), &rows)
+}
+
+#[test]
+fn labels_without_a_translation(rt: HostRuntime) -> Result<(), AllocError> {
+    let rows: [Row; 7] = [
         (
             "translate p 101 1 000000010103e4000000 103 0",
             10,

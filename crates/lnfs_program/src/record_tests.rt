@@ -70,7 +70,7 @@ fn check(rt: &impl Abort, alloc: Global, rows: &[Row]) -> Result<(), AllocError>
 }
 
 #[test]
-fn calls(rt: HostRuntime) -> Result<(), AllocError> {
+fn programs_and_procedures(rt: HostRuntime) -> Result<(), AllocError> {
     let rows = [
         Row {
             name: "another version of RPC",
@@ -114,6 +114,13 @@ fn calls(rt: HostRuntime) -> Result<(), AllocError> {
             reply: [&[], &[]],
             line: b"",
         },
+    ];
+    check(&rt, rt.alloc(), &rows)
+}
+
+#[test]
+fn credentials(rt: HostRuntime) -> Result<(), AllocError> {
+    let rows = [
         Row {
             name: "a flavor that isn't served",
             record: [CALL, &[6, 0, 0, 0], &[0, 2, 1]],
@@ -153,7 +160,7 @@ fn short_record(rt: HostRuntime) -> Result<(), AllocError> {
 }
 
 #[test]
-fn compounds(rt: HostRuntime) -> Result<(), AllocError> {
+fn operations(rt: HostRuntime) -> Result<(), AllocError> {
     let rows = [
         Row {
             name: "EXCHANGE_ID",
@@ -215,6 +222,13 @@ fn compounds(rt: HostRuntime) -> Result<(), AllocError> {
             reply: [ACCEPTED, &[0, 10_004, 0, 1, 34, 10_004, 0]],
             line: b"1 1 34 X 10004\n",
         },
+    ];
+    check(&rt, rt.alloc(), &rows)
+}
+
+#[test]
+fn arguments_and_counts(rt: HostRuntime) -> Result<(), AllocError> {
+    let rows = [
         Row {
             name: "a boolean of 2 in SEQUENCE",
             record: [CALL, SYS, &[0, 2, 1, 53, 0, 0, 0, 0, 0, 0, 0, 2]],

@@ -72,8 +72,8 @@ fn play<F: Files, K: Sink, A: Sink>(
 }
 
 /// Does what the words say: reads the files that they name, hands each frame and each text to `out`
-/// and each line to `audit`, and answers how it ended. The codecs read and write the labels. Where a call of the outside failed, or there
-/// was no memory, it gives up there.
+/// and each line to `audit`, and answers how it ended. The codecs read and write labels. Where a call
+/// of the outside failed, or there was no memory, it gives up there.
 pub fn run<F: Files, K: Sink, A: Sink>(
     alloc: Global,
     words: &[String],

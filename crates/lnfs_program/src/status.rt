@@ -37,7 +37,7 @@ impl MapCause {
 pub enum Status {
     /// All that is due was written.
     Ok,
-    /// The words are no form of the command line.
+    /// The words are no form of the command line, or a replay is asked under a limited policy.
     Usage,
     /// The policy's text is refused: the first line that breaks a rule, counted from 1, and the rule.
     PolicyRefused { line: u64, cause: Cause },

@@ -112,6 +112,7 @@ fn recording(alloc: Global, events: &[(u8, [u8; 108])]) -> Result<Vec<u8>, Alloc
     Ok(traffic)
 }
 
+/// A file of a name.
 pub fn file(alloc: Global, name: &str, content: &[u8]) -> Result<MemFile, AllocError> {
     Ok(MemFile {
         name: Text::copy_of(alloc, name)?,
