@@ -2,8 +2,8 @@
 use Rattle.std.proofs.Common.{◌≡◌, ℕ, ◌≤◌, List, length, Result, Ok, Err, subst}
 use Rattle.std.specs.Prelude.{IfOk}
 use Rattle.lnfs_xdr.proofs.Fields.{IsBytes}
-use Rattle.lnfs_arguments.specs.Message.{Tells, Refuses, RefusesAt, parse}
-use Rattle.lnfs_arguments.proofs.Messages.{tells, told, refuses, refused, refused_short}
+use Rattle.lnfs_xdr.specs.Message.{Tells, Refuses, RefusesAt, parse}
+use Rattle.lnfs_xdr.proofs.Messages.{tells, told, refuses, refused, refused_short}
 use Rattle.lnfs_arguments.specs.Further.{Further}
 use Rattle.lnfs_arguments.specs.declared.halt.CompoundError.{CompoundError}
 use Rattle.lnfs_arguments.specs.declared.halt.CompoundError.TheVariants as errors

@@ -1,4 +1,3 @@
 pub mod Shared
-pub mod Messages
 pub mod Steps
 pub mod Exact

@@ -10,7 +10,7 @@ use Rattle.lnfs_arguments.specs.declared.types.Op.{Op}
 use Rattle.lnfs_arguments.specs.declared.types.Op.TheVariants as ops
 use Rattle.lnfs_arguments.specs.Grammar.{arguments}
 use Rattle.lnfs_arguments.specs.Further.{Further}
-use Rattle.lnfs_arguments.specs.Message.{Next, Measured, decided, cut_at, parse}
+use Rattle.lnfs_xdr.specs.Message.{Next, Measured, decided, cut_at, parse}
 use Rattle.lnfs_arguments.specs.Whole.{operations, ended, chosen, with_op, operation_at, further_at}
 
 -- what follows an operation that was read

@@ -1,6 +1,7 @@
 -- The arguments of operations, one block each (RFC 8881 section 18), and the table by number.
-use Rattle.std.specs.Prelude.{ℕ, List, [], ◌∷◌, Option, Some, None, ◌==◌, nat_le}
+use Rattle.std.specs.Prelude.{ℕ, List, [], ◌∷◌, Option, Some, None, ◌==◌, if◌then◌else◌}
 use Rattle.lnfs_xdr.specs.Format.{Word, Long, Boolean, Opaque, Fixed, Outside, Done, ◌>>=◌, when◌then◌else◌, array, optional}
+use Rattle.lnfs_xdr.specs.AuthSys.{auth_sys}
 use Rattle.lnfs_attrs.specs.Parsing.{Args}
 use Rattle.lnfs_attrs.specs.Bitmaps.{bitmap}
 use Rattle.lnfs_arguments.specs.declared.types.Sequence.{Sequence}
@@ -16,7 +17,9 @@ use Rattle.lnfs_arguments.specs.declared.types.CreateSession.{CreateSession}
 use Rattle.lnfs_arguments.specs.declared.types.Implementation.{Implementation}
 use Rattle.lnfs_arguments.specs.declared.types.Op.{Op}
 use Rattle.lnfs_arguments.specs.declared.types.Op.TheVariants as ops
-use Rattle.lnfs_arguments.specs.Numbers.{op_access, op_close, op_commit, op_create, op_getattr, op_getfh, op_link, op_lookup, op_lookupp, op_nverify, op_open, op_putfh, op_putrootfh, op_read, op_readdir, op_readlink, op_remove, op_rename, op_restorefh, op_savefh, op_setattr, op_verify, op_write, op_exchange_id, op_create_session, op_destroy_session, op_sequence, op_destroy_clientid, op_reclaim_complete, op_first, op_last, op_illegal, inval, notsupp, badtype}
+use Rattle.lnfs_arguments.specs.Numbers.{op_access, op_close, op_commit, op_create, op_getattr, op_getfh, op_link, op_lookup, op_lookupp, op_nverify, op_open, op_putfh, op_putrootfh, op_read, op_readdir, op_readlink, op_remove, op_rename, op_restorefh, op_savefh, op_setattr, op_verify, op_write, op_exchange_id, op_create_session, op_destroy_session, op_sequence, op_destroy_clientid, op_reclaim_complete, is_operation}
+use Rattle.lnfs_arguments.specs.declared.numbers.TheConstants.{DATA_LIMIT}
+use Rattle.lnfs_arguments.specs.declared.statuses.TheConstants.{NFS4ERR_INVAL, NFS4ERR_NOTSUPP, NFS4ERR_BADTYPE, NFS4ERR_OP_ILLEGAL}
 use Rattle.lnfs_arguments.specs.Shared.{attrs, state_id, channel}
 
 -- ---- names and handles
@@ -39,7 +42,7 @@ what = do
     text ← name
     Done (Symlink text))
       else when kind == 2 then Done Dir
-      else Outside (op_create, badtype)
+      else Outside (op_create, NFS4ERR_BADTYPE)
 
 unfoldable pub create : Args Op
 create = do
@@ -140,7 +143,7 @@ writing = do
   id ← state_id
   offset ← Long
   stable ← Word
-  content ← Opaque 131072
+  content ← Opaque DATA_LIMIT
   Done (ops.Write id offset stable content)
 
 -- ---- section 18.16
@@ -155,12 +158,12 @@ created = do
       else when mode == 1 then (do
         given ← attrs
         Done (Guarded given))
-      else when mode == 2 then Outside (op_open, notsupp)
+      else when mode == 2 then Outside (op_open, NFS4ERR_NOTSUPP)
       else when mode == 3 then (do
         verifier ← Fixed 8
         given ← attrs
         Done (Exclusive verifier given))
-      else Outside (op_open, inval)
+      else Outside (op_open, NFS4ERR_INVAL)
 
 unfoldable pub making : Args (Option Making)
 making = do
@@ -169,7 +172,7 @@ making = do
       else when kind == 1 then (do
         made ← created
         Done (Some made))
-      else Outside (op_open, inval)
+      else Outside (op_open, NFS4ERR_INVAL)
 
 unfoldable pub claim : Args Claim
 claim = do
@@ -178,7 +181,7 @@ claim = do
     called ← name
     Done (Name called))
       else when kind == 4 then Done Handle
-      else Outside (op_open, notsupp)
+      else Outside (op_open, NFS4ERR_NOTSUPP)
 
 unfoldable pub opening : Args Op
 opening = do
@@ -214,26 +217,22 @@ exchange_id = do
   when how == 0 then (do
     made ← who_made
     Done (ops.ExchangeId verifier owner flags made))
-      else Outside (op_exchange_id, inval)
+      else Outside (op_exchange_id, NFS4ERR_INVAL)
 
--- section 18.36; an AUTH_SYS body is that of RFC 5531 appendix A
+-- section 18.36
 unfoldable pub callback : Args Callback
 callback = do
   flavor ← Word
   when flavor == 0 then Done Nothing
       else when flavor == 1 then (do
-        stamp ← Word
-        machine ← Opaque 255
-        uid ← Word
-        gid ← Word
-        gids ← array 16 Word
-        Done (Sys stamp machine uid gid gids))
+        body ← auth_sys
+        Done (Sys body.stamp body.machine body.uid body.gid body.gids))
       else when flavor == 6 then (do
         service ← Word
         server ← Opaque 1024
         client ← Opaque 1024
         Done (Gss service server client))
-      else Outside (op_create_session, inval)
+      else Outside (op_create_session, NFS4ERR_INVAL)
 
 unfoldable pub create_session : Args CreateSession
 create_session = do
@@ -320,9 +319,7 @@ table = (op_access, access)
 
 -- an operation of minor version 2 that isn't served, or none at all; the number is kept as it was sent
 abbrev pub unserved : ℕ → Args Op
-unserved number =
-    when nat_le op_first number then when nat_le number op_last then Outside (number, notsupp) else Outside (number, op_illegal)
-    else Outside (number, op_illegal)
+unserved number = Outside (number, if is_operation number then NFS4ERR_NOTSUPP else NFS4ERR_OP_ILLEGAL)
 
 -- the entry of a number
 abbrev pub entry : List (ℕ × Args Op) → ℕ → Args Op

@@ -5,5 +5,5 @@ pub mod Numbers
 pub mod Numbered
 pub mod Grammar
 pub mod Further
-pub mod Message
+pub mod Lawful
 pub mod Whole

@@ -1,8 +1,8 @@
--- The number of an operation (RFC 8881 section 16.2.2).
-use Rattle.std.specs.Prelude.{ℕ}
+-- The number of an operation (RFC 8881 section 16.2.2), and of its result.
+use Rattle.std.specs.Prelude.{ℕ, if◌then◌else◌}
 use Rattle.lnfs_arguments.specs.declared.types.Op.{Op}
 use Rattle.lnfs_arguments.specs.declared.types.Op.TheVariants as ops
-use Rattle.lnfs_arguments.specs.Numbers.{op_access, op_close, op_commit, op_create, op_getattr, op_getfh, op_link, op_lookup, op_lookupp, op_nverify, op_open, op_putfh, op_putrootfh, op_read, op_readdir, op_readlink, op_remove, op_rename, op_restorefh, op_savefh, op_setattr, op_verify, op_write, op_exchange_id, op_create_session, op_destroy_session, op_sequence, op_destroy_clientid, op_reclaim_complete}
+use Rattle.lnfs_arguments.specs.Numbers.{op_access, op_close, op_commit, op_create, op_getattr, op_getfh, op_link, op_lookup, op_lookupp, op_nverify, op_open, op_putfh, op_putrootfh, op_read, op_readdir, op_readlink, op_remove, op_rename, op_restorefh, op_savefh, op_setattr, op_verify, op_write, op_exchange_id, op_create_session, op_destroy_session, op_sequence, op_destroy_clientid, op_reclaim_complete, is_operation, op_illegal}
 
 abbrev pub number_of : Op → ℕ
 number_of (ops.Access bits) = op_access
@@ -36,3 +36,8 @@ number_of (ops.DestroyClientId client) = op_destroy_clientid
 number_of (ops.ReclaimComplete one_fs) = op_reclaim_complete
 number_of (ops.Outside number status) = number
 number_of (ops.Extra number args) = number
+
+-- The number in the operation's result, whatever status it is answered with: its own, and ILLEGAL of one that the protocol doesn't have (RFC 8881 section 18.52).
+abbrev pub result_number : Op → ℕ
+result_number (ops.Outside number status) = if is_operation number then number else op_illegal
+result_number op = number_of op

@@ -1,5 +1,5 @@
 -- The numbers of operations (RFC 8881 section 18) and of the arms of their unions.
-use Rattle.std.specs.Prelude.{ℕ}
+use Rattle.std.specs.Prelude.{ℕ, Bool, nat_le, ◌&&◌}
 
 abbrev pub op_access : ℕ
 op_access = 3
@@ -95,16 +95,10 @@ op_first = 3
 abbrev pub op_last : ℕ
 op_last = 71
 
+-- whether minor version 2 has an operation of the number
+abbrev pub is_operation : ℕ → Bool
+is_operation number = nat_le op_first number && nat_le number op_last
+
 -- in the result of an operation that has no number
 abbrev pub op_illegal : ℕ
 op_illegal = 10044
-
--- NFS4ERR_INVAL, NFS4ERR_NOTSUPP, NFS4ERR_BADTYPE
-abbrev pub inval : ℕ
-inval = 22
-
-abbrev pub notsupp : ℕ
-notsupp = 10004
-
-abbrev pub badtype : ℕ
-badtype = 10007

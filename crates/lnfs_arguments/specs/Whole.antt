@@ -3,10 +3,10 @@ use Rattle.std.specs.Prelude.{◌≡◌, ℕ, zero, suc, ◌+◌, Bool, true, fa
 use Rattle.std.specs.Int.{w32}
 use Rattle.lnfs_xdr.specs.declared.error.XdrError.{XdrError}
 use Rattle.lnfs_xdr.specs.declared.error.XdrError.TheVariants.{Short}
-use Rattle.lnfs_xdr.specs.Format.{Format, Word, Opaque, Done, ◌>>=◌}
+use Rattle.lnfs_xdr.specs.Format.{Format, Word, Opaque, Done, ◌>>=◌, when◌then◌else◌}
 use Rattle.lnfs_xdr.specs.Reading.{Read, Fault, Leaves, read, after, here, number_at}
 use Rattle.lnfs_xdr.specs.Cursor.{Cursor}
-use Rattle.lnfs_arguments.specs.Message.{Message, Closed, Unread, Next, Measured}
+use Rattle.lnfs_xdr.specs.Message.{Message, Closed, Unread, Next, Measured}
 use Rattle.lnfs_arguments.specs.Further.{Further}
 use Rattle.lnfs_arguments.specs.declared.halt.Halt.{Halt}
 use Rattle.lnfs_arguments.specs.declared.halt.Halt.TheVariants as halts
@@ -17,13 +17,15 @@ use Rattle.lnfs_arguments.specs.declared.types.Op.{Op}
 use Rattle.lnfs_arguments.specs.declared.types.Op.TheVariants as ops
 use Rattle.lnfs_arguments.specs.Grammar.{arguments}
 
--- tag, minor version and count, and no operation yet
+-- Tag, minor version and count, and no operation yet. Behind another minor version nothing is read, the count neither.
 unfoldable pub header : Format ⊥ Compound
 header = do
   tag ← Opaque 1024
   minor ← Word
-  count ← Word
-  Done (record { tag = tag; minor = minor; count = count; ops = [] })
+  when minor == 2 then (do
+    count ← Word
+    Done (record { tag = tag; minor = minor; count = count; ops = [] }))
+      else Done (record { tag = tag; minor = minor; count = 0; ops = [] })
 
 -- How many operations are read, and whether what follows them is unread. Of another minor version there is none, and above 32 only the first.
 abbrev pub served : ℕ → ℕ → ℕ
@@ -64,6 +66,13 @@ operation_at x bytes = after (here bytes (number_at w32 bytes)) (λ number rest.
 
 -- ---- what functions promise
 
+-- one that reads tag, minor version and count
+abbrev pub Heads : Result (List ℕ × ℕ × ℕ) Halt → Cursor → Read ⊥ Compound → Type 0
+Heads (Ok x) new r = r ≡ Ok (record { tag = x.0; minor = x.1; count = x.2; ops = [] }, new.rest)
+Heads (Err halts.Memory) new r = Unit {0}
+Heads (Err (halts.Fault c)) new r = r ≡ Err (Fault c new.rest)
+Heads (Err (halts.Outside number status)) new r = ⊥
+
 -- one that reads an operation
 abbrev pub Steps : Result Op Halt → Cursor → Read (ℕ × ℕ) Op → Type 0
 Steps (Ok op) new r = r ≡ Ok (op, new.rest)
@@ -79,13 +88,13 @@ Completes (Err (halts.Fault c)) new r = r ≡ Err new.rest
 Completes (Err (halts.Outside number status)) new r = ⊥
 
 -- one over bytes
-abbrev pub Answers : Result Compound CompoundError → List ℕ → Result Compound (List ℕ) → Type 0
+abbrev pub Answers : {A : Type 0} → Result A CompoundError → List ℕ → Result A (List ℕ) → Type 0
 Answers (Ok x) bytes r = r ≡ Ok x
 Answers (Err errors.Memory) bytes r = Unit {0}
 Answers (Err (errors.Garbage at)) bytes r = (stuck : List ℕ) × (r ≡ Err stuck) × (at + length stuck ≡ length bytes)
 
 -- a fact of the offset that is refused
-abbrev pub IfGarbage : Result Compound CompoundError → (ℕ → Type 0) → Type 0
+abbrev pub IfGarbage : {A : Type 0} → Result A CompoundError → (ℕ → Type 0) → Type 0
 IfGarbage (Ok x) P = Unit {0}
 IfGarbage (Err errors.Memory) P = Unit {0}
 IfGarbage (Err (errors.Garbage at)) P = P at

@@ -1,6 +1,6 @@
-ghost use Rattle.std.specs.Prelude.{◌≡◌, ◌++◌, ◌≤◌, length, OnOk};
+ghost use Rattle.std.specs.Prelude.{◌≡◌, ◌++◌, ◌≤◌, length, OnOk, OnErr};
 ghost use Rattle.lnfs_xdr.specs.Reading.{read};
-ghost use Rattle.lnfs_arguments.specs.Parsing.{Parses};
+ghost use Rattle.lnfs_arguments.specs.Parsing.{ParsesInMemory};
 ghost use Rattle.lnfs_arguments.specs.Shared.{attrs};
 ghost use Rattle.lnfs_arguments.specs.SharedTexts.{attrs_text};
 
@@ -15,19 +15,25 @@ use std::alloc::{AllocError, Global};
 /// there.
 #[tactic(auto, unfolding(crate::specs::Shared::attrs))]
 pub fn attrs_of(alloc: Global, reader: &mut XdrReader<'_>) -> Result<RawAttrs, Halt>
-    ensures { Parses (λ x. x) result reader.old reader.new (read attrs reader.old.rest) }
+    ensures { ParsesInMemory (λ x. x) result reader.old reader.new (read attrs reader.old.rest) }
 {
     let mask = read_bitmap(reader)?;
     let list = Octets::from_slice(alloc, reader.opaque(LONG_LIMIT)?)?;
     Ok(RawAttrs { mask, list })
 }
 
-/// Appends attributes as they stand in a message (`fattr4`). Fails only for want of memory.
+/// Appends attributes as they stand in a message (`fattr4`). Without memory it appends nothing.
 #[tactic(auto, unfolding(crate::specs::SharedTexts::attrs_text))]
 pub fn put_attrs(out: &mut XdrWriter, attrs: &RawAttrs) -> Result<(), AllocError>
     requires { length attrs.now.list ≤ 65536 }
-    ensures { OnOk result (out.new ≡ out.old ++ attrs_text attrs.now) }
+    ensures ok { OnOk result (out.new ≡ out.old ++ attrs_text attrs.now) }
+    ensures err { OnErr result (out.new ≡ out.old) }
 {
+    let mark = out.mark();
     write_bitmap(&attrs.mask, out)?;
-    out.opaque(attrs.list.as_slice())
+    if out.opaque(attrs.list.as_slice()).is_err() {
+        out.truncate(mark);
+        return Err(AllocError);
+    }
+    Ok(())
 }

@@ -1,11 +1,11 @@
-ghost use Rattle.std.specs.Prelude.{◌≡◌, ◌++◌, OnOk};
+ghost use Rattle.std.specs.Prelude.{◌≡◌, ◌++◌, OnOk, OnErr};
 ghost use Rattle.lnfs_xdr.specs.Reading.{read};
-ghost use Rattle.lnfs_arguments.specs.Parsing.{Parses};
+ghost use Rattle.lnfs_xdr.specs.Written.{Extends};
+ghost use Rattle.lnfs_xdr.specs.Cursor.{Parses};
 ghost use Rattle.lnfs_arguments.specs.Shared.{channel};
 ghost use Rattle.lnfs_arguments.specs.SharedTexts.{channel_text};
 
-use crate::halt::Halt;
-use lnfs_xdr::{XdrReader, XdrWriter};
+use lnfs_xdr::{XdrError, XdrReader, XdrWriter};
 use std::alloc::AllocError;
 
 /// The sizes of a session's channel (`channel_attrs4`, RFC 8881 section 18.36.1).
@@ -26,9 +26,9 @@ pub struct Channel {
     pub ird: Option<u32>,
 }
 
-/// The sizes of a channel (RFC 8881 section 18.36.1). `Fault` where an item isn't there.
+/// The sizes of a channel (RFC 8881 section 18.36.1). An error where an item isn't there.
 #[tactic(auto, unfolding(crate::specs::Shared::channel))]
-pub fn channel_of(reader: &mut XdrReader<'_>) -> Result<Channel, Halt>
+pub fn channel_of(reader: &mut XdrReader<'_>) -> Result<Channel, XdrError>
     ensures { Parses (λ x. x) result reader.old reader.new (read channel reader.old.rest) }
 {
     let headerpad = reader.u32()?;
@@ -52,10 +52,10 @@ pub fn channel_of(reader: &mut XdrReader<'_>) -> Result<Channel, Halt>
     })
 }
 
-/// Appends the sizes of a channel (RFC 8881 section 18.36.1). Fails only for want of memory.
 #[tactic(auto, unfolding(crate::specs::SharedTexts::channel_text))]
-pub fn put_channel(out: &mut XdrWriter, x: &Channel) -> Result<(), AllocError>
-    ensures { OnOk result (out.new ≡ out.old ++ channel_text x.now) }
+fn put_sizes(out: &mut XdrWriter, x: &Channel) -> Result<(), AllocError>
+    ensures ok { OnOk result (out.new ≡ out.old ++ channel_text x.now) }
+    ensures err { OnErr result (Extends out.old out.new) }
 {
     out.u32(x.headerpad)?;
     out.u32(x.maxrequest)?;
@@ -70,4 +70,17 @@ pub fn put_channel(out: &mut XdrWriter, x: &Channel) -> Result<(), AllocError>
             out.u32(ird)
         }
     }
+}
+
+/// Appends the sizes of a channel (RFC 8881 section 18.36.1). Without memory it appends nothing.
+pub fn put_channel(out: &mut XdrWriter, x: &Channel) -> Result<(), AllocError>
+    ensures ok { OnOk result (out.new ≡ out.old ++ channel_text x.now) }
+    ensures err { OnErr result (out.new ≡ out.old) }
+{
+    let mark = out.mark();
+    let done = put_sizes(out, x);
+    if done.is_err() {
+        out.truncate(mark);
+    }
+    done
 }

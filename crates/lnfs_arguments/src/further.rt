@@ -5,9 +5,12 @@ use lnfs_xdr::XdrError;
 
 /// Operations beside those of the table. The arguments of each count as one item.
 ///
-/// The calls answer fixed functions of the type and of their arguments. Their laws: it has no
-/// operation of the table, arguments are among the bytes that are left and stay the same whatever
-/// follows them, and a result's bound is at least 8.
+/// The calls answer fixed functions of the type and of their arguments. Their laws: the numbers are
+/// of minor version 2, from 3 to 71, and none of the table; arguments are among the bytes that are
+/// left; a result's bound is at least 8.
+///
+/// Operations whose arguments are formats, as those of the table are, make a lawful grammar by
+/// `further_of`: `length` reads the format, and answers how many bytes were read or the fault.
 pub trait ExtraGrammar {
     ghost grammar: { Further };
 
@@ -35,7 +38,8 @@ pub struct NoExtraGrammar;
 const LEAST_BOUND: u32 = 8;
 
 impl ExtraGrammar for NoExtraGrammar {
-    ghost use Rattle.lnfs_arguments.specs.Further.{nothing_further, nothing_further_is_lawful};
+    ghost use Rattle.lnfs_arguments.specs.Further.{nothing_further};
+    ghost use Rattle.lnfs_arguments.specs.Lawful.{nothing_further_is_lawful};
 
     ghost grammar = { nothing_further };
 

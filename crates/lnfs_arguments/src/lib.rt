@@ -12,6 +12,7 @@ mod read_sessions;
 mod read_table;
 mod reading;
 mod stateid;
+pub mod statuses;
 mod types;
 
 pub use attrs::{attrs_of, put_attrs};

@@ -1,5 +1,7 @@
-//! The numbers of operations (RFC 8881 section 18, RFC 7862 section 15), the statuses that reading
-//! gives, and the bounds of fields. They stand here alone.
+//! The numbers of operations (RFC 8881 section 18, RFC 7862 section 15) and of the arms of their
+//! unions, and the bounds of fields. They stand here alone.
+
+use lnfs_lists::RECORD_LIMIT;
 
 pub const OP_ACCESS: u32 = 3;
 
@@ -65,13 +67,6 @@ pub const OP_LAST: u32 = 71;
 /// The number in the result of an operation that has none.
 pub const OP_ILLEGAL: u32 = 10044;
 
-/// NFS4ERR_INVAL.
-pub const INVAL: u32 = 22;
-/// NFS4ERR_NOTSUPP.
-pub const NOTSUPP: u32 = 10004;
-/// NFS4ERR_BADTYPE.
-pub const BADTYPE: u32 = 10007;
-
 /// The minor version that is served.
 pub const MINOR: u32 = 2;
 /// The most operations of a COMPOUND.
@@ -85,13 +80,9 @@ pub const OWNER_LIMIT: u32 = 1024;
 /// The most bytes of a file handle.
 pub const HANDLE_LIMIT: u32 = 128;
 /// The most bytes of a WRITE.
-pub const DATA_LIMIT: u32 = 131072;
+pub const DATA_LIMIT: u32 = RECORD_LIMIT;
 /// The most ways to call back.
 pub const CALLBACK_LIMIT: u32 = 16;
-/// The most bytes in the name of a machine (RFC 5531 appendix A).
-pub const MACHINE_LIMIT: u32 = 255;
-/// The most groups of an AUTH_SYS body.
-pub const GROUP_LIMIT: u32 = 16;
 
 /// `nfs_ftype4`: a directory, and a symbolic link.
 pub const TYPE_DIR: u32 = 2;

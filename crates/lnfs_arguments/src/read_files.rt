@@ -1,24 +1,26 @@
 //! The readers of the operations on the content of files, and of OPEN.
 ghost use Rattle.lnfs_xdr.specs.Reading.{read};
-ghost use Rattle.lnfs_arguments.specs.Parsing.{Parses};
+ghost use Rattle.lnfs_xdr.specs.Cursor.{Parses};
+ghost use Rattle.lnfs_arguments.specs.Parsing.{ParsesInMemory};
 ghost use Rattle.lnfs_arguments.specs.Grammar.{close, commit, reading, writing, created, making, claim, opening};
 
 use crate::attrs::attrs_of;
 use crate::halt::Halt;
 use crate::numbers::{
-    CLAIM_FH, CLAIM_NULL, DATA_LIMIT, EXCLUSIVE, EXCLUSIVE4_1, GUARDED, INVAL, NOTSUPP, OP_OPEN,
-    OPEN_CREATE, OPEN_NOCREATE, OWNER_LIMIT, UNCHECKED,
+    CLAIM_FH, CLAIM_NULL, DATA_LIMIT, EXCLUSIVE, EXCLUSIVE4_1, GUARDED, OP_OPEN, OPEN_CREATE,
+    OPEN_NOCREATE, OWNER_LIMIT, UNCHECKED,
 };
 use crate::read_names::name_of;
 use crate::stateid::state_id_of;
+use crate::statuses::{NFS4ERR_INVAL, NFS4ERR_NOTSUPP};
 use crate::types::{Claim, Making, Op};
 use lnfs_lists::Octets;
-use lnfs_xdr::XdrReader;
+use lnfs_xdr::{XdrError, XdrReader};
 use std::alloc::Global;
 
-/// The arguments of CLOSE (RFC 8881 section 18.2). `Fault` where an item isn't there.
+/// The arguments of CLOSE (RFC 8881 section 18.2). An error where an item isn't there.
 #[tactic(auto, unfolding(crate::specs::Grammar::close))]
-pub fn close_of(reader: &mut XdrReader<'_>) -> Result<Op, Halt>
+pub fn close_of(reader: &mut XdrReader<'_>) -> Result<Op, XdrError>
     ensures { Parses (λ x. x) result reader.old reader.new (read close reader.old.rest) }
 {
     let seqid = reader.u32()?;
@@ -26,9 +28,9 @@ pub fn close_of(reader: &mut XdrReader<'_>) -> Result<Op, Halt>
     Ok(Op::Close { seqid, id })
 }
 
-/// The arguments of COMMIT (RFC 8881 section 18.3). `Fault` where an item isn't there.
+/// The arguments of COMMIT (RFC 8881 section 18.3). An error where an item isn't there.
 #[tactic(auto, unfolding(crate::specs::Grammar::commit))]
-pub fn commit_of(reader: &mut XdrReader<'_>) -> Result<Op, Halt>
+pub fn commit_of(reader: &mut XdrReader<'_>) -> Result<Op, XdrError>
     ensures { Parses (λ x. x) result reader.old reader.new (read commit reader.old.rest) }
 {
     let offset = reader.u64()?;
@@ -36,9 +38,9 @@ pub fn commit_of(reader: &mut XdrReader<'_>) -> Result<Op, Halt>
     Ok(Op::Commit { offset, count })
 }
 
-/// The arguments of READ (RFC 8881 section 18.22). `Fault` where an item isn't there.
+/// The arguments of READ (RFC 8881 section 18.22). An error where an item isn't there.
 #[tactic(auto, unfolding(crate::specs::Grammar::reading))]
-pub fn read_of(reader: &mut XdrReader<'_>) -> Result<Op, Halt>
+pub fn read_of(reader: &mut XdrReader<'_>) -> Result<Op, XdrError>
     ensures { Parses (λ x. x) result reader.old reader.new (read reading reader.old.rest) }
 {
     let id = state_id_of(reader)?;
@@ -50,7 +52,7 @@ pub fn read_of(reader: &mut XdrReader<'_>) -> Result<Op, Halt>
 /// The arguments of WRITE (RFC 8881 section 18.32). `Fault` where an item isn't there.
 #[tactic(auto, unfolding(crate::specs::Grammar::writing))]
 pub fn write_of(alloc: Global, reader: &mut XdrReader<'_>) -> Result<Op, Halt>
-    ensures { Parses (λ x. x) result reader.old reader.new (read writing reader.old.rest) }
+    ensures { ParsesInMemory (λ x. x) result reader.old reader.new (read writing reader.old.rest) }
 {
     let id = state_id_of(reader)?;
     let offset = reader.u64()?;
@@ -66,7 +68,7 @@ pub fn write_of(alloc: Global, reader: &mut XdrReader<'_>) -> Result<Op, Halt>
 
 #[tactic(auto, unfolding(crate::specs::Grammar::created))]
 fn created_of(alloc: Global, reader: &mut XdrReader<'_>) -> Result<Making, Halt>
-    ensures { Parses (λ x. x) result reader.old reader.new (read created reader.old.rest) }
+    ensures { ParsesInMemory (λ x. x) result reader.old reader.new (read created reader.old.rest) }
 {
     match reader.u32()? {
         UNCHECKED => Ok(Making::Unchecked {
@@ -77,7 +79,7 @@ fn created_of(alloc: Global, reader: &mut XdrReader<'_>) -> Result<Making, Halt>
         }),
         EXCLUSIVE => Err(Halt::Outside {
             number: OP_OPEN,
-            status: NOTSUPP,
+            status: NFS4ERR_NOTSUPP,
         }),
         EXCLUSIVE4_1 => {
             let mut verifier = [0; 8];
@@ -87,28 +89,28 @@ fn created_of(alloc: Global, reader: &mut XdrReader<'_>) -> Result<Making, Halt>
         }
         _ => Err(Halt::Outside {
             number: OP_OPEN,
-            status: INVAL,
+            status: NFS4ERR_INVAL,
         }),
     }
 }
 
 #[tactic(auto, unfolding(crate::specs::Grammar::making))]
 fn making_of(alloc: Global, reader: &mut XdrReader<'_>) -> Result<Option<Making>, Halt>
-    ensures { Parses (λ x. x) result reader.old reader.new (read making reader.old.rest) }
+    ensures { ParsesInMemory (λ x. x) result reader.old reader.new (read making reader.old.rest) }
 {
     match reader.u32()? {
         OPEN_NOCREATE => Ok(None),
         OPEN_CREATE => Ok(Some(created_of(alloc, reader)?)),
         _ => Err(Halt::Outside {
             number: OP_OPEN,
-            status: INVAL,
+            status: NFS4ERR_INVAL,
         }),
     }
 }
 
 #[tactic(auto, unfolding(crate::specs::Grammar::claim))]
 fn claim_of(alloc: Global, reader: &mut XdrReader<'_>) -> Result<Claim, Halt>
-    ensures { Parses (λ x. x) result reader.old reader.new (read claim reader.old.rest) }
+    ensures { ParsesInMemory (λ x. x) result reader.old reader.new (read claim reader.old.rest) }
 {
     match reader.u32()? {
         CLAIM_NULL => {
@@ -118,7 +120,7 @@ fn claim_of(alloc: Global, reader: &mut XdrReader<'_>) -> Result<Claim, Halt>
         CLAIM_FH => Ok(Claim::Handle),
         _ => Err(Halt::Outside {
             number: OP_OPEN,
-            status: NOTSUPP,
+            status: NFS4ERR_NOTSUPP,
         }),
     }
 }
@@ -127,7 +129,7 @@ fn claim_of(alloc: Global, reader: &mut XdrReader<'_>) -> Result<Claim, Halt>
 /// where the way of making the file, or the claim, isn't served.
 #[tactic(auto, unfolding(crate::specs::Grammar::opening))]
 pub fn open_of(alloc: Global, reader: &mut XdrReader<'_>) -> Result<Op, Halt>
-    ensures { Parses (λ x. x) result reader.old reader.new (read opening reader.old.rest) }
+    ensures { ParsesInMemory (λ x. x) result reader.old reader.new (read opening reader.old.rest) }
 {
     let seqid = reader.u32()?;
     let access = reader.u32()?;

@@ -1,28 +1,30 @@
 //! The readers of the operations on names and their attributes.
 ghost use Rattle.lnfs_xdr.specs.Reading.{read};
-ghost use Rattle.lnfs_arguments.specs.Parsing.{Parses};
+ghost use Rattle.lnfs_xdr.specs.Cursor.{Parses};
+ghost use Rattle.lnfs_arguments.specs.Parsing.{ParsesInMemory};
 ghost use Rattle.lnfs_arguments.specs.Grammar.{name, access, what, create, getattr, link, lookup, remove, nverify, verify, setattr, putfh, readdir, rename};
 
 use crate::attrs::attrs_of;
 use crate::halt::Halt;
-use crate::numbers::{BADTYPE, HANDLE_LIMIT, LONG_LIMIT, OP_CREATE, TYPE_DIR, TYPE_LINK};
+use crate::numbers::{HANDLE_LIMIT, LONG_LIMIT, OP_CREATE, TYPE_DIR, TYPE_LINK};
 use crate::stateid::state_id_of;
+use crate::statuses::NFS4ERR_BADTYPE;
 use crate::types::{Op, What};
 use lnfs_attrs::read_bitmap;
 use lnfs_lists::Octets;
-use lnfs_xdr::XdrReader;
+use lnfs_xdr::{XdrError, XdrReader};
 use std::alloc::Global;
 
 /// A name, of whatever bytes (`component4`).
 pub fn name_of(alloc: Global, reader: &mut XdrReader<'_>) -> Result<Octets, Halt>
-    ensures { Parses (λ x. x) result reader.old reader.new (read name reader.old.rest) }
+    ensures { ParsesInMemory (λ x. x) result reader.old reader.new (read name reader.old.rest) }
 {
     Ok(Octets::from_slice(alloc, reader.opaque(LONG_LIMIT)?)?)
 }
 
-/// The arguments of ACCESS (RFC 8881 section 18.1). `Fault` where an item isn't there.
+/// The arguments of ACCESS (RFC 8881 section 18.1). An error where an item isn't there.
 #[tactic(auto, unfolding(crate::specs::Grammar::access))]
-pub fn access_of(reader: &mut XdrReader<'_>) -> Result<Op, Halt>
+pub fn access_of(reader: &mut XdrReader<'_>) -> Result<Op, XdrError>
     ensures { Parses (λ x. x) result reader.old reader.new (read access reader.old.rest) }
 {
     let bits = reader.u32()?;
@@ -31,7 +33,7 @@ pub fn access_of(reader: &mut XdrReader<'_>) -> Result<Op, Halt>
 
 #[tactic(auto, unfolding(crate::specs::Grammar::what))]
 fn what_of(alloc: Global, reader: &mut XdrReader<'_>) -> Result<What, Halt>
-    ensures { Parses (λ x. x) result reader.old reader.new (read what reader.old.rest) }
+    ensures { ParsesInMemory (λ x. x) result reader.old reader.new (read what reader.old.rest) }
 {
     match reader.u32()? {
         TYPE_LINK => {
@@ -41,7 +43,7 @@ fn what_of(alloc: Global, reader: &mut XdrReader<'_>) -> Result<What, Halt>
         TYPE_DIR => Ok(What::Dir),
         _ => Err(Halt::Outside {
             number: OP_CREATE,
-            status: BADTYPE,
+            status: NFS4ERR_BADTYPE,
         }),
     }
 }
@@ -50,7 +52,7 @@ fn what_of(alloc: Global, reader: &mut XdrReader<'_>) -> Result<What, Halt>
 /// where neither a directory nor a symbolic link is to be made.
 #[tactic(auto, unfolding(crate::specs::Grammar::create))]
 pub fn create_of(alloc: Global, reader: &mut XdrReader<'_>) -> Result<Op, Halt>
-    ensures { Parses (λ x. x) result reader.old reader.new (read create reader.old.rest) }
+    ensures { ParsesInMemory (λ x. x) result reader.old reader.new (read create reader.old.rest) }
 {
     let what = what_of(alloc, reader)?;
     let name = name_of(alloc, reader)?;
@@ -58,9 +60,9 @@ pub fn create_of(alloc: Global, reader: &mut XdrReader<'_>) -> Result<Op, Halt>
     Ok(Op::Create { what, name, attrs })
 }
 
-/// The arguments of GETATTR (RFC 8881 section 18.7). `Fault` where an item isn't there.
+/// The arguments of GETATTR (RFC 8881 section 18.7). An error where an item isn't there.
 #[tactic(auto, unfolding(crate::specs::Grammar::getattr))]
-pub fn getattr_of(reader: &mut XdrReader<'_>) -> Result<Op, Halt>
+pub fn getattr_of(reader: &mut XdrReader<'_>) -> Result<Op, XdrError>
     ensures { Parses (λ x. x) result reader.old reader.new (read getattr reader.old.rest) }
 {
     let asked = read_bitmap(reader)?;
@@ -70,7 +72,7 @@ pub fn getattr_of(reader: &mut XdrReader<'_>) -> Result<Op, Halt>
 /// The arguments of LINK (RFC 8881 section 18.9). `Fault` where an item isn't there.
 #[tactic(auto, unfolding(crate::specs::Grammar::link))]
 pub fn link_of(alloc: Global, reader: &mut XdrReader<'_>) -> Result<Op, Halt>
-    ensures { Parses (λ x. x) result reader.old reader.new (read link reader.old.rest) }
+    ensures { ParsesInMemory (λ x. x) result reader.old reader.new (read link reader.old.rest) }
 {
     let name = name_of(alloc, reader)?;
     Ok(Op::Link { name })
@@ -79,7 +81,7 @@ pub fn link_of(alloc: Global, reader: &mut XdrReader<'_>) -> Result<Op, Halt>
 /// The arguments of LOOKUP (RFC 8881 section 18.13). `Fault` where an item isn't there.
 #[tactic(auto, unfolding(crate::specs::Grammar::lookup))]
 pub fn lookup_of(alloc: Global, reader: &mut XdrReader<'_>) -> Result<Op, Halt>
-    ensures { Parses (λ x. x) result reader.old reader.new (read lookup reader.old.rest) }
+    ensures { ParsesInMemory (λ x. x) result reader.old reader.new (read lookup reader.old.rest) }
 {
     let name = name_of(alloc, reader)?;
     Ok(Op::Lookup { name })
@@ -88,7 +90,7 @@ pub fn lookup_of(alloc: Global, reader: &mut XdrReader<'_>) -> Result<Op, Halt>
 /// The arguments of REMOVE (RFC 8881 section 18.25). `Fault` where an item isn't there.
 #[tactic(auto, unfolding(crate::specs::Grammar::remove))]
 pub fn remove_of(alloc: Global, reader: &mut XdrReader<'_>) -> Result<Op, Halt>
-    ensures { Parses (λ x. x) result reader.old reader.new (read remove reader.old.rest) }
+    ensures { ParsesInMemory (λ x. x) result reader.old reader.new (read remove reader.old.rest) }
 {
     let name = name_of(alloc, reader)?;
     Ok(Op::Remove { name })
@@ -97,7 +99,7 @@ pub fn remove_of(alloc: Global, reader: &mut XdrReader<'_>) -> Result<Op, Halt>
 /// The arguments of NVERIFY (RFC 8881 section 18.15). `Fault` where an item isn't there.
 #[tactic(auto, unfolding(crate::specs::Grammar::nverify))]
 pub fn nverify_of(alloc: Global, reader: &mut XdrReader<'_>) -> Result<Op, Halt>
-    ensures { Parses (λ x. x) result reader.old reader.new (read nverify reader.old.rest) }
+    ensures { ParsesInMemory (λ x. x) result reader.old reader.new (read nverify reader.old.rest) }
 {
     let attrs = attrs_of(alloc, reader)?;
     Ok(Op::NVerify { attrs })
@@ -106,7 +108,7 @@ pub fn nverify_of(alloc: Global, reader: &mut XdrReader<'_>) -> Result<Op, Halt>
 /// The arguments of VERIFY (RFC 8881 section 18.31). `Fault` where an item isn't there.
 #[tactic(auto, unfolding(crate::specs::Grammar::verify))]
 pub fn verify_of(alloc: Global, reader: &mut XdrReader<'_>) -> Result<Op, Halt>
-    ensures { Parses (λ x. x) result reader.old reader.new (read verify reader.old.rest) }
+    ensures { ParsesInMemory (λ x. x) result reader.old reader.new (read verify reader.old.rest) }
 {
     let attrs = attrs_of(alloc, reader)?;
     Ok(Op::Verify { attrs })
@@ -115,7 +117,7 @@ pub fn verify_of(alloc: Global, reader: &mut XdrReader<'_>) -> Result<Op, Halt>
 /// The arguments of SETATTR (RFC 8881 section 18.30). `Fault` where an item isn't there.
 #[tactic(auto, unfolding(crate::specs::Grammar::setattr))]
 pub fn setattr_of(alloc: Global, reader: &mut XdrReader<'_>) -> Result<Op, Halt>
-    ensures { Parses (λ x. x) result reader.old reader.new (read setattr reader.old.rest) }
+    ensures { ParsesInMemory (λ x. x) result reader.old reader.new (read setattr reader.old.rest) }
 {
     let id = state_id_of(reader)?;
     let attrs = attrs_of(alloc, reader)?;
@@ -125,15 +127,15 @@ pub fn setattr_of(alloc: Global, reader: &mut XdrReader<'_>) -> Result<Op, Halt>
 /// The arguments of PUTFH (RFC 8881 section 18.19). `Fault` where an item isn't there.
 #[tactic(auto, unfolding(crate::specs::Grammar::putfh))]
 pub fn putfh_of(alloc: Global, reader: &mut XdrReader<'_>) -> Result<Op, Halt>
-    ensures { Parses (λ x. x) result reader.old reader.new (read putfh reader.old.rest) }
+    ensures { ParsesInMemory (λ x. x) result reader.old reader.new (read putfh reader.old.rest) }
 {
     let handle = Octets::from_slice(alloc, reader.opaque(HANDLE_LIMIT)?)?;
     Ok(Op::PutFh { handle })
 }
 
-/// The arguments of READDIR (RFC 8881 section 18.23). `Fault` where an item isn't there.
+/// The arguments of READDIR (RFC 8881 section 18.23). An error where an item isn't there.
 #[tactic(auto, unfolding(crate::specs::Grammar::readdir))]
-pub fn readdir_of(reader: &mut XdrReader<'_>) -> Result<Op, Halt>
+pub fn readdir_of(reader: &mut XdrReader<'_>) -> Result<Op, XdrError>
     ensures { Parses (λ x. x) result reader.old reader.new (read readdir reader.old.rest) }
 {
     let cookie = reader.u64()?;
@@ -154,7 +156,7 @@ pub fn readdir_of(reader: &mut XdrReader<'_>) -> Result<Op, Halt>
 /// The arguments of RENAME (RFC 8881 section 18.26). `Fault` where an item isn't there.
 #[tactic(auto, unfolding(crate::specs::Grammar::rename))]
 pub fn rename_of(alloc: Global, reader: &mut XdrReader<'_>) -> Result<Op, Halt>
-    ensures { Parses (λ x. x) result reader.old reader.new (read rename reader.old.rest) }
+    ensures { ParsesInMemory (λ x. x) result reader.old reader.new (read rename reader.old.rest) }
 {
     let old = name_of(alloc, reader)?;
     let new = name_of(alloc, reader)?;

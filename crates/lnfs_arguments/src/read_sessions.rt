@@ -1,22 +1,24 @@
 //! The readers of the operations on clients and sessions.
 ghost use Rattle.lnfs_xdr.specs.Format.{Word, times};
 ghost use Rattle.lnfs_xdr.specs.Reading.{read};
-ghost use Rattle.lnfs_arguments.specs.Parsing.{Parses};
+ghost use Rattle.lnfs_xdr.specs.Cursor.{Parses};
+ghost use Rattle.lnfs_arguments.specs.Parsing.{ParsesInMemory};
 ghost use Rattle.lnfs_arguments.specs.Grammar.{implementation, who_made, exchange_id, callback, create_session, making_session, destroy_session, sequence, sequencing, destroy_clientid, reclaim_complete};
 
 use crate::channel::channel_of;
 use crate::halt::Halt;
 use crate::numbers::{
-    AUTH_NONE, AUTH_SYS, CALLBACK_LIMIT, GROUP_LIMIT, INVAL, MACHINE_LIMIT, OP_CREATE_SESSION,
-    OP_EXCHANGE_ID, OWNER_LIMIT, RPCSEC_GSS, SP4_NONE,
+    AUTH_NONE, AUTH_SYS, CALLBACK_LIMIT, OP_CREATE_SESSION, OP_EXCHANGE_ID, OWNER_LIMIT,
+    RPCSEC_GSS, SP4_NONE,
 };
+use crate::statuses::NFS4ERR_INVAL;
 use crate::types::{Callback, CreateSession, Implementation, Op, Sequence};
 use lnfs_lists::{Items, Octets};
-use lnfs_xdr::XdrReader;
+use lnfs_xdr::{GROUP_LIMIT, MACHINE_LIMIT, XdrError, XdrReader};
 use std::alloc::Global;
 
 fn words_of(alloc: Global, reader: &mut XdrReader<'_>, count: u32) -> Result<Vec<u32>, Halt>
-    ensures { Parses (λ v. v.items) result reader.old reader.new (read (times count Word) reader.old.rest) }
+    ensures { ParsesInMemory (λ v. v.items) result reader.old reader.new (read (times count Word) reader.old.rest) }
 {
     let mut words = Vec::new(alloc);
     for _ in 0..count {
@@ -27,7 +29,7 @@ fn words_of(alloc: Global, reader: &mut XdrReader<'_>, count: u32) -> Result<Vec
 
 #[tactic(auto, unfolding(crate::specs::Grammar::implementation))]
 fn implementation_of(alloc: Global, reader: &mut XdrReader<'_>) -> Result<Implementation, Halt>
-    ensures { Parses (λ x. x) result reader.old reader.new (read implementation reader.old.rest) }
+    ensures { ParsesInMemory (λ x. x) result reader.old reader.new (read implementation reader.old.rest) }
 {
     let domain = Octets::from_slice(alloc, reader.opaque(OWNER_LIMIT)?)?;
     let name = Octets::from_slice(alloc, reader.opaque(OWNER_LIMIT)?)?;
@@ -43,7 +45,7 @@ fn implementation_of(alloc: Global, reader: &mut XdrReader<'_>) -> Result<Implem
 
 #[tactic(auto, unfolding(crate::specs::Grammar::who_made))]
 fn who_made_of(alloc: Global, reader: &mut XdrReader<'_>) -> Result<Option<Implementation>, Halt>
-    ensures { Parses (λ x. x) result reader.old reader.new (read who_made reader.old.rest) }
+    ensures { ParsesInMemory (λ x. x) result reader.old reader.new (read who_made reader.old.rest) }
 {
     match reader.array_len(1)? {
         0 => Ok(None),
@@ -55,7 +57,7 @@ fn who_made_of(alloc: Global, reader: &mut XdrReader<'_>) -> Result<Option<Imple
 /// `Outside` where a state protection is asked for.
 #[tactic(auto, unfolding(crate::specs::Grammar::exchange_id))]
 pub fn exchange_id_of(alloc: Global, reader: &mut XdrReader<'_>) -> Result<Op, Halt>
-    ensures { Parses (λ x. x) result reader.old reader.new (read exchange_id reader.old.rest) }
+    ensures { ParsesInMemory (λ x. x) result reader.old reader.new (read exchange_id reader.old.rest) }
 {
     let mut verifier = [0; 8];
     verifier.copy_from_slice(reader.fixed(8)?);
@@ -64,7 +66,7 @@ pub fn exchange_id_of(alloc: Global, reader: &mut XdrReader<'_>) -> Result<Op, H
     if reader.u32()? != SP4_NONE {
         return Err(Halt::Outside {
             number: OP_EXCHANGE_ID,
-            status: INVAL,
+            status: NFS4ERR_INVAL,
         });
     }
     let implementation = who_made_of(alloc, reader)?;
@@ -76,9 +78,9 @@ pub fn exchange_id_of(alloc: Global, reader: &mut XdrReader<'_>) -> Result<Op, H
     })
 }
 
-#[tactic(auto, unfolding(crate::specs::Grammar::callback))]
+#[tactic(auto, unfolding(crate::specs::Grammar::callback, lnfs_xdr::specs::AuthSys::auth_sys))]
 fn callback_of(alloc: Global, reader: &mut XdrReader<'_>) -> Result<Callback, Halt>
-    ensures { Parses (λ x. x) result reader.old reader.new (read callback reader.old.rest) }
+    ensures { ParsesInMemory (λ x. x) result reader.old reader.new (read callback reader.old.rest) }
 {
     match reader.u32()? {
         AUTH_NONE => Ok(Callback::Nothing),
@@ -109,7 +111,7 @@ fn callback_of(alloc: Global, reader: &mut XdrReader<'_>) -> Result<Callback, Ha
         }
         _ => Err(Halt::Outside {
             number: OP_CREATE_SESSION,
-            status: INVAL,
+            status: NFS4ERR_INVAL,
         }),
     }
 }
@@ -119,7 +121,7 @@ fn callbacks_of(
     reader: &mut XdrReader<'_>,
     count: u32,
 ) -> Result<Vec<Callback>, Halt>
-    ensures { Parses (λ v. v.items) result reader.old reader.new (read (times count callback) reader.old.rest) }
+    ensures { ParsesInMemory (λ v. v.items) result reader.old reader.new (read (times count callback) reader.old.rest) }
 {
     let mut callbacks = Vec::new(alloc);
     for _ in 0..count {
@@ -130,7 +132,7 @@ fn callbacks_of(
 
 #[tactic(auto, unfolding(crate::specs::Grammar::create_session))]
 fn create_session_args_of(alloc: Global, reader: &mut XdrReader<'_>) -> Result<CreateSession, Halt>
-    ensures { Parses (λ x. x) result reader.old reader.new (read create_session reader.old.rest) }
+    ensures { ParsesInMemory (λ x. x) result reader.old reader.new (read create_session reader.old.rest) }
 {
     let client = reader.u64()?;
     let sequence = reader.u32()?;
@@ -155,15 +157,15 @@ fn create_session_args_of(alloc: Global, reader: &mut XdrReader<'_>) -> Result<C
 /// `Outside` where a way to call back isn't one of `Callback`.
 #[tactic(auto, unfolding(crate::specs::Grammar::making_session))]
 pub fn create_session_of(alloc: Global, reader: &mut XdrReader<'_>) -> Result<Op, Halt>
-    ensures { Parses (λ x. x) result reader.old reader.new (read making_session reader.old.rest) }
+    ensures { ParsesInMemory (λ x. x) result reader.old reader.new (read making_session reader.old.rest) }
 {
     let args = create_session_args_of(alloc, reader)?;
     Ok(Op::CreateSession(args))
 }
 
-/// The arguments of DESTROY_SESSION (RFC 8881 section 18.37). `Fault` where an item isn't there.
+/// The arguments of DESTROY_SESSION (RFC 8881 section 18.37). An error where an item isn't there.
 #[tactic(auto, unfolding(crate::specs::Grammar::destroy_session))]
-pub fn destroy_session_of(reader: &mut XdrReader<'_>) -> Result<Op, Halt>
+pub fn destroy_session_of(reader: &mut XdrReader<'_>) -> Result<Op, XdrError>
     ensures { Parses (λ x. x) result reader.old reader.new (read destroy_session reader.old.rest) }
 {
     let mut session = [0; 16];
@@ -172,7 +174,7 @@ pub fn destroy_session_of(reader: &mut XdrReader<'_>) -> Result<Op, Halt>
 }
 
 #[tactic(auto, unfolding(crate::specs::Grammar::sequence))]
-fn sequence_args_of(reader: &mut XdrReader<'_>) -> Result<Sequence, Halt>
+fn sequence_args_of(reader: &mut XdrReader<'_>) -> Result<Sequence, XdrError>
     ensures { Parses (λ x. x) result reader.old reader.new (read sequence reader.old.rest) }
 {
     let mut session = [0; 16];
@@ -190,27 +192,27 @@ fn sequence_args_of(reader: &mut XdrReader<'_>) -> Result<Sequence, Halt>
     })
 }
 
-/// The arguments of SEQUENCE (RFC 8881 section 18.46). `Fault` where an item isn't there.
+/// The arguments of SEQUENCE (RFC 8881 section 18.46). An error where an item isn't there.
 #[tactic(auto, unfolding(crate::specs::Grammar::sequencing))]
-pub fn sequence_of(reader: &mut XdrReader<'_>) -> Result<Op, Halt>
+pub fn sequence_of(reader: &mut XdrReader<'_>) -> Result<Op, XdrError>
     ensures { Parses (λ x. x) result reader.old reader.new (read sequencing reader.old.rest) }
 {
     let args = sequence_args_of(reader)?;
     Ok(Op::Sequence(args))
 }
 
-/// The arguments of DESTROY_CLIENTID (RFC 8881 section 18.50). `Fault` where an item isn't there.
+/// The arguments of DESTROY_CLIENTID (RFC 8881 section 18.50). An error where an item isn't there.
 #[tactic(auto, unfolding(crate::specs::Grammar::destroy_clientid))]
-pub fn destroy_clientid_of(reader: &mut XdrReader<'_>) -> Result<Op, Halt>
+pub fn destroy_clientid_of(reader: &mut XdrReader<'_>) -> Result<Op, XdrError>
     ensures { Parses (λ x. x) result reader.old reader.new (read destroy_clientid reader.old.rest) }
 {
     let client = reader.u64()?;
     Ok(Op::DestroyClientId { client })
 }
 
-/// The arguments of RECLAIM_COMPLETE (RFC 8881 section 18.51). `Fault` where an item isn't there.
+/// The arguments of RECLAIM_COMPLETE (RFC 8881 section 18.51). An error where an item isn't there.
 #[tactic(auto, unfolding(crate::specs::Grammar::reclaim_complete))]
-pub fn reclaim_complete_of(reader: &mut XdrReader<'_>) -> Result<Op, Halt>
+pub fn reclaim_complete_of(reader: &mut XdrReader<'_>) -> Result<Op, XdrError>
     ensures { Parses (λ x. x) result reader.old reader.new (read reclaim_complete reader.old.rest) }
 {
     let one_fs = reader.boolean()?;

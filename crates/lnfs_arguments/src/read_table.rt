@@ -1,15 +1,15 @@
 //! The table of operations by number, for reading.
 ghost use Rattle.lnfs_xdr.specs.Reading.{read};
-ghost use Rattle.lnfs_arguments.specs.Parsing.{Parses};
+ghost use Rattle.lnfs_arguments.specs.Parsing.{ParsesInMemory};
 ghost use Rattle.lnfs_arguments.specs.Grammar.{arguments};
 
 use crate::halt::Halt;
 use crate::numbers::{
-    NOTSUPP, OP_ACCESS, OP_CLOSE, OP_COMMIT, OP_CREATE, OP_CREATE_SESSION, OP_DESTROY_CLIENTID,
-    OP_DESTROY_SESSION, OP_EXCHANGE_ID, OP_FIRST, OP_GETATTR, OP_GETFH, OP_ILLEGAL, OP_LAST,
-    OP_LINK, OP_LOOKUP, OP_LOOKUPP, OP_NVERIFY, OP_OPEN, OP_PUTFH, OP_PUTROOTFH, OP_READ,
-    OP_READDIR, OP_READLINK, OP_RECLAIM_COMPLETE, OP_REMOVE, OP_RENAME, OP_RESTOREFH, OP_SAVEFH,
-    OP_SEQUENCE, OP_SETATTR, OP_VERIFY, OP_WRITE,
+    OP_ACCESS, OP_CLOSE, OP_COMMIT, OP_CREATE, OP_CREATE_SESSION, OP_DESTROY_CLIENTID,
+    OP_DESTROY_SESSION, OP_EXCHANGE_ID, OP_FIRST, OP_GETATTR, OP_GETFH, OP_LAST, OP_LINK,
+    OP_LOOKUP, OP_LOOKUPP, OP_NVERIFY, OP_OPEN, OP_PUTFH, OP_PUTROOTFH, OP_READ, OP_READDIR,
+    OP_READLINK, OP_RECLAIM_COMPLETE, OP_REMOVE, OP_RENAME, OP_RESTOREFH, OP_SAVEFH, OP_SEQUENCE,
+    OP_SETATTR, OP_VERIFY, OP_WRITE,
 };
 use crate::read_files::{close_of, commit_of, open_of, read_of, write_of};
 use crate::read_names::{
@@ -20,6 +20,7 @@ use crate::read_sessions::{
     create_session_of, destroy_clientid_of, destroy_session_of, exchange_id_of,
     reclaim_complete_of, sequence_of,
 };
+use crate::statuses::{NFS4ERR_NOTSUPP, NFS4ERR_OP_ILLEGAL};
 use crate::types::Op;
 use lnfs_xdr::XdrReader;
 use std::alloc::Global;
@@ -27,14 +28,14 @@ use std::alloc::Global;
 /// The arguments of the operation of a number.
 #[tactic(auto, unfolding(crate::specs::Grammar::arguments))]
 pub fn arguments_of(alloc: Global, reader: &mut XdrReader<'_>, number: u32) -> Result<Op, Halt>
-    ensures { Parses (λ x. x) result reader.old reader.new (read (arguments number) reader.old.rest) }
+    ensures { ParsesInMemory (λ x. x) result reader.old reader.new (read (arguments number) reader.old.rest) }
 {
     match number {
-        OP_ACCESS => access_of(reader),
-        OP_CLOSE => close_of(reader),
-        OP_COMMIT => commit_of(reader),
+        OP_ACCESS => Ok(access_of(reader)?),
+        OP_CLOSE => Ok(close_of(reader)?),
+        OP_COMMIT => Ok(commit_of(reader)?),
         OP_CREATE => create_of(alloc, reader),
-        OP_GETATTR => getattr_of(reader),
+        OP_GETATTR => Ok(getattr_of(reader)?),
         OP_GETFH => Ok(Op::GetFh),
         OP_LINK => link_of(alloc, reader),
         OP_LOOKUP => lookup_of(alloc, reader),
@@ -43,8 +44,8 @@ pub fn arguments_of(alloc: Global, reader: &mut XdrReader<'_>, number: u32) -> R
         OP_OPEN => open_of(alloc, reader),
         OP_PUTFH => putfh_of(alloc, reader),
         OP_PUTROOTFH => Ok(Op::PutRootFh),
-        OP_READ => read_of(reader),
-        OP_READDIR => readdir_of(reader),
+        OP_READ => Ok(read_of(reader)?),
+        OP_READDIR => Ok(readdir_of(reader)?),
         OP_READLINK => Ok(Op::ReadLink),
         OP_REMOVE => remove_of(alloc, reader),
         OP_RENAME => rename_of(alloc, reader),
@@ -55,17 +56,17 @@ pub fn arguments_of(alloc: Global, reader: &mut XdrReader<'_>, number: u32) -> R
         OP_WRITE => write_of(alloc, reader),
         OP_EXCHANGE_ID => exchange_id_of(alloc, reader),
         OP_CREATE_SESSION => create_session_of(alloc, reader),
-        OP_DESTROY_SESSION => destroy_session_of(reader),
-        OP_SEQUENCE => sequence_of(reader),
-        OP_DESTROY_CLIENTID => destroy_clientid_of(reader),
-        OP_RECLAIM_COMPLETE => reclaim_complete_of(reader),
+        OP_DESTROY_SESSION => Ok(destroy_session_of(reader)?),
+        OP_SEQUENCE => Ok(sequence_of(reader)?),
+        OP_DESTROY_CLIENTID => Ok(destroy_clientid_of(reader)?),
+        OP_RECLAIM_COMPLETE => Ok(reclaim_complete_of(reader)?),
         OP_FIRST..=OP_LAST => Err(Halt::Outside {
             number,
-            status: NOTSUPP,
+            status: NFS4ERR_NOTSUPP,
         }),
         _ => Err(Halt::Outside {
             number,
-            status: OP_ILLEGAL,
+            status: NFS4ERR_OP_ILLEGAL,
         }),
     }
 }

@@ -1,6 +1,7 @@
 ghost use Rattle.std.specs.Prelude.{◌≡◌, ◌+◌, ℕ, List, length, IfOk, Ok, Err};
-ghost use Rattle.lnfs_arguments.specs.Message.{parse, Tells, Refuses, RefusesAt};
-ghost use Rattle.lnfs_arguments.specs.Whole.{compound, operation_at, Steps, Completes, Answers, IfGarbage};
+ghost use Rattle.lnfs_xdr.specs.Message.{parse, Tells, Refuses, RefusesAt};
+ghost use Rattle.lnfs_xdr.specs.Reading.{read};
+ghost use Rattle.lnfs_arguments.specs.Whole.{header, served, is_cut, compound, operation_at, Heads, Steps, Completes, Answers, IfGarbage};
 ghost use Rattle.lnfs_arguments.specs.declared.types.Compound.{Compound};
 
 use crate::further::ExtraGrammar;
@@ -24,14 +25,46 @@ fn operation_of<'a, E: ExtraGrammar>(
     if !extra.serves(number) {
         return arguments_of(alloc, reader, number);
     }
-    let left = reader.rest();
-    let (args, rest) = left.split_at(extra.length(number, left)?);
-    let args = Octets::from_slice(alloc, args)?;
-    *reader = XdrReader::new(rest);
+    let len = extra.length(number, reader.rest())?;
+    let args = Octets::from_slice(alloc, reader.raw(len)?)?;
     Ok(Op::Extra { number, args })
 }
 
-#[tactic(auto, unfolding(crate::specs::Whole::compound, crate::specs::Whole::header, crate::specs::Whole::operations))]
+/// Tag, minor version and count. Of another minor version the count isn't read.
+#[tactic(auto, unfolding(crate::specs::Whole::header))]
+fn header_of(alloc: Global, reader: &mut XdrReader<'_>) -> Result<(Octets, u32, u32), Halt>
+    ensures { Heads result reader.new (read header reader.old.rest) }
+{
+    let tag = Octets::from_slice(alloc, reader.opaque(TAG_LIMIT)?)?;
+    let minor = reader.u32()?;
+    if minor != MINOR {
+        return Ok((tag, minor, 0));
+    }
+    let count = reader.u32()?;
+    Ok((tag, minor, count))
+}
+
+/// How many operations are read.
+fn served_of(minor: u32, count: u32) -> u32
+    ensures { result ≡ served minor count }
+{
+    if minor != MINOR {
+        0
+    } else if count > OP_LIMIT {
+        1
+    } else {
+        count
+    }
+}
+
+/// Whether what follows them is unread.
+fn is_cut_of(minor: u32, count: u32) -> bool
+    ensures { result ≡ is_cut minor count }
+{
+    minor != MINOR || count > OP_LIMIT
+}
+
+#[tactic(auto, unfolding(crate::specs::Whole::compound, crate::specs::Whole::operations))]
 fn compound_in<'a, E: ExtraGrammar>(
     alloc: Global,
     reader: &mut XdrReader<'a>,
@@ -39,17 +72,9 @@ fn compound_in<'a, E: ExtraGrammar>(
 ) -> Result<Compound, Halt>
     ensures { Completes result reader.new (parse (compound E.grammar) reader.old.rest) }
 {
-    let tag = Octets::from_slice(alloc, reader.opaque(TAG_LIMIT)?)?;
-    let minor = reader.u32()?;
-    let count = reader.u32()?;
-    let is_cut = minor != MINOR || count > OP_LIMIT;
-    let served = if minor != MINOR {
-        0
-    } else if count > OP_LIMIT {
-        1
-    } else {
-        count
-    };
+    let (tag, minor, count) = header_of(alloc, reader)?;
+    let is_cut = is_cut_of(minor, count);
+    let served = served_of(minor, count);
     let mut ops = Vec::new(alloc);
     for _ in 0..served {
         match operation_of(alloc, reader, extra) {
@@ -98,8 +123,9 @@ fn compound_of<E: ExtraGrammar>(
 
 /// The COMPOUND whose arguments the bytes are (RFC 8881 section 16.2.2).
 ///
-/// With another minor version than 2 no operation is read, with a count above 32 the first alone,
-/// and none after one that is outside of what is served: the rest is then unread. `Garbage` comes
+/// With another minor version than 2 neither the count nor an operation is read, and `count` is 0;
+/// with a count above 32 the first operation alone, and none after one that is outside of what is
+/// served: the rest is then unread. `Garbage` comes
 /// with the offset of the first item of which no continuation is in the grammar.
 pub fn read_compound<E: ExtraGrammar>(
     alloc: Global,

@@ -1,11 +1,11 @@
-ghost use Rattle.std.specs.Prelude.{◌≡◌, ◌++◌, OnOk};
+ghost use Rattle.std.specs.Prelude.{◌≡◌, ◌++◌, OnOk, OnErr};
 ghost use Rattle.lnfs_xdr.specs.Reading.{read};
-ghost use Rattle.lnfs_arguments.specs.Parsing.{Parses};
+ghost use Rattle.lnfs_xdr.specs.Written.{Extends};
+ghost use Rattle.lnfs_xdr.specs.Cursor.{Parses};
 ghost use Rattle.lnfs_arguments.specs.Shared.{state_id, cinfo};
 ghost use Rattle.lnfs_arguments.specs.SharedTexts.{state_id_text, cinfo_text};
 
-use crate::halt::Halt;
-use lnfs_xdr::{XdrReader, XdrWriter};
+use lnfs_xdr::{XdrError, XdrReader, XdrWriter};
 use std::alloc::AllocError;
 
 /// A state id (`stateid4`, RFC 8881 section 3.3.12).
@@ -26,9 +26,9 @@ pub struct Cinfo {
 /// What `change_info4` says of an operation that was atomic.
 const ATOMIC: u32 = 1;
 
-/// A state id (RFC 8881 section 3.3.12). `Fault` where an item isn't there.
+/// A state id (RFC 8881 section 3.3.12). An error where an item isn't there.
 #[tactic(auto, unfolding(crate::specs::Shared::state_id))]
-pub fn state_id_of(reader: &mut XdrReader<'_>) -> Result<StateId, Halt>
+pub fn state_id_of(reader: &mut XdrReader<'_>) -> Result<StateId, XdrError>
     ensures { Parses (λ x. x) result reader.old reader.new (read state_id reader.old.rest) }
 {
     let seqid = reader.u32()?;
@@ -37,19 +37,25 @@ pub fn state_id_of(reader: &mut XdrReader<'_>) -> Result<StateId, Halt>
     Ok(StateId { seqid, other })
 }
 
-/// Appends a state id (RFC 8881 section 3.3.12). Fails only for want of memory.
+/// Appends a state id (RFC 8881 section 3.3.12). Without memory it appends nothing.
 #[tactic(auto, unfolding(crate::specs::SharedTexts::state_id_text))]
 pub fn put_state_id(out: &mut XdrWriter, id: &StateId) -> Result<(), AllocError>
-    ensures { OnOk result (out.new ≡ out.old ++ state_id_text id.now) }
+    ensures ok { OnOk result (out.new ≡ out.old ++ state_id_text id.now) }
+    ensures err { OnErr result (out.new ≡ out.old) }
 {
+    let mark = out.mark();
     out.u32(id.seqid)?;
-    out.fixed(&id.other)
+    if out.fixed(&id.other).is_err() {
+        out.truncate(mark);
+        return Err(AllocError);
+    }
+    Ok(())
 }
 
-/// The change numbers of an operation (`change_info4`). `Fault` where they aren't there, or the
+/// The change numbers of an operation (`change_info4`). An error where they aren't there, or the
 /// operation was not atomic.
 #[tactic(auto, unfolding(crate::specs::Shared::cinfo))]
-pub fn cinfo_of(reader: &mut XdrReader<'_>) -> Result<Cinfo, Halt>
+pub fn cinfo_of(reader: &mut XdrReader<'_>) -> Result<Cinfo, XdrError>
     ensures { Parses (λ x. x) result reader.old reader.new (read cinfo reader.old.rest) }
 {
     reader.constant(ATOMIC)?;
@@ -58,13 +64,26 @@ pub fn cinfo_of(reader: &mut XdrReader<'_>) -> Result<Cinfo, Halt>
     Ok(Cinfo { before, after })
 }
 
-/// Appends the change numbers of an operation that was atomic (`change_info4`). Fails only for want
-/// of memory.
 #[tactic(auto, unfolding(crate::specs::SharedTexts::cinfo_text))]
-pub fn put_cinfo(out: &mut XdrWriter, info: &Cinfo) -> Result<(), AllocError>
-    ensures { OnOk result (out.new ≡ out.old ++ cinfo_text info.now) }
+fn put_numbers(out: &mut XdrWriter, info: &Cinfo) -> Result<(), AllocError>
+    ensures ok { OnOk result (out.new ≡ out.old ++ cinfo_text info.now) }
+    ensures err { OnErr result (Extends out.old out.new) }
 {
     out.u32(ATOMIC)?;
     out.u64(info.before)?;
     out.u64(info.after)
+}
+
+/// Appends the change numbers of an operation that was atomic (`change_info4`). Without memory it
+/// appends nothing.
+pub fn put_cinfo(out: &mut XdrWriter, info: &Cinfo) -> Result<(), AllocError>
+    ensures ok { OnOk result (out.new ≡ out.old ++ cinfo_text info.now) }
+    ensures err { OnErr result (out.new ≡ out.old) }
+{
+    let mark = out.mark();
+    let done = put_numbers(out, info);
+    if done.is_err() {
+        out.truncate(mark);
+    }
+    done
 }

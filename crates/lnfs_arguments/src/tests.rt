@@ -1,5 +1,11 @@
-use crate::{CompoundError, NoExtraGrammar, read_compound};
-use lnfs_xdr::XdrWriter;
+ghost use Rattle.std.specs.Prelude.{[], ◌∷◌, refl};
+ghost use Rattle.std.proofs.Math.Nat.{le_refl};
+ghost use Rattle.lnfs_xdr.specs.Format.{Opaque, Done, ◌>>=◌};
+ghost use Rattle.lnfs_arguments.specs.Further.{further_of};
+ghost use Rattle.lnfs_arguments.specs.Lawful.{blocks_are_lawful};
+
+use crate::{CompoundError, ExtraGrammar, NoExtraGrammar, read_compound};
+use lnfs_xdr::{XdrError, XdrReader, XdrWriter};
 use std::alloc::{AllocError, Global};
 use std::test::Fail;
 
@@ -19,6 +25,14 @@ fn told(alloc: Global, bytes: &[u8]) -> Result<String, AllocError> {
         Ok(found) => format!(in alloc; "{:?}", found.ops.as_slice()),
         Err(CompoundError::Garbage { at }) => format!(in alloc; "garbage at {at}"),
         Err(CompoundError::Memory) => Err(AllocError),
+    }
+}
+
+/// The count of what is read.
+fn count_in(alloc: Global, bytes: &[u8]) -> Option<u32> {
+    match read_compound(alloc, bytes, &NoExtraGrammar) {
+        Ok(found) => Some(found.count),
+        Err(_) => None,
     }
 }
 
@@ -206,9 +220,10 @@ fn operations_outside_end_reading(rt: HostRuntime) -> Result<(), Fail> {
 #[test]
 fn what_is_left_unread(rt: HostRuntime) -> Result<(), Fail> {
     // each row is what follows the empty tag
-    let rows: [(&[u32], &str); 12] = [
-        (&[1, 5, 9, 9], "[]"),
+    let rows: [(&[u32], &str); 13] = [
+        (&[1], "[]"),
         (&[3, 0xffffffff, 9, 9], "[]"),
+        (&[2], "garbage at 8"),
         (&[2, 0], "[]"),
         (&[2, 33, 10, 9, 9], "[GetFh]"),
         (&[2, 0xffffffff, 10, 9, 9], "[GetFh]"),
@@ -229,10 +244,60 @@ fn what_is_left_unread(rt: HostRuntime) -> Result<(), Fail> {
         let found = told(rt.alloc(), &bytes)?;
         assert_eq!(rt; found.as_str(), *expected);
     }
+    let other = message(rt.alloc(), &[3, 5])?;
+    assert_eq!(rt; count_in(rt.alloc(), &other), Some(0));
     let cut: [u8; 5] = [0, 0, 0, 0, 0];
     assert_eq!(rt; told(rt.alloc(), &cut)?.as_str(), "garbage at 4");
     assert_eq!(rt; told(rt.alloc(), &cut[..3])?.as_str(), "garbage at 0");
     let long: [u8; 4] = [0, 0, 4, 1];
     assert_eq!(rt; told(rt.alloc(), &long)?.as_str(), "garbage at 0");
+    Ok(())
+}
+
+/// One operation beside those of the table, of number 70: at most 16 bytes.
+struct OneBlock;
+
+impl ExtraGrammar for OneBlock {
+    ghost grammar = { further_of ((70, Opaque 16 >>= λ v. Done tt) ∷ []) (λ number args. 8) };
+
+    fn serves(&self, number: u32) -> bool {
+        number == 70
+    }
+
+    #[tactic(auto, unfolding(lnfs_xdr::specs::Lengths::length_at))]
+    fn length(&self, number: u32, rest: &[u8]) -> Result<usize, XdrError> {
+        let mut reader = XdrReader::new(rest);
+        if number == 70 {
+            reader.opaque(16)?;
+        }
+        Ok(reader.at())
+    }
+
+    fn bound(&self, _number: u32, _args: &[u8]) -> u32 {
+        8
+    }
+
+    ghost lawful = { blocks_are_lawful ((70, Opaque 16 >>= λ v. Done tt) ∷ []) (λ number args. 8) (refl, refl, tt) (λ number args. le_refl 8) };
+}
+
+#[test]
+fn an_operation_beside_the_table(rt: HostRuntime) -> Result<(), Fail> {
+    let rows: [(&[u32], &str); 3] = [
+        (
+            &[2, 2, 70, 5, A, B, 10],
+            "[Extra { number: 70, args: Octets { inner: [0, 0, 0, 5, 97, 0, 0, 0, 98, 0, 0, 0] } }, GetFh]",
+        ),
+        (&[2, 1, 70, 17, A], "garbage at 16"),
+        (&[2, 1, 70, 5, A], "garbage at 16"),
+    ];
+    for (words, expected) in &rows {
+        let bytes = message(rt.alloc(), words)?;
+        let found = match read_compound(rt.alloc(), &bytes, &OneBlock) {
+            Ok(found) => format!(in rt.alloc(); "{:?}", found.ops.as_slice())?,
+            Err(CompoundError::Garbage { at }) => format!(in rt.alloc(); "garbage at {at}")?,
+            Err(CompoundError::Memory) => String::new(rt.alloc()),
+        };
+        assert_eq!(rt; found.as_str(), *expected);
+    }
     Ok(())
 }

@@ -1,13 +1,13 @@
 ghost use Rattle.std.specs.Prelude.{◌≡◌};
-ghost use Rattle.lnfs_arguments.specs.Numbered.{number_of};
+ghost use Rattle.lnfs_arguments.specs.Numbered.{number_of, result_number};
 
 use crate::channel::Channel;
 use crate::numbers::{
     OP_ACCESS, OP_CLOSE, OP_COMMIT, OP_CREATE, OP_CREATE_SESSION, OP_DESTROY_CLIENTID,
-    OP_DESTROY_SESSION, OP_EXCHANGE_ID, OP_GETATTR, OP_GETFH, OP_LINK, OP_LOOKUP, OP_LOOKUPP,
-    OP_NVERIFY, OP_OPEN, OP_PUTFH, OP_PUTROOTFH, OP_READ, OP_READDIR, OP_READLINK,
-    OP_RECLAIM_COMPLETE, OP_REMOVE, OP_RENAME, OP_RESTOREFH, OP_SAVEFH, OP_SEQUENCE, OP_SETATTR,
-    OP_VERIFY, OP_WRITE,
+    OP_DESTROY_SESSION, OP_EXCHANGE_ID, OP_FIRST, OP_GETATTR, OP_GETFH, OP_ILLEGAL, OP_LAST,
+    OP_LINK, OP_LOOKUP, OP_LOOKUPP, OP_NVERIFY, OP_OPEN, OP_PUTFH, OP_PUTROOTFH, OP_READ,
+    OP_READDIR, OP_READLINK, OP_RECLAIM_COMPLETE, OP_REMOVE, OP_RENAME, OP_RESTOREFH, OP_SAVEFH,
+    OP_SEQUENCE, OP_SETATTR, OP_VERIFY, OP_WRITE,
 };
 use crate::stateid::StateId;
 use lnfs_attrs::{Bitmap, RawAttrs};
@@ -235,6 +235,17 @@ impl Op {
             Op::DestroyClientId { .. } => OP_DESTROY_CLIENTID,
             Op::ReclaimComplete { .. } => OP_RECLAIM_COMPLETE,
             Op::Outside { number, .. } | Op::Extra { number, .. } => *number,
+        }
+    }
+
+    /// The number in the operation's result, whatever status it is answered with: `OP_ILLEGAL` of
+    /// one that the protocol doesn't have (RFC 8881 section 18.52), and of any other its own.
+    pub fn result_number(&self) -> u32
+        ensures { result ≡ result_number self.now }
+    {
+        match self {
+            Op::Outside { number, .. } if *number < OP_FIRST || *number > OP_LAST => OP_ILLEGAL,
+            _ => self.number(),
         }
     }
 }

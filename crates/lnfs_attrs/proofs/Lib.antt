@@ -3,3 +3,4 @@ pub mod Below
 pub mod Judging
 pub mod Bits
 pub mod Masks
+pub mod Sizes

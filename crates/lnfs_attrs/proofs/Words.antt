@@ -88,7 +88,7 @@ one_short : (x : ℕ) (b : Bool) → length (cond b [] (x ∷ [])) ≤ 1
 one_short x true = omega arith
 one_short x false = omega arith
 
-before_short : (x : ℕ) (xs : List ℕ) → length (before x xs) ≤ suc (length xs)
+pub before_short : (x : ℕ) (xs : List ℕ) → length (before x xs) ≤ suc (length xs)
 before_short x [] = one_short x (eqb x 0)
 before_short x (y ∷ ys) = omega arith
 

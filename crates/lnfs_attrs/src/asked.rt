@@ -1,4 +1,5 @@
-ghost use Rattle.std.specs.Prelude.{◌≡◌, ◌==◌, ◌&&◌, ◌++◌, ◌≤◌, ◌<◌, ◌↔◌, ℕ, IsTrue, true, length, slice_index, All, OnOk};
+ghost use Rattle.std.specs.Prelude.{◌≡◌, ◌==◌, ◌&&◌, ◌++◌, ◌≤◌, ◌<◌, ◌↔◌, ℕ, IsTrue, true, length, slice_index, All, OnOk, OnErr};
+ghost use Rattle.lnfs_xdr.specs.Written.{Extends};
 ghost use Rattle.lnfs_xdr.specs.Canon.{word, long};
 ghost use Rattle.std.specs.List.{list_any, flat_map};
 ghost use Rattle.lnfs_attrs.specs.Bitmaps.{has_attr};
@@ -56,7 +57,8 @@ pub fn asks_inner(asked: &Bitmap) -> bool
 }
 
 fn put_moment(out: &mut XdrWriter, moment: &Moment) -> Result<(), AllocError>
-    ensures { OnOk result (out.new ≡ out.old ++ moment_text moment.now) }
+    ensures ok { OnOk result (out.new ≡ out.old ++ moment_text moment.now) }
+    ensures err { OnErr result (Extends out.old out.new) }
 {
     out.u64(moment.secs)?;
     out.u32(moment.nanos)
@@ -64,7 +66,8 @@ fn put_moment(out: &mut XdrWriter, moment: &Moment) -> Result<(), AllocError>
 
 fn put_label(out: &mut XdrWriter, label: &LabelValue) -> Result<(), AllocError>
     requires { length label.now.bytes ≤ 1024 }
-    ensures { OnOk result (out.new ≡ out.old ++ label_text label.now) }
+    ensures ok { OnOk result (out.new ≡ out.old ++ label_text label.now) }
+    ensures err { OnErr result (Extends out.old out.new) }
 {
     out.u32(label.lfs)?;
     out.u32(label.pi)?;
@@ -73,7 +76,8 @@ fn put_label(out: &mut XdrWriter, label: &LabelValue) -> Result<(), AllocError>
 
 /// A bitmap of three words.
 fn put_three(out: &mut XdrWriter, words: [u32; 3]) -> Result<(), AllocError>
-    ensures { OnOk result (out.new ≡ out.old ++ (word 3 ++ word (slice_index words 0) ++ word (slice_index words 1) ++ word (slice_index words 2))) }
+    ensures ok { OnOk result (out.new ≡ out.old ++ (word 3 ++ word (slice_index words 0) ++ word (slice_index words 1) ++ word (slice_index words 2))) }
+    ensures err { OnErr result (Extends out.old out.new) }
 {
     out.u32(3)?;
     out.u32(words[0])?;
@@ -82,7 +86,8 @@ fn put_three(out: &mut XdrWriter, words: [u32; 3]) -> Result<(), AllocError>
 }
 
 fn put_fsid(out: &mut XdrWriter) -> Result<(), AllocError>
-    ensures { OnOk result (out.new ≡ out.old ++ (long 0 ++ long 0)) }
+    ensures ok { OnOk result (out.new ≡ out.old ++ (long 0 ++ long 0)) }
+    ensures err { OnErr result (Extends out.old out.new) }
 {
     out.u64(0)?;
     out.u64(0)
@@ -92,7 +97,8 @@ fn put_fsid(out: &mut XdrWriter) -> Result<(), AllocError>
 #[tactic(auto, unfolding(crate::specs::Attributes::value_of))]
 fn put_value(out: &mut XdrWriter, number: u32, view: &View) -> Result<(), AllocError>
     requires { length view.now.label.bytes ≤ 1024 }
-    ensures { OnOk result (out.new ≡ out.old ++ value_of number view.now) }
+    ensures ok { OnOk result (out.new ≡ out.old ++ value_of number view.now) }
+    ensures err { OnErr result (Extends out.old out.new) }
 {
     match number {
         SUPPORTED_ATTRS => put_three(out, SUPPORTED_WORDS),
@@ -164,7 +170,8 @@ fn put_attr(
     number: u32,
 ) -> Result<(), AllocError>
     requires { length view.now.label.bytes ≤ 1024 }
-    ensures { OnOk result (out.new ≡ out.old ++ attr_text asked.now view.now inner number) }
+    ensures ok { OnOk result (out.new ≡ out.old ++ attr_text asked.now view.now inner number) }
+    ensures err { OnErr result (Extends out.old out.new) }
 {
     if answers(asked, inner, number) {
         put_value(out, number, view)?;
@@ -180,7 +187,8 @@ fn put_all(
     numbers: &[u32],
 ) -> Result<(), AllocError>
     requires { length view.now.label.bytes ≤ 1024 }
-    ensures { OnOk result (out.new ≡ out.old ++ flat_map (attr_text asked.now view.now inner) numbers.now) }
+    ensures ok { OnOk result (out.new ≡ out.old ++ flat_map (attr_text asked.now view.now inner) numbers.now) }
+    ensures err { OnErr result (Extends out.old out.new) }
 {
     for number in numbers {
         put_attr(out, asked, view, inner, *number)?;
@@ -190,6 +198,7 @@ fn put_all(
 
 /// Appends the values of the attributes of the table that are asked, in the table's order, and
 /// without the inner ones where `inner` is false. Attributes outside of the table are left out.
+/// Without memory it appends nothing.
 #[tactic(auto, unfolding(crate::specs::Attributes::list_text))]
 pub fn write_attrs(
     asked: &Bitmap,
@@ -198,7 +207,13 @@ pub fn write_attrs(
     out: &mut XdrWriter,
 ) -> Result<(), AllocError>
     requires { length view.now.label.bytes ≤ 1024 }
-    ensures { OnOk result (out.new ≡ out.old ++ list_text asked.now view.now inner) }
+    ensures ok { OnOk result (out.new ≡ out.old ++ list_text asked.now view.now inner) }
+    ensures err { OnErr result (out.new ≡ out.old) }
 {
-    put_all(out, asked, view, inner, &LISTED)
+    let mark = out.mark();
+    let done = put_all(out, asked, view, inner, &LISTED);
+    if done.is_err() {
+        out.truncate(mark);
+    }
+    done
 }

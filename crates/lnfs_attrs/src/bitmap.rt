@@ -1,7 +1,8 @@
-ghost use Rattle.std.specs.Prelude.{◌≡◌, ◌==◌, ◌||◌, ◌++◌, ◌<◌, ◌≤◌, ◌^◌, ℕ, false, length, take, All, OnOk};
+ghost use Rattle.std.specs.Prelude.{◌≡◌, ◌==◌, ◌||◌, ◌++◌, ◌<◌, ◌≤◌, ◌^◌, ℕ, false, length, take, All, OnOk, OnErr};
+ghost use Rattle.lnfs_xdr.specs.Written.{Extends};
 ghost use Rattle.std.specs.List.{list_any};
 ghost use Rattle.lnfs_xdr.specs.Reading.{read};
-ghost use Rattle.lnfs_attrs.specs.Parsing.{Parses};
+ghost use Rattle.lnfs_xdr.specs.Cursor.{Parses};
 ghost use Rattle.lnfs_attrs.specs.Bitmaps.{bitmap, so_many_words, trimmed, words_text, bitmap_text, has_attr};
 
 use lnfs_xdr::{XdrError, XdrReader, XdrWriter};
@@ -97,10 +98,10 @@ fn used_words(words: &[u32]) -> usize
     used
 }
 
-/// The count and the words.
-fn put_words(out: &mut XdrWriter, words: &[u32]) -> Result<(), AllocError>
+fn put_count_and_words(out: &mut XdrWriter, words: &[u32]) -> Result<(), AllocError>
     requires { length words.now < 2 ^ 32 }
-    ensures { OnOk result (out.new ≡ out.old ++ words_text words.now) }
+    ensures ok { OnOk result (out.new ≡ out.old ++ words_text words.now) }
+    ensures err { OnErr result (Extends out.old out.new) }
 {
     out.u32(words.len() as u32)?;
     for word in words {
@@ -109,10 +110,27 @@ fn put_words(out: &mut XdrWriter, words: &[u32]) -> Result<(), AllocError>
     Ok(())
 }
 
-/// Appends the one spelling of a bitmap that has no zero word at its end.
+/// Appends an array of words: how many, and the words (RFC 4506 section 4.13). Without memory it
+/// appends nothing.
+pub fn put_words(out: &mut XdrWriter, words: &[u32]) -> Result<(), AllocError>
+    requires { length words.now < 2 ^ 32 }
+    ensures ok { OnOk result (out.new ≡ out.old ++ words_text words.now) }
+    ensures err { OnErr result (out.new ≡ out.old) }
+{
+    let mark = out.mark();
+    let done = put_count_and_words(out, words);
+    if done.is_err() {
+        out.truncate(mark);
+    }
+    done
+}
+
+/// Appends the one spelling of a bitmap that has no zero word at its end. Without memory it appends
+/// nothing.
 #[tactic(auto, unfolding(crate::specs::Bitmaps::bitmap_text))]
 pub fn write_bitmap(map: &Bitmap, out: &mut XdrWriter) -> Result<(), AllocError>
-    ensures { OnOk result (out.new ≡ out.old ++ bitmap_text map.now) }
+    ensures ok { OnOk result (out.new ≡ out.old ++ bitmap_text map.now) }
+    ensures err { OnErr result (out.new ≡ out.old) }
 {
     let used = used_words(&map.words);
     put_words(out, &map.words[..used])

@@ -5,6 +5,7 @@
 
 mod asked;
 mod bitmap;
+pub mod laws;
 pub mod numbers;
 mod raw;
 mod settable;
@@ -12,7 +13,7 @@ mod setting;
 mod view;
 
 pub use asked::{answered, asks_inner, supported, write_attrs};
-pub use bitmap::{Bitmap, read_bitmap, write_bitmap};
+pub use bitmap::{Bitmap, put_words, read_bitmap, write_bitmap};
 pub use raw::RawAttrs;
 pub use settable::{AttrError, AttrSet};
 pub use setting::read_settable;

@@ -1,5 +1,6 @@
 ghost use Rattle.std.specs.Prelude.{◌≡◌, ◌↔◌, IsTrue};
 ghost use Rattle.lnfs_xdr.specs.Format.{Word, Long};
+ghost use Rattle.lnfs_xdr.specs.Cursor.{Parses};
 ghost use Rattle.lnfs_xdr.specs.Reading.{read};
 ghost use Rattle.lnfs_xdr.specs.Message.{parse};
 ghost use Rattle.lnfs_attrs.specs.Attributes.{AllAsked, is_settable};
@@ -61,8 +62,8 @@ fn label_of(alloc: Global, reader: &mut XdrReader<'_>) -> Result<LabelValue, Att
     Ok(LabelValue { lfs, pi, bytes })
 }
 
-fn size_if(reader: &mut XdrReader<'_>, is_there: bool) -> Result<Option<u64>, AttrError>
-    ensures { Gets result reader.new (read (given is_there Long) reader.old.rest) }
+fn size_if(reader: &mut XdrReader<'_>, is_there: bool) -> Result<Option<u64>, XdrError>
+    ensures { Parses (λ x. x) result reader.old reader.new (read (given is_there Long) reader.old.rest) }
 {
     if !is_there {
         return Ok(None);
@@ -70,8 +71,8 @@ fn size_if(reader: &mut XdrReader<'_>, is_there: bool) -> Result<Option<u64>, At
     Ok(Some(reader.u64()?))
 }
 
-fn mode_if(reader: &mut XdrReader<'_>, is_there: bool) -> Result<Option<u32>, AttrError>
-    ensures { Gets result reader.new (read (given is_there Word) reader.old.rest) }
+fn mode_if(reader: &mut XdrReader<'_>, is_there: bool) -> Result<Option<u32>, XdrError>
+    ensures { Parses (λ x. x) result reader.old reader.new (read (given is_there Word) reader.old.rest) }
 {
     if !is_there {
         return Ok(None);

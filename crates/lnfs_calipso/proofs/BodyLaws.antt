@@ -1,6 +1,6 @@
 -- Reading and writing of bodies are inverse to each other.
 use Rattle.std.proofs.Common.{◌≡◌, ℕ, ◌+◌, ◌-◌, ◌*◌, ◌/◌, ◌%◌, ◌<◌, ◌≤◌, ◌&&◌, ◌||◌, Bool, true, false, cond, eqb, leb, List, [], ◌∷◌, ◌++◌, Some, None, length, slice_index, get_or, drop, refl, sym, ap, ◌∙◌, subst, arith, inl, inr, length-append, suc, zero}
-use Rattle.lnfs_calipso.specs.Orders.{same_parts}
+use Rattle.lnfs_calipso.specs.Equality.{same_parts}
 use Rattle.std.specs.Int.{bit_at, to_be_bytes, from_be_bytes, w32}
 use Rattle.std.proofs.lemmas.Bool.{cases_eq, cases_lt, cases_Bool, eqb-true, eq-eqb, and_parts, and_from, or_cases, or_left, or_right, leb-true, le-leb, false≢true, true_from_ne_false, false_from_ne_true}
 use Rattle.std.proofs.lemmas.List.{length-replicate, get_or-drop, get_or_past, take_at}
@@ -8,7 +8,7 @@ use Rattle.std.proofs.lemmas.Nat.{be_bytes_4, from_be_bytes-to_be_bytes_4}
 use Rattle.std.proofs.lemmas.Nat.Bits.{bit_at-zero}
 use Rattle.lnfs_calipso.specs.Label.{Label, IsLabel, has_comp, compartments}
 use Rattle.lnfs_calipso.specs.Bitmap.{is_marked, members, mark, byte_at, first_bytes, IsBitmap}
-use Rattle.lnfs_calipso.specs.Members.{has_comp-below, compartments-agree}
+use Rattle.lnfs_calipso.proofs.Members.{has_comp-below, compartments-agree}
 use Rattle.lnfs_calipso.specs.Bits.{length-first_bytes, get_or-first_bytes, below_8}
 use Rattle.lnfs_calipso.specs.Body.{words, body_of, announced, is_used, is_body, label_of_body}
 use Rattle.lnfs_calipso.proofs.Marks.{zeros_of, get_or-zeros, get_or-padded, members-same}

@@ -1,5 +1,5 @@
 -- One bitmap has all the bits of another.
-use Rattle.std.proofs.Common.{◌≡◌, ℕ, ◌+◌, ◌-◌, ◌*◌, ◌/◌, ◌%◌, ◌<◌, true, false, eqb, List, slice_index, sym, ap, ◌∙◌, subst, arith, min, bit_and, inl, inr}
+use Rattle.std.proofs.Common.{◌≡◌, ℕ, ◌+◌, ◌-◌, ◌*◌, ◌/◌, ◌%◌, ◌<◌, true, false, eqb, List, slice_index, sym, ap, ◌∙◌, arith, min, bit_and, inl, inr}
 use Rattle.std.specs.List.{list_all}
 use Rattle.std.specs.Int.{bit_at, bit_not, w8}
 use Rattle.std.proofs.lemmas.Bool.{cases_eq, eqb-true, eq-eqb, false_from_ne_true}
@@ -7,10 +7,11 @@ use Rattle.std.proofs.lemmas.Nat.{and_le_l}
 use Rattle.std.proofs.lemmas.Nat.Bits.{bit_at-zero, bit_at-lt, bit_at_and, bit_at_not, same_from_bits_below}
 use Rattle.lnfs_calipso.specs.Label.{has_comp}
 use Rattle.lnfs_calipso.specs.Bitmap.{is_marked, members, bitmap_of, IsBitmap}
-use Rattle.lnfs_calipso.specs.Members.{has_comp-members, has_comp-below, among, all_among}
+use Rattle.lnfs_calipso.specs.Members.{has_comp-members}
+use Rattle.lnfs_calipso.proofs.Members.{has_comp-below, among, all_among}
 use Rattle.lnfs_calipso.specs.Bits.{marked_at, bitmap_of-members}
-use Rattle.lnfs_calipso.specs.Same.{same_list}
-use Rattle.lnfs_calipso.specs.Orders.{same_list-refl, same_list-true}
+use Rattle.std.specs.Str.{bytes_eq}
+use Rattle.std.proofs.lemmas.Slice.Eq.{bytes_eq-Decides}
 
 rest_bit : (l h i : ℕ) → h < 256 → i < 8 → bit_at (bit_and l (bit_not w8 h)) i ≡ min (bit_at l i) (1 - bit_at h i)
 rest_bit l h i hl il = bit_at_and l (bit_not w8 h) i ∙ ap (λ b. min (bit_at l i) b) (bit_at_not w8 h i hl il)
@@ -53,8 +54,8 @@ covers_not high low is has k missing =
     ∙ among (members high) (members low) all (8 * k + (7 - i)) (member_at low has k i il ∙ eq-eqb (bit_at (slice_index low k) i) 1 one)))))
 
 -- bitmaps of equal members are equal
-pub same_bitmaps : (a b : List ℕ) → IsBitmap a → IsBitmap b → same_list (members a) (members b) ≡ true → a ≡ b
-same_bitmaps a b is has h = sym (bitmap_of-members a is) ∙ ap bitmap_of (same_list-true (members a) (members b) h) ∙ bitmap_of-members b has
+pub same_bitmaps : (a b : List ℕ) → IsBitmap a → IsBitmap b → bytes_eq (members a) (members b) ≡ true → a ≡ b
+same_bitmaps a b is has h = sym (bitmap_of-members a is) ∙ ap bitmap_of ((bytes_eq-Decides (members a) (members b)).0 h) ∙ bitmap_of-members b has
 
-pub same_members : (a b : List ℕ) → a ≡ b → same_list (members a) (members b) ≡ true
-same_members a b e = subst (λ (x : List ℕ). same_list (members a) (members x) ≡ true) e (same_list-refl (members a))
+pub same_members : (a b : List ℕ) → a ≡ b → bytes_eq (members a) (members b) ≡ true
+same_members a b e = (bytes_eq-Decides (members a) (members b)).1 (ap members e)

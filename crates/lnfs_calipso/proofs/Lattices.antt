@@ -5,25 +5,26 @@ use borrow.Author.Count.{below_more}
 use Rattle.std.proofs.lemmas.List.Folds.{Any-from_list_any, list_any_at}
 use Rattle.std.proofs.lemmas.List.Sums.{fails_before_first}
 use Rattle.std.proofs.lemmas.List.Quantifiers.{position-Some}
-use Rattle.std.proofs.lemmas.Bool.{cases_lt, both_ways, cond-true, lt-ltb}
+use Rattle.std.proofs.lemmas.Bool.{cases_lt, cases_order, both_ways, cond-true, lt-ltb}
 use Rattle.std.proofs.lemmas.List.{get_or_default, get_or_past, get_or-take}
-use Rattle.lnfs_calipso.specs.Label.{Label, dominates, label_at, lowest, dom_of, IsLattice}
+use Rattle.lnfs_calipso.specs.Label.{Label, dominates, label_at, lowest, dom_of, IsPreorderWithBottom}
 use Rattle.lnfs_calipso.specs.Levels.{AreLevels, StandsEarlier, Apart, AllAbove, IsPlaceOf, IsNowhere}
 use Rattle.lnfs_calipso.specs.Same.{same_label, level_of}
-use Rattle.lnfs_calipso.specs.Orders.{dominates-reflexive, dominates-transitive, same_label-true, same_label-refl}
+use Rattle.lnfs_calipso.specs.Equality.{same_label-true, same_label-refl}
+use Rattle.lnfs_calipso.proofs.Orders.{dominates-reflexive, dominates-transitive}
 
 -- every label of the list dominates the first, and past its end the first stands for all
 all_dominate : (labels : List Label) → AreLevels labels → (a : ℕ) → dominates (label_at labels a) (label_at labels 0) ≡ true
 all_dominate labels are a =
     elim (cases_lt a (length labels)) [
-      | inl l ↦ are.bottom a l
+      | inl l ↦ are.first.above a l
       | inr l ↦ past (label_at labels a) (label_at labels 0) (get_or_past labels a (slice_index_or labels 0 lowest) l ∙ get_or_default labels 0 lowest (slice_index_or labels 0 lowest) are.some)
     ]
   where
     past : (a b : Label) → a ≡ b → dominates a b ≡ true
     past a b e = subst (λ (x : Label). dominates a x ≡ true) e (dominates-reflexive a)
 
-pub lattice_of : (labels : List Label) → AreLevels labels → IsLattice (dom_of labels)
+pub lattice_of : (labels : List Label) → AreLevels labels → IsPreorderWithBottom (dom_of labels)
 lattice_of labels are = record {
   reflexive = λ a. dominates-reflexive (label_at labels a);
   transitive = λ a b c. dominates-transitive (label_at labels a) (label_at labels b) (label_at labels c);
@@ -63,6 +64,11 @@ apart_more labels n apart more i j ij jn same =
 
 pub above_more : (labels : List Label) (n : ℕ) → AllAbove labels n → dominates (label_at labels n) (label_at labels 0) ≡ true → AllAbove labels (n + 1)
 above_more labels n above more = below_more (λ i. dominates (label_at labels i) (label_at labels 0) ≡ true) n above more
+
+-- of labels apart no two are equal
+pub one_place : (labels : List Label) → Apart labels (length labels) → (i j : ℕ) → i < length labels → j < length labels → label_at labels i ≡ label_at labels j → i ≡ j
+one_place labels apart i j li lj same =
+    elim (cases_order i j) [ inl e ↦ e | inr o ↦ elim o [ inl l ↦ absurd (apart i j l lj same) | inr g ↦ absurd (apart j i g li (sym same)) ] ]
 
 -- the place of an equal label
 pub place_found : (labels : List Label) (label : Label) (i : ℕ) → level_of labels label ≡ Some i → IsPlaceOf labels label i

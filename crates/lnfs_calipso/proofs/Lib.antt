@@ -3,4 +3,6 @@ pub mod BodyLaws
 pub mod Covers
 pub mod Lattices
 pub mod Marks
+pub mod Members
+pub mod Orders
 pub mod Words

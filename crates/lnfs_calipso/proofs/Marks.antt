@@ -6,7 +6,8 @@ use Rattle.std.proofs.lemmas.List.{length-replicate, get_or-set_same, get_or-set
 use Rattle.std.proofs.lemmas.Nat.Bits.{bit_at_set_same, bit_at_set_other, bit_at-zero}
 use Rattle.lnfs_calipso.specs.Label.{has_comp, compartments}
 use Rattle.lnfs_calipso.specs.Bitmap.{is_marked, members, IsBitmap}
-use Rattle.lnfs_calipso.specs.Members.{compartments-agree, no_compartments, has_comp-members}
+use Rattle.lnfs_calipso.specs.Members.{has_comp-members}
+use Rattle.lnfs_calipso.proofs.Members.{compartments-agree, no_compartments}
 
 or-false : (x y : Bool) → y ≡ false → x ≡ (x || y)
 or-false true y e = refl

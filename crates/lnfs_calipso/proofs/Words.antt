@@ -1,12 +1,12 @@
 -- The number of words of a bitmap.
-use Rattle.std.proofs.Common.{◌≡◌, ℕ, ◌+◌, ◌-◌, ◌*◌, ◌/◌, ◌%◌, ◌<◌, ◌≤◌, ◌||◌, true, false, eqb, ltb, List, [], ◌∷◌, slice_index, refl, sym, ap, ◌∙◌, arith, inl, inr}
+use Rattle.std.proofs.Common.{◌≡◌, ℕ, ◌+◌, ◌-◌, ◌*◌, ◌/◌, ◌%◌, ◌<◌, ◌≤◌, ◌||◌, true, false, eqb, ltb, List, [], ◌∷◌, slice_index, zero, suc, refl, sym, ap, ◌∙◌, arith, inl, inr}
 use Rattle.std.specs.Int.{bit_at}
 use Rattle.std.proofs.lemmas.Bool.{cases_eq, cases_lt, eqb-true, eq-eqb, or_left, or_right, or_cases, or_parts, ltb-true, ltb-false, false≢true}
-use Rattle.std.proofs.lemmas.Nat.Bits.{bit_at-zero, bit_at-lt}
+use Rattle.std.proofs.lemmas.Nat.Bits.{bit_at-zero, bit_at-lt, same_from_bits_below}
 use Rattle.lnfs_calipso.specs.Label.{has_comp}
 use Rattle.lnfs_calipso.specs.Bitmap.{is_marked, members, IsBitmap}
 use Rattle.lnfs_calipso.specs.Members.{has_comp-members}
-use Rattle.lnfs_calipso.specs.Bits.{marked_at, sum_of_bits}
+use Rattle.lnfs_calipso.specs.Bits.{marked_at}
 use Rattle.lnfs_calipso.specs.Body.{words, is_used}
 
 -- no word is above the last compartment's
@@ -31,58 +31,34 @@ marked_byte : (bits : List ℕ) (c : ℕ) → is_marked bits c ≡ true → slic
 marked_byte bits c h none =
     false≢true (sym (ap (λ b. eqb (bit_at b (7 - c % 8)) 1) none ∙ ap (λ b. eqb b 1) (bit_at-zero (7 - c % 8))) ∙ h)
 
+-- one of the bits below n is set, or none is
+data Bits (b n : ℕ) : Type 0 where
+  one_set : (i : ℕ) → i < n → bit_at b i ≡ 1 → Bits b n
+  none_set : ((i : ℕ) → i < n → bit_at b i ≡ 0) → Bits b n
+
+no_one : (n : ℕ) → n < 2 → (n ≡ 1 → ⊥) → n ≡ 0
+no_one n l h = elim (cases_eq n 1) [ inl one ↦ absurd (h one) | inr other ↦ omega arith ]
+
+bits_below : (b n : ℕ) → Bits b n
+bits_below b zero = none_set (λ i l. absurd (omega arith))
+bits_below b (suc n) =
+    elim (bits_below b n) [
+      | one_set i l one ↦ one_set i (omega arith) one
+      | none_set none ↦ elim (cases_eq (bit_at b n) 1) [
+        | inl one ↦ one_set n (omega arith) one
+        | inr not_one ↦ none_set (λ i l. elim (cases_eq i n) [ inl e ↦ ap (bit_at b) e ∙ no_one (bit_at b n) (bit_at-lt b n) not_one | inr other ↦ none i (omega arith) ])
+      ]
+    ]
+
 -- a byte that isn't zero has a bit
-no_bits : (b : ℕ) → b < 256 → (bit_at b 0 ≡ 1 → ⊥) → (bit_at b 1 ≡ 1 → ⊥) → (bit_at b 2 ≡ 1 → ⊥) → (bit_at b 3 ≡ 1 → ⊥) → (bit_at b 4 ≡ 1 → ⊥) → (bit_at b 5 ≡ 1 → ⊥) → (bit_at b 6 ≡ 1 → ⊥) → (bit_at b 7 ≡ 1 → ⊥) → b ≡ 0
-no_bits b l h0 h1 h2 h3 h4 h5 h6 h7 =
-    zero_sum _ _ _ _ _ _ _ _ b (sum_of_bits b l) (zero_bit b 0 h0) (zero_bit b 1 h1) (zero_bit b 2 h2) (zero_bit b 3 h3) (zero_bit b 4 h4) (zero_bit b 5 h5) (zero_bit b 6 h6) (zero_bit b 7 h7)
-  where
-    zero_bit : (b i : ℕ) → (bit_at b i ≡ 1 → ⊥) → bit_at b i ≡ 0
-    zero_bit b i h = below_2 (bit_at b i) (bit_at-lt b i) h
-      where
-        below_2 : (n : ℕ) → n < 2 → (n ≡ 1 → ⊥) → n ≡ 0
-        below_2 n l h = elim (cases_eq n 1) [ inl one ↦ absurd (h one) | inr other ↦ omega arith ]
-
-    zero_sum : (a b c d e f g h n : ℕ) → a * 128 + b * 64 + c * 32 + d * 16 + e * 8 + f * 4 + g * 2 + h ≡ n → h ≡ 0 → g ≡ 0 → f ≡ 0 → e ≡ 0 → d ≡ 0 → c ≡ 0 → b ≡ 0 → a ≡ 0 → n ≡ 0
-    zero_sum a b c d e f g h n s h0 h1 h2 h3 h4 h5 h6 h7 = omega arith
-
 some_bit : (b : ℕ) → b < 256 → 0 < b → (i : ℕ) × (i < 8) × (bit_at b i ≡ 1)
 some_bit b l pos =
-    elim (cases_eq (bit_at b 0) 1) [
-      | inl h ↦ (0, omega arith, h)
-      | inr h0 ↦
-          elim (cases_eq (bit_at b 1) 1) [
-            | inl h ↦ (1, omega arith, h)
-            | inr h1 ↦
-                elim (cases_eq (bit_at b 2) 1) [
-                  | inl h ↦ (2, omega arith, h)
-                  | inr h2 ↦
-                      elim (cases_eq (bit_at b 3) 1) [
-                        | inl h ↦ (3, omega arith, h)
-                        | inr h3 ↦
-                            elim (cases_eq (bit_at b 4) 1) [
-                              | inl h ↦ (4, omega arith, h)
-                              | inr h4 ↦
-                                  elim (cases_eq (bit_at b 5) 1) [
-                                    | inl h ↦ (5, omega arith, h)
-                                    | inr h5 ↦
-                                        elim (cases_eq (bit_at b 6) 1) [
-                                          | inl h ↦ (6, omega arith, h)
-                                          | inr h6 ↦
-                                              elim (cases_eq (bit_at b 7) 1) [
-                                                | inl h ↦ (7, omega arith, h)
-                                                | inr h7 ↦
-                                                    absurd (not_zero b pos (no_bits b l h0 h1 h2 h3 h4 h5 h6 h7))
-                                              ]
-                                        ]
-                                  ]
-                            ]
-                      ]
-                ]
-          ]
+    elim (bits_below b 8) [
+      | one_set i below one ↦ (i, below, one)
+      | none_set none ↦
+          let e : b ≡ 0 = same_from_bits_below 8 b 0 (omega arith) (omega arith) (λ i below. none i below ∙ sym (bit_at-zero i)) in
+          absurd (omega arith)
     ]
-  where
-    not_zero : (b : ℕ) → 0 < b → b ≡ 0 → ⊥
-    not_zero b l e = omega arith
 
 -- which byte of a word isn't zero
 pub used_at : (bytes : List ℕ) (k : ℕ) → is_used bytes k ≡ true → (j : ℕ) × (k ≤ j) × (j < k + 4) × (0 < slice_index bytes j)

@@ -1,5 +1,6 @@
--- A byte of a bitmap by its bits.
-use Rattle.std.proofs.Common.{◌≡◌, ℕ, ◌+◌, ◌-◌, ◌*◌, ◌/◌, ◌%◌, ◌<◌, ◌≤◌, Bool, cond, eqb, List, length, get_or, refl, sym, ap, ◌∙◌, arith, suc, zero, add-zero, zero-add, mul-one}
+-- Lemmas, no definitions: a byte of a bitmap by its bits. They stand in specs/, since the view of a label (`Model` of
+-- `Label`) rests on them.
+use Rattle.std.proofs.Common.{◌≡◌, ℕ, ◌+◌, ◌-◌, ◌*◌, ◌/◌, ◌%◌, ◌<◌, ◌≤◌, cond, eqb, List, length, get_or, refl, sym, ap, ◌∙◌, arith, suc, zero, add-zero, zero-add, mul-one}
 use Rattle.std.specs.List.{range_with_len}
 use Rattle.std.specs.Int.{bit_at}
 use Rattle.std.proofs.lemmas.List.{get_or-map, length-map, ext_get_or}
@@ -95,6 +96,3 @@ pub bitmap_of-members : (bits : List ℕ) → IsBitmap bits → bitmap_of (membe
 bitmap_of-members bits is =
     ext_get_or 0 (bitmap_of (members bits)) bits (length-first_bytes 32 (members bits) ∙ sym is.long) (λ k l.
     get_or-first_bytes 32 (members bits) k (omega (arith, length-first_bytes 32 (members bits))) ∙ byte_at-members bits (omega (arith, is.long)) k (is.bytes k))
-
-bit_of : Bool → ℕ
-bit_of b = cond b 1 0

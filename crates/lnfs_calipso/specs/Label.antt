@@ -1,6 +1,7 @@
 -- Sensitivity labels and their dominance (RFC 5570).
 use Rattle.std.specs.Prelude.{◌≡◌, ◌==◌, ◌&&◌, ◌||◌, ◌<◌, ◌^◌, ℕ, Bool, true, List, [], filter, nat_le}
 use Rattle.std.specs.List.{list_any, list_all, range_with_len, slice_index_or}
+use Rattle.lnfs_calipso.specs.declared.bitmap.TheConstants.{COMPARTMENTS}
 
 -- A label: the DOI under which it is read, the sensitivity, and the compartments, from 0 to 255, in
 -- rising order.
@@ -18,7 +19,7 @@ numbers_below n test = filter test (range_with_len 0 n)
 
 -- the compartments that pass a test
 abbrev pub compartments : (ℕ → Bool) → List ℕ
-compartments test = numbers_below 256 test
+compartments test = numbers_below COMPARTMENTS test
 
 -- the label of a DOI, a sensitivity and the compartments of a list in any order
 abbrev pub labelled : ℕ → ℕ → List ℕ → Label
@@ -51,8 +52,8 @@ label_at labels level = slice_index_or labels level (slice_index_or labels 0 low
 abbrev pub dom_of : List Label → ℕ → ℕ → Bool
 dom_of labels a b = dominates (label_at labels a) (label_at labels b)
 
--- Dominance is an order with a bottom.
-pub record IsLattice (dom : ℕ → ℕ → Bool) : Type 0 where
+-- Dominance of levels is a preorder, with level 0 below all of them.
+pub record IsPreorderWithBottom (dom : ℕ → ℕ → Bool) : Type 0 where
   pub reflexive : (a : ℕ) → dom a a ≡ true
   pub transitive : (a b c : ℕ) → dom a b ≡ true → dom b c ≡ true → dom a c ≡ true
   pub bottom : (a : ℕ) → dom a 0 ≡ true

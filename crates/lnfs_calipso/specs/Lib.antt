@@ -1,9 +1,9 @@
 pub mod Bitmap
 pub mod Bits
 pub mod Body
+pub mod Equality
 pub mod Label
 pub mod Levels
 pub mod Members
-pub mod Orders
 pub mod Refused
 pub mod Same

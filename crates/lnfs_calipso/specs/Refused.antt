@@ -2,12 +2,13 @@
 use Rattle.std.specs.Prelude.{◌≡◌, ◌==◌, ℕ, ◌<◌, ◌≤◌, false, List, length, Result, Ok, Err, MatchBool}
 use Rattle.lnfs_calipso.specs.Label.{Label, label_at, dominates}
 use Rattle.lnfs_calipso.specs.Levels.{AreLevels, StandsEarlier, Apart, AllAbove}
+use Rattle.lnfs_calipso.specs.declared.lattice.TheConstants.{MAX_LEVELS}
 use Rattle.lnfs_calipso.specs.declared.lattice.LatticeError.{LatticeError}
 use Rattle.lnfs_calipso.specs.declared.lattice.LatticeError.TheVariants.{Twice, NoBottom, TooMany, Memory}
 
 -- the label at place i is the first that stands earlier too
 pub record IsTwice (labels : List Label) (i : ℕ) : Type 0 where
-  pub few : length labels ≤ 32
+  pub few : length labels ≤ MAX_LEVELS
   pub inside : i < length labels
   pub earlier : StandsEarlier labels i
   pub first : Apart labels i
@@ -20,14 +21,14 @@ pub record IsBelow (labels : List Label) (i : ℕ) : Type 0 where
 
 -- no label stands earlier, and that at place i is the first that doesn't dominate the first; of no label that is place 0
 pub record HasNoBottom (labels : List Label) (i : ℕ) : Type 0 where
-  pub few : length labels ≤ 32
+  pub few : length labels ≤ MAX_LEVELS
   pub apart : Apart labels (length labels)
   pub below : MatchBool (length labels == 0) (i ≡ 0) (IsBelow labels i)
 
 -- the labels are those of levels, or the first of the three tests that fails says why not
 abbrev pub Levels : List Label → Result (List Label) LatticeError → Type 0
 Levels labels (Ok levels) = (levels ≡ labels) × AreLevels labels
-Levels labels (Err TooMany) = 32 < length labels
+Levels labels (Err TooMany) = MAX_LEVELS < length labels
 Levels labels (Err (Twice i)) = IsTwice labels i
 Levels labels (Err (NoBottom i)) = HasNoBottom labels i
 Levels labels (Err Memory) = Unit {0}

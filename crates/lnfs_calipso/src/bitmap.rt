@@ -5,12 +5,12 @@ ghost use Rattle.std.specs.List.{list_all};
 ghost use Rattle.lnfs_calipso.specs.Label.{has_comp, compartments};
 ghost use Rattle.lnfs_calipso.specs.Bitmap.{is_marked, members, IsBitmap};
 ghost use Rattle.lnfs_calipso.specs.Body.{words, is_used};
-ghost use Rattle.lnfs_calipso.specs.Same.{same_list};
+ghost use Rattle.std.specs.Str.{bytes_eq};
 
 /// The bytes of a bitmap of 256 compartments.
 pub const BITMAP_BYTES: usize = 32;
 
-/// The number of compartments.
+/// The number of compartments, from 0 to 255.
 pub const COMPARTMENTS: u16 = 256;
 
 /// Whether the bit of a compartment is set.
@@ -25,7 +25,7 @@ pub fn has(bits: &[u8; BITMAP_BYTES], comp: u16) -> bool
 
 /// Adds a compartment.
 pub fn insert(bits: &mut [u8; BITMAP_BYTES], comp: u16)
-    requires { comp < 256 }
+    requires { comp < COMPARTMENTS }
     ensures bytes { (k : ℕ) → slice_index bits.new k < 256 }
     ensures marked { (c : ℕ) → is_marked bits.new c ≡ (is_marked bits.old c || comp == c) }
 {
@@ -35,8 +35,8 @@ pub fn insert(bits: &mut [u8; BITMAP_BYTES], comp: u16)
 /// The bitmap of the given compartments, which isn't there where one is above 255.
 pub fn bitmap_of(comps: &[u16]) -> Option<[u8; BITMAP_BYTES]>
     ensures some { IfSome result (λ bits. (members bits ≡ compartments (has_comp comps.now)) × IsBitmap bits) }
-    ensures below { OnSome result (All (λ c. c < 256) comps.now) }
-    ensures above { IfNone result (Any (λ c. 256 ≤ c) comps.now) }
+    ensures below { OnSome result (All (λ c. c < COMPARTMENTS) comps.now) }
+    ensures above { IfNone result (Any (λ c. COMPARTMENTS ≤ c) comps.now) }
 {
     let mut bits = [0; BITMAP_BYTES];
     for comp in comps {
@@ -101,7 +101,7 @@ pub fn covers(high: &[u8; BITMAP_BYTES], low: &[u8; BITMAP_BYTES]) -> bool
 pub fn same(a: &[u8; BITMAP_BYTES], b: &[u8; BITMAP_BYTES]) -> bool
     requires a { IsBitmap a.now }
     requires b { IsBitmap b.now }
-    ensures { result ≡ same_list (members a.now) (members b.now) }
+    ensures { result ≡ bytes_eq (members a.now) (members b.now) }
 {
     a == b
 }

@@ -2,7 +2,7 @@ ghost use Rattle.std.specs.Prelude.{◌≡◌, [], ◌<◌, ◌≤◌, IfOk, OnO
 ghost use Rattle.lnfs_calipso.specs.Label.{has_comp, labelled, with_comp, dominates, IsLabel};
 ghost use Rattle.lnfs_calipso.specs.Bitmap.{members, IsBitmap};
 
-use crate::bitmap::{BITMAP_BYTES, bitmap_of, covers, has, insert, same};
+use crate::bitmap::{BITMAP_BYTES, COMPARTMENTS, bitmap_of, covers, has, insert, same};
 use std::alloc::Global;
 use std::marker::Model;
 
@@ -48,8 +48,8 @@ impl Label {
     /// `BadCompartment` where a compartment is above 255.
     pub fn new(_alloc: Global, doi: u32, sens: u8, comps: &[u16]) -> Result<Label, LabelError>
         ensures ok { IfOk result (λ label. label ≡ labelled doi sens comps.now) }
-        ensures below { OnOk result (All (λ c. c < 256) comps.now) }
-        ensures above { IfErr result (λ e. (e ≡ LabelError.BadCompartment) × Any (λ c. 256 ≤ c) comps.now) }
+        ensures below { OnOk result (All (λ c. c < COMPARTMENTS) comps.now) }
+        ensures above { IfErr result (λ e. (e ≡ LabelError.BadCompartment) × Any (λ c. COMPARTMENTS ≤ c) comps.now) }
     {
         match bitmap_of(comps) {
             Some(bits) => Ok(Label { doi, sens, bits }),
@@ -70,7 +70,7 @@ impl Label {
 
     /// Adds a compartment.
     pub fn insert(&mut self, comp: u16)
-        requires { comp < 256 }
+        requires { comp < COMPARTMENTS }
         ensures { self.new ≡ with_comp self.old comp }
     {
         insert(&mut self.bits, comp);
@@ -133,7 +133,7 @@ impl Label {
 impl PartialEq for Label {
     ghost use Rattle.std.specs.Cmp.{partial_equiv_from_equiv};
     ghost use Rattle.lnfs_calipso.specs.Same.{same_label};
-    ghost use Rattle.lnfs_calipso.specs.Orders.{same_label-equivalence};
+    ghost use Rattle.lnfs_calipso.specs.Equality.{same_label-equivalence};
 
     ghost eq = { same_label };
 
@@ -145,7 +145,7 @@ impl PartialEq for Label {
 }
 
 impl Eq for Label {
-    ghost use Rattle.lnfs_calipso.specs.Orders.{same_label-equivalence};
+    ghost use Rattle.lnfs_calipso.specs.Equality.{same_label-equivalence};
 
     ghost laws = { same_label-equivalence };
 }

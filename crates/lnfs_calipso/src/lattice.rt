@@ -1,5 +1,5 @@
 ghost use Rattle.std.specs.Prelude.{◌≡◌, ℕ, ◌<◌, ◌≤◌, nat_lt, length, IfSome, IfNone, MatchOption};
-ghost use Rattle.lnfs_calipso.specs.Label.{label_at, dom_of, IsLattice};
+ghost use Rattle.lnfs_calipso.specs.Label.{label_at, dom_of, IsPreorderWithBottom};
 ghost use Rattle.lnfs_calipso.specs.Levels.{AreLevels, Apart, AllAbove, IsPlaceOf, IsNowhere};
 ghost use Rattle.lnfs_calipso.specs.Same.{level_of};
 ghost use Rattle.lnfs_calipso.specs.Refused.{Levels, IsTwice, IsBelow};
@@ -56,7 +56,7 @@ impl From<AllocError> for LatticeError {
 
 /// The first place whose label stands earlier too.
 fn first_twice(labels: &[Label]) -> Option<u32>
-    requires { length labels.now ≤ 32 }
+    requires { length labels.now ≤ MAX_LEVELS }
     ensures { MatchOption result (Apart labels.now (length labels.now)) (IsTwice labels.now) }
 {
     for (index, label) in labels.iter().enumerate() {
@@ -69,7 +69,7 @@ fn first_twice(labels: &[Label]) -> Option<u32>
 
 /// The first place whose label doesn't dominate the first.
 fn first_not_above(labels: &[Label], bottom: &Label) -> Option<u32>
-    requires few { length labels.now ≤ 32 }
+    requires few { length labels.now ≤ MAX_LEVELS }
     requires bottom { label_at labels.now 0 ≡ bottom.now }
     ensures none { IfNone result (AllAbove labels.now (length labels.now)) }
     ensures some { IfSome result (IsBelow labels.now) }
@@ -128,7 +128,7 @@ impl Lattice {
     pub fn len(&self) -> u32
         ensures value { result ≡ length self.now }
         ensures some { 0 < result }
-        ensures few { result ≤ 32 }
+        ensures few { result ≤ MAX_LEVELS }
     {
         self.labels.len() as u32
     }
@@ -174,9 +174,9 @@ impl Lattice {
         let _labels = &self.labels;
     }
 
-    /// Dominance of levels is an order with a bottom.
-    pub fn is_lattice(&self)
-        ensures { IsLattice (dom_of self.now) }
+    /// Dominance of levels is a preorder, with level 0 below all of them.
+    pub fn is_preordered(&self)
+        ensures { IsPreorderWithBottom (dom_of self.now) }
     {
         let _labels = &self.labels;
     }

@@ -8,15 +8,15 @@
 mod bound;
 #[cfg(test)]
 mod tests;
-#[cfg(test)]
-mod write_tests;
 
 pub use bound::{bounds, reply_bound};
 pub use lnfs_arguments::{
     Callback, Channel, Cinfo, Claim, Compound, CompoundError, CreateSession, ExtraGrammar,
     Implementation, Making, NoExtraGrammar, Op, Sequence, StateId, What, numbers, read_compound,
+    statuses,
 };
 pub use lnfs_requests::write_compound;
 pub use lnfs_results::{
-    DirEntry, NFS4_OK, OpResult, Results, append_result, read_results, result_bounds, write_results,
+    DirEntry, MOST_DATA, OpResult, Results, append_head, append_result, read_results, result_bound,
+    result_bounds, write_results,
 };

@@ -4,12 +4,15 @@ use Rattle.std.specs.Option.{option_and_then, option_map}
 use Rattle.std.specs.Prelude.{slice_index}
 use Rattle.std.proofs.lemmas.Bool.{cases_Bool, cond-true, cond-false, cond_both, eqb-true, eq-eqb, false_from_ne_true, leb-true}
 use Rattle.lnfs_calipso.specs.Label.{Label, IsLabel, has_comp}
-use Rattle.lnfs_calipso.specs.Same.{same_list, same_label}
-use Rattle.lnfs_calipso.specs.Members.{compartments-are, no_compartments}
-use Rattle.lnfs_calipso.specs.Orders.{same_parts, same_list-refl, same_list-true, same_label-refl, same_label-true}
+use Rattle.std.specs.Str.{bytes_eq}
+use Rattle.lnfs_calipso.specs.Same.{same_label}
+use Rattle.lnfs_calipso.proofs.Members.{compartments-are, no_compartments}
+use Rattle.std.proofs.lemmas.Slice.Eq.{bytes_eq-Decides}
+use Rattle.lnfs_calipso.specs.Equality.{same_parts, same_label-refl, same_label-true}
 use Rattle.lnfs_calipso.specs.Body.{body_of, label_of_body}
 use Rattle.lnfs_format.specs.declared.reading.Reading.{Reading}
-use Rattle.lnfs_format.specs.Text.{decimal, Run, join, runs_of, runs_text, comps_text, marked_text, text_of}
+use Rattle.std.specs.Fmt.{decimal}
+use Rattle.lnfs_format.specs.Text.{Run, join, runs_of, runs_text, comps_text, marked_text, text_of}
 use Rattle.lnfs_format.specs.Reading.{with_range, bare, closed, step, read_bytes, finished, start, start_comps, told, where_spelled, reads_text, reads_comps, writes_text}
 use Rattle.lnfs_format.specs.Kinds.{reads_name, writes_name, reads, writes}
 use Rattle.lnfs_format.specs.Laws.{IsTable, IsFormat, IsComps}
@@ -64,7 +67,7 @@ text_told label is =
     ∙ marked_told label is label.comps refl
 
 spelled : (label : Label) (text : List ℕ) → where_spelled label text text ≡ Some label
-spelled label text = cond-true (same_list text text) (Some label) None (same_list-refl text)
+spelled label text = cond-true (bytes_eq text text) (Some label) None ((bytes_eq-Decides text text).1 refl)
 
 -- the text of a label is read as that label
 pub text_read : (label : Label) → IsLabel label → reads_text label.doi (text_of label) ≡ Some label
@@ -157,11 +160,11 @@ taken doi text bytes None h label e = absurd (none_some label e)
     none_some : (l : Label) → None ≡ Some l → ⊥
     none_some l e = cc
 taken doi text bytes (Some l) h label e =
-    elim (cases_Bool (same_list (text l) bytes)) [
+    elim (cases_Bool (bytes_eq (text l) bytes)) [
       | inl same ↦
-          subst (λ (x : Label). Taken doi x (text x) bytes) (some_some l label (sym (cond-true (same_list (text l) bytes) (Some l) None same) ∙ e))
-          (record { doi_is = (h l refl).doi_is; is = (h l refl).is; text_is = same_list-true (text l) bytes same })
-      | inr other ↦ absurd (none_some label (sym (cond-false (same_list (text l) bytes) (Some l) None other) ∙ e))
+          subst (λ (x : Label). Taken doi x (text x) bytes) (some_some l label (sym (cond-true (bytes_eq (text l) bytes) (Some l) None same) ∙ e))
+          (record { doi_is = (h l refl).doi_is; is = (h l refl).is; text_is = (bytes_eq-Decides (text l) bytes).0 same })
+      | inr other ↦ absurd (none_some label (sym (cond-false (bytes_eq (text l) bytes) (Some l) None other) ∙ e))
     ]
   where
     none_some : (l : Label) → None ≡ Some l → ⊥
@@ -212,9 +215,6 @@ none_bytes b e = cc
 some_bytes : (a b : List ℕ) → Some a ≡ Some b → a ≡ b
 some_bytes a b e = cc
 
-same_list-is : (a b : List ℕ) → a ≡ b → same_list a b ≡ true
-same_list-is a b e = subst (λ (x : List ℕ). same_list a x ≡ true) e (same_list-refl a)
-
 same_label-is : (a b : Label) → a ≡ b → same_label a b ≡ true
 same_label-is a b e = subst (λ (x : Label). same_label a x ≡ true) e (same_label-refl a)
 
@@ -222,13 +222,13 @@ same_label-is a b e = subst (λ (x : Label). same_label a x ≡ true) e (same_la
 pub name_back : (rows : List NameRow) → IsTable rows → (bytes : List ℕ) (label : Label) → reads_name rows bytes ≡ Some label → writes_name rows label ≡ Some bytes
 name_back [] table bytes label e = absurd (none_label label e)
 name_back (row ∷ rows) table bytes label e =
-    elim (cases_Bool (same_list row.bytes bytes)) [
+    elim (cases_Bool (bytes_eq row.bytes bytes)) [
       | inl here ↦
-          (let same = some_label row.label label (sym (cond-true (same_list row.bytes bytes) (Some row.label) (reads_name rows bytes) here) ∙ e) in
+          (let same = some_label row.label label (sym (cond-true (bytes_eq row.bytes bytes) (Some row.label) (reads_name rows bytes) here) ∙ e) in
           cond-true (same_label row.label label) (Some row.bytes) (writes_name rows label) (same_label-is row.label label same)
-          ∙ ap Some (same_list-true row.bytes bytes here))
+          ∙ ap Some ((bytes_eq-Decides row.bytes bytes).0 here))
       | inr there ↦
-          (let rest = name_back rows table.2 bytes label (sym (cond-false (same_list row.bytes bytes) (Some row.label) (reads_name rows bytes) there) ∙ e) in
+          (let rest = name_back rows table.2 bytes label (sym (cond-false (bytes_eq row.bytes bytes) (Some row.label) (reads_name rows bytes) there) ∙ e) in
           cond-false (same_label row.label label) (Some row.bytes) (writes_name rows label)
           (false_from_ne_true (same_label row.label label) (λ h. none_bytes bytes (sym table.0 ∙ ap (writes_name rows) (same_label-true row.label label h) ∙ rest)))
           ∙ rest)
@@ -240,12 +240,12 @@ name_again (row ∷ rows) table label bytes e =
     elim (cases_Bool (same_label row.label label)) [
       | inl here ↦
           (let same = some_bytes row.bytes bytes (sym (cond-true (same_label row.label label) (Some row.bytes) (writes_name rows label) here) ∙ e) in
-          cond-true (same_list row.bytes bytes) (Some row.label) (reads_name rows bytes) (same_list-is row.bytes bytes same)
+          cond-true (bytes_eq row.bytes bytes) (Some row.label) (reads_name rows bytes) ((bytes_eq-Decides row.bytes bytes).1 same)
           ∙ ap Some (same_label-true row.label label here))
       | inr there ↦
           (let rest = name_again rows table.2 label bytes (sym (cond-false (same_label row.label label) (Some row.bytes) (writes_name rows label) there) ∙ e) in
-          cond-false (same_list row.bytes bytes) (Some row.label) (reads_name rows bytes)
-          (false_from_ne_true (same_list row.bytes bytes) (λ h. none_label label (sym table.1 ∙ ap (reads_name rows) (same_list-true row.bytes bytes h) ∙ rest)))
+          cond-false (bytes_eq row.bytes bytes) (Some row.label) (reads_name rows bytes)
+          (false_from_ne_true (bytes_eq row.bytes bytes) (λ h. none_label label (sym table.1 ∙ ap (reads_name rows) ((bytes_eq-Decides row.bytes bytes).0 h) ∙ rest)))
           ∙ rest)
     ]
 
@@ -284,15 +284,15 @@ comps_of doi sens bytes (Some l) h label e =
           record {
             doi_is = t.doi_is;
             sens_is = sym (ap (λ (x : Label). x.sens) (same_of l bytes label (sym (cond-true (l.sens == sens) (where_spelled l (comps_text l.comps) bytes) None right) ∙ e))) ∙ eqb-true l.sens sens right;
-            is = t.is;
+            label_is = t.is;
             text_is = t.text_is;
           })
     ]
   where
     same_of : (l : Label) (bytes : List ℕ) (label : Label) → where_spelled l (comps_text l.comps) bytes ≡ Some label → l ≡ label
-    same_of l bytes label e = elim (cases_Bool (same_list (comps_text l.comps) bytes)) [
-      | inl same ↦ some_label l label (sym (cond-true (same_list (comps_text l.comps) bytes) (Some l) None same) ∙ e)
-      | inr other ↦ absurd (none_label label (sym (cond-false (same_list (comps_text l.comps) bytes) (Some l) None other) ∙ e))
+    same_of l bytes label e = elim (cases_Bool (bytes_eq (comps_text l.comps) bytes)) [
+      | inl same ↦ some_label l label (sym (cond-true (bytes_eq (comps_text l.comps) bytes) (Some l) None same) ∙ e)
+      | inr other ↦ absurd (none_label label (sym (cond-false (bytes_eq (comps_text l.comps) bytes) (Some l) None other) ∙ e))
     ]
 
 pub comps_taken : (doi sens : ℕ) → doi < 2 ^ 32 → sens < 256 → (bytes : List ℕ) (label : Label) → reads_comps doi sens bytes ≡ Some label → IsComps doi sens label bytes

@@ -1,3 +1,4 @@
+pub mod Digits
 pub mod KindLaws
 pub mod RangeLemmas
 pub mod ReadLemmas

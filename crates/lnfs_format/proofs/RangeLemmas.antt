@@ -3,8 +3,9 @@ use Rattle.std.proofs.Common.{◌≡◌, ℕ, ◌+◌, ◌<◌, ◌≤◌, ◌&&
 use Rattle.std.proofs.lemmas.Bool.{false≢true, lt-ltb}
 use Rattle.std.proofs.lemmas.Bool.Decides.{nat_tests}
 use Rattle.lnfs_calipso.specs.Label.{Label, IsLabel, has_comp, compartments, with_comp}
-use Rattle.lnfs_calipso.specs.Members.{has_comp-compartments, compartments-agree, no_compartments}
-use Rattle.lnfs_calipso.specs.Orders.{same_parts}
+use Rattle.lnfs_calipso.specs.Members.{has_comp-compartments}
+use Rattle.lnfs_calipso.proofs.Members.{compartments-agree, no_compartments}
+use Rattle.lnfs_calipso.specs.Equality.{same_parts}
 use Rattle.lnfs_format.specs.Reading.{with_range}
 
 -- a label with the compartments from low up to n

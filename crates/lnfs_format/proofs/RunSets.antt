@@ -3,8 +3,9 @@ use Rattle.std.proofs.Common.{◌≡◌, ℕ, ◌+◌, ◌<◌, ◌≤◌, ◌&&
 use Rattle.std.proofs.lemmas.Bool.{cases_Bool, cond-true, cond-false, eqb-true, eq-eqb, lt-ltb, or_left, or_right, false≢true}
 use Rattle.std.proofs.lemmas.Bool.Decides.{nat_tests}
 use Rattle.lnfs_calipso.specs.Label.{Label, IsLabel, has_comp, compartments}
-use Rattle.lnfs_calipso.specs.Members.{has_comp-compartments, has_comp-below, compartments-agree, no_compartments}
-use Rattle.lnfs_calipso.specs.Orders.{same_parts}
+use Rattle.lnfs_calipso.specs.Members.{has_comp-compartments}
+use Rattle.lnfs_calipso.proofs.Members.{has_comp-below, compartments-agree, no_compartments}
+use Rattle.lnfs_calipso.specs.Equality.{same_parts}
 use Rattle.lnfs_format.specs.Text.{Run, join, runs_of}
 use Rattle.lnfs_format.specs.Reading.{with_range}
 use Rattle.lnfs_format.proofs.TextLaws.{Ordered, with_runs}

@@ -1,15 +1,18 @@
 -- The text of a label is read as that label.
-use Rattle.std.proofs.Common.{◌≡◌, ℕ, ◌+◌, ◌-◌, ◌*◌, ◌/◌, ◌%◌, ◌<◌, ◌≤◌, ◌&&◌, ◌||◌, Bool, true, false, eqb, ltb, leb, List, [], ◌∷◌, ◌++◌, Option, Some, None, refl, ap, ◌∙◌, subst, arith, inl, inr, append_assoc, unwrap_or}
+use Rattle.std.proofs.Common.{◌≡◌, ℕ, ◌+◌, ◌-◌, ◌*◌, ◌/◌, ◌%◌, ◌<◌, ◌≤◌, ◌&&◌, ◌||◌, Bool, true, false, eqb, leb, List, [], ◌∷◌, ◌++◌, Option, Some, None, refl, ap, ◌∙◌, subst, arith, inl, inr, append_assoc, unwrap_or}
 use Rattle.std.specs.Option.{option_and_then}
+use Rattle.std.specs.Fmt.{decimal}
 use Rattle.std.specs.List.{flat_map}
-use Rattle.std.proofs.lemmas.Bool.{cases_lt, cases_eq, cond-true, cond-false, le-leb, lt-ltb, le-ltb, eq-eqb, ne_eqb}
+use Rattle.std.proofs.lemmas.Bool.{cases_lt, cases_eq, cond-true, cond-false, le-leb, lt-ltb, eq-eqb, ne_eqb}
 use Rattle.std.proofs.lemmas.Bool.Decides.{nat_tests}
 use Rattle.lnfs_calipso.specs.Label.{Label, has_comp, compartments}
-use Rattle.lnfs_calipso.specs.Members.{has_comp-compartments, compartments-agree}
-use Rattle.lnfs_calipso.specs.Orders.{same_parts}
+use Rattle.lnfs_calipso.specs.Members.{has_comp-compartments}
+use Rattle.lnfs_calipso.proofs.Members.{compartments-agree}
+use Rattle.lnfs_calipso.specs.Equality.{same_parts}
 use Rattle.lnfs_format.specs.declared.reading.Reading.{Reading}
-use Rattle.lnfs_format.specs.Text.{decimal, Run, comp_text, run_text, next_text, runs_text}
+use Rattle.lnfs_format.specs.Text.{Run, comp_text, run_text, next_text, runs_text}
 use Rattle.lnfs_format.specs.Reading.{with_range, bare, closed, step, read_bytes}
+use Rattle.lnfs_format.proofs.Digits.{one_digit, two_digits, three_digits}
 
 -- a byte is read
 pub one : (r s : Reading) (byte : ℕ) (rest : List ℕ) → step r byte ≡ Some s → read_bytes r (byte ∷ rest) ≡ read_bytes s rest
@@ -53,20 +56,18 @@ digit r m d rest l u = one (record r { number = m }) (record r { number = 10 * m
 
 -- a number is read
 pub number_read : (r : Reading) (n : ℕ) (rest : List ℕ) → n < 256 → read_bytes (with_number r 0) (decimal n ++ rest) ≡ read_bytes (with_number r n) rest
-unfolding decimal
 number_read r n rest l =
+    let read = λ (text : List ℕ). read_bytes (with_number r 0) (text ++ rest) in
     elim (cases_lt n 10) [
-      | inl small ↦
-          ap (λ (text : List ℕ). read_bytes (with_number r 0) (text ++ rest)) (cond-true (ltb n 10) ((48 + n) ∷ []) _ (lt-ltb n 10 small))
-          ∙ digit r 0 n rest small (omega arith) ∙ ap (λ (m : ℕ). read_bytes (with_number r m) rest) (omega arith)
+      | inl small ↦ ap read (one_digit n small) ∙ digit r 0 n rest small (omega arith) ∙ ap (λ (m : ℕ). read_bytes (with_number r m) rest) (omega arith)
       | inr ten ↦ elim (cases_lt n 100) [
         | inl below ↦
-            ap (λ (text : List ℕ). read_bytes (with_number r 0) (text ++ rest)) (cond-false (ltb n 10) ((48 + n) ∷ []) _ (le-ltb n 10 ten) ∙ cond-true (ltb n 100) ((48 + n / 10) ∷ (48 + n % 10) ∷ []) _ (lt-ltb n 100 below))
+            ap read (two_digits n ten below)
             ∙ digit r 0 (n / 10) ((48 + n % 10) ∷ rest) (omega arith) (omega arith)
             ∙ digit r (10 * 0 + n / 10) (n % 10) rest (omega arith) (omega arith)
             ∙ ap (λ (m : ℕ). read_bytes (with_number r m) rest) (omega arith)
         | inr hundred ↦
-            ap (λ (text : List ℕ). read_bytes (with_number r 0) (text ++ rest)) (cond-false (ltb n 10) ((48 + n) ∷ []) _ (le-ltb n 10 ten) ∙ cond-false (ltb n 100) ((48 + n / 10) ∷ (48 + n % 10) ∷ []) _ (le-ltb n 100 hundred))
+            ap read (three_digits n hundred (omega arith))
             ∙ digit r 0 (n / 100) ((48 + n / 10 % 10) ∷ (48 + n % 10) ∷ rest) (omega arith) (omega arith)
             ∙ digit r (10 * 0 + n / 100) (n / 10 % 10) ((48 + n % 10) ∷ rest) (omega arith) (omega arith)
             ∙ digit r (10 * (10 * 0 + n / 100) + n / 10 % 10) (n % 10) rest (omega arith) (omega arith)

@@ -4,7 +4,8 @@ use Rattle.std.specs.Option.{option_map}
 use Rattle.std.specs.Result.{ForOk}
 use Rattle.std.specs.Global.{Vec}
 use Rattle.lnfs_calipso.specs.Label.{Label}
-use Rattle.lnfs_calipso.specs.Same.{same_list, same_label}
+use Rattle.std.specs.Str.{bytes_eq}
+use Rattle.lnfs_calipso.specs.Same.{same_label}
 use Rattle.lnfs_calipso.specs.Body.{body_of, label_of_body}
 use Rattle.lnfs_format.specs.Reading.{reads_text, writes_text}
 use Rattle.lnfs_format.specs.declared.kind.NameRow.{NameRow}
@@ -19,7 +20,7 @@ number_of (Name rows) = 2
 -- the label of the first row with these bytes
 abbrev pub reads_name : List NameRow → List ℕ → Option Label
 reads_name [] bytes = None
-reads_name (row ∷ rows) bytes = if same_list row.bytes bytes then Some row.label else reads_name rows bytes
+reads_name (row ∷ rows) bytes = if bytes_eq row.bytes bytes then Some row.label else reads_name rows bytes
 
 -- the bytes of the first row with this label
 abbrev pub writes_name : List NameRow → Label → Option (List ℕ)

@@ -22,5 +22,5 @@ IsFormat (Name rows) = IsTable rows
 pub record IsComps (doi sens : ℕ) (label : Label) (bytes : List ℕ) : Type 0 where
   pub doi_is : label.doi ≡ doi
   pub sens_is : label.sens ≡ sens
-  pub is : IsLabel label
+  pub label_is : IsLabel label
   pub text_is : comps_text label.comps ≡ bytes

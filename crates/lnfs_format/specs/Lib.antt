@@ -6,4 +6,5 @@ pub mod LevelRead
 pub mod LevelWritten
 pub mod Reading
 pub mod Runs
+pub mod Site
 pub mod Text

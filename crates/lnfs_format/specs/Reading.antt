@@ -3,7 +3,7 @@
 use Rattle.std.specs.Prelude.{ℕ, ◌+◌, ◌-◌, ◌*◌, ◌==◌, ◌&&◌, ◌||◌, true, false, List, [], ◌∷◌, Option, Some, None, nat_le, unwrap_or, option_and_then, if◌then◌else◌}
 use Rattle.std.specs.Option.{option_map}
 use Rattle.lnfs_calipso.specs.Label.{Label, has_comp, compartments}
-use Rattle.lnfs_calipso.specs.Same.{same_list}
+use Rattle.std.specs.Str.{bytes_eq}
 use Rattle.lnfs_format.specs.Text.{text_of, comps_text}
 use Rattle.lnfs_format.specs.declared.reading.Reading.{Reading}
 
@@ -50,7 +50,7 @@ told r bytes = option_map finished (read_bytes r bytes)
 
 -- a label where some bytes are its text
 abbrev pub where_spelled : Label → List ℕ → List ℕ → Option Label
-where_spelled label text bytes = if same_list text bytes then Some label else None
+where_spelled label text bytes = if bytes_eq text bytes then Some label else None
 
 -- the label under a DOI whose text some bytes are
 unfoldable pub reads_text : ℕ → List ℕ → Option Label

@@ -1,13 +1,8 @@
 -- The text of a label: `s`, the sensitivity, and where there are compartments `:` and their runs.
-use Rattle.std.specs.Prelude.{ℕ, ◌+◌, ◌/◌, ◌%◌, ◌==◌, List, [], ◌∷◌, ◌++◌, nat_lt, if◌then◌else◌}
+use Rattle.std.specs.Prelude.{ℕ, ◌+◌, ◌==◌, List, [], ◌∷◌, ◌++◌, if◌then◌else◌}
+use Rattle.std.specs.Fmt.{decimal}
 use Rattle.std.specs.List.{flat_map}
 use Rattle.lnfs_calipso.specs.Label.{Label}
-
--- a number below 1000 in decimal, without leading zeros
-unfoldable pub decimal : ℕ → List ℕ
-decimal n =
-    if nat_lt n 10 then (48 + n) ∷ []
-    else (if nat_lt n 100 then (48 + n / 10) ∷ (48 + n % 10) ∷ [] else (48 + n / 100) ∷ (48 + n / 10 % 10) ∷ (48 + n % 10) ∷ [])
 
 -- a run of numbers, from the first to the last
 pub record Run : Type 0 where

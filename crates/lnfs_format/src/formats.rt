@@ -15,7 +15,17 @@ use std::alloc::{AllocError, AllocFailed, Global};
 use std::marker::Model;
 
 /// The largest number of formats of a site.
-const MAX_FORMATS: usize = 8;
+pub const MAX_FORMATS: usize = 8;
+
+/// The longest spelling of a label, in bytes.
+pub const MAX_SPELLING: usize = 1024;
+
+/// What names a format: its number and its policy identifier (RFC 7569).
+#[derive(Clone, Copy, Debug, PartialEq, Eq)]
+pub struct Pair {
+    pub lfs: u32,
+    pub pi: u32,
+}
 
 /// A format under its number and its policy identifier (RFC 7569).
 #[derive(Debug, Drop)]

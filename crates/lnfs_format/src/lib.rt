@@ -12,7 +12,9 @@ mod runs;
 mod text;
 
 pub use codec::{Codec, Codecs, ReadFn, WriteFn};
-pub use formats::{AddError, FormatEntry, Formats, ReadError, WriteError};
+pub use formats::{
+    AddError, FormatEntry, Formats, MAX_FORMATS, MAX_SPELLING, Pair, ReadError, WriteError,
+};
 pub use kind::{Kind, NameRow};
 pub use name::{read_name, write_name};
 pub use plain::{read_kind, write_kind};

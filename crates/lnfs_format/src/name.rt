@@ -5,7 +5,6 @@ ghost use Rattle.std.specs.Option.{option_map};
 ghost use Rattle.lnfs_format.specs.Kinds.{reads_name, writes_name};
 
 use crate::kind::NameRow;
-use crate::text::is_same;
 use lnfs_calipso::Label;
 use std::alloc::{AllocError, Global};
 
@@ -18,7 +17,7 @@ pub fn read_name(
     ensures { result ≡ Ok (reads_name rows.now bytes.now) }
 {
     for row in rows {
-        if is_same(row.bytes.as_slice(), bytes) {
+        if row.bytes.as_slice() == bytes {
             return Ok(Some(row.label));
         }
     }

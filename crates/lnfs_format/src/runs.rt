@@ -2,14 +2,12 @@
 
 ghost use Rattle.std.specs.Prelude.{◌≡◌, ℕ, ◌+◌, ◌<◌, ◌≤◌, ◌++◌, true, false, List, [], ◌∷◌, OnOk, MatchOption, MatchBool};
 ghost use Rattle.lnfs_calipso.specs.Label.{has_comp};
-ghost use Rattle.lnfs_format.specs.Text.{decimal, comp_text, separator, run_text, comps_text};
+ghost use Rattle.std.specs.Fmt.{decimal};
+ghost use Rattle.lnfs_format.specs.Text.{comp_text, separator, run_text, comps_text};
 ghost use Rattle.lnfs_format.specs.Runs.{HasRun, IsFirstFrom, IsRun, as_run};
 
-use lnfs_calipso::Label;
+use lnfs_calipso::{COMPARTMENTS, Label};
 use std::alloc::AllocError;
-
-/// One more than the highest compartment.
-const COMPARTMENTS: u16 = 256;
 
 /// Compartments that follow one another, from the first to the last.
 #[derive(Clone, Copy)]
@@ -19,7 +17,7 @@ struct Run {
 }
 
 /// Appends a number in decimal, without leading zeros.
-#[tactic(auto, unfolding(crate::specs::Text::decimal))]
+#[tactic(auto, using(crate::proofs::Digits::one_digit, crate::proofs::Digits::two_digits, crate::proofs::Digits::three_digits))]
 pub fn put_decimal(text: &mut Vec<u8>, n: u8) -> Result<(), AllocError>
     ensures { OnOk result (text.new.items ≡ text.old.items ++ decimal n) }
 {
@@ -33,7 +31,7 @@ pub fn put_decimal(text: &mut Vec<u8>, n: u8) -> Result<(), AllocError>
 }
 
 fn put_comp(text: &mut Vec<u8>, comp: u16) -> Result<(), AllocError>
-    requires { comp < 256 }
+    requires { comp < COMPARTMENTS }
     ensures { OnOk result (text.new.items ≡ text.old.items ++ comp_text comp) }
 {
     text.push(b'c')?;
@@ -41,7 +39,7 @@ fn put_comp(text: &mut Vec<u8>, comp: u16) -> Result<(), AllocError>
 }
 
 fn separator(run: Run) -> u8
-    requires { run.first < 256 }
+    requires { run.first < COMPARTMENTS }
     ensures { result ≡ separator (as_run run) }
 {
     if run.first + 1 == run.last {
@@ -54,7 +52,7 @@ fn separator(run: Run) -> u8
 #[tactic(auto, unfolding(crate::specs::Text::run_text))]
 fn put_run(text: &mut Vec<u8>, run: Run) -> Result<(), AllocError>
     requires order { run.first ≤ run.last }
-    requires below { run.last < 256 }
+    requires below { run.last < COMPARTMENTS }
     ensures { OnOk result (text.new.items ≡ text.old.items ++ run_text (as_run run)) }
 {
     put_comp(text, run.first)?;
@@ -67,8 +65,8 @@ fn put_run(text: &mut Vec<u8>, run: Run) -> Result<(), AllocError>
 
 /// The first compartment of a label that isn't below the given one.
 fn first_from(label: &Label, from: u16) -> Option<u16>
-    requires { from ≤ 256 }
-    ensures { MatchOption result ((c : ℕ) → from ≤ c → c < 256 → has_comp label.now.comps c ≡ false)
+    requires { from ≤ COMPARTMENTS }
+    ensures { MatchOption result ((c : ℕ) → from ≤ c → c < COMPARTMENTS → has_comp label.now.comps c ≡ false)
         (IsFirstFrom label.now.comps from) }
 {
     for comp in from..COMPARTMENTS {
@@ -81,7 +79,7 @@ fn first_from(label: &Label, from: u16) -> Option<u16>
 
 /// The last compartment of the run that begins with the given one.
 fn last_of_run(label: &Label, first: u16) -> u16
-    requires below { first < 256 }
+    requires below { first < COMPARTMENTS }
     requires member { has_comp label.now.comps first ≡ true }
     ensures { IsRun label.now.comps first result }
 {
@@ -94,7 +92,7 @@ fn last_of_run(label: &Label, first: u16) -> u16
 
 /// The first run of a label among the compartments that aren't below the given one.
 fn next_run(label: &Label, from: u16) -> Option<Run>
-    requires { from ≤ 256 }
+    requires { from ≤ COMPARTMENTS }
     ensures { HasRun label.now.comps from result }
 {
     let first = first_from(label, from)?;

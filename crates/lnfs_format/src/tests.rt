@@ -1,146 +1,146 @@
 use crate::{
-    AddError, Codec, Codecs, FormatEntry, Formats, Kind, NameRow, ReadError, ReadFn, WriteError,
-    WriteFn, read_comps, read_kind, read_text, write_comps, write_kind, write_text,
+    AddError, Codec, Codecs, FormatEntry, Formats, Kind, NameRow, ReadError, WriteError,
+    read_comps, read_kind, read_text, write_comps, write_kind, write_text,
 };
 use lnfs_calipso::{Label, Lattice, Level};
 use lnfs_lists::{Items, Octets};
-use std::alloc::AllocError;
+use std::alloc::{AllocError, Global};
 use std::test::Fail;
+
+/// Texts, each with the sensitivity and the compartments of its label.
+const TEXTS: &[(&[u8], u8, &[u16])] = &[
+    (b"s0", 0, &[]),
+    (b"s255", 255, &[]),
+    (b"s1:c0", 1, &[0]),
+    (b"s10:c9,c11", 10, &[9, 11]),
+    (b"s1:c1,c2", 1, &[1, 2]),
+    (b"s3:c0.c2,c5", 3, &[0, 1, 2, 5]),
+    (b"s3:c0.c2,c5,c6", 3, &[0, 1, 2, 5, 6]),
+    (b"s1:c255", 1, &[255]),
+    (b"s99:c99.c101,c254,c255", 99, &[255, 254, 101, 100, 99]),
+];
+
+/// What is almost a text.
+const NO_TEXTS: &[&[u8]] = &[
+    b"",
+    b"s",
+    b"3",
+    b"S3",
+    b"s03",
+    b"s256",
+    b"s3 ",
+    b" s3",
+    b"s3:",
+    b"s3c0",
+    b"s3:0",
+    b"s3:c",
+    b"s3:c00",
+    b"s3:c256",
+    b"s3:c0,",
+    b"s3:c0,,c2",
+    b"s3:,c0",
+    b"s3:c2,c0",
+    b"s3:c0,c0",
+    b"s3:c0,c1,c2",
+    b"s3:c0.c1",
+    b"s3:c0.c0",
+    b"s3:c2.c0",
+    b"s3:c0.c2,c3",
+    b"s3:c0.c2.c4",
+    b"s3:c0.",
+    b"s3:.c2",
+    b"s3:c0;c2",
+    b"s3:c0:c2",
+    b"s3:c0,s2",
+    b"s3s3",
+    b"s3:c0.c2,c5\n",
+];
+
+/// What is almost the runs of compartments.
+const NO_RUNS: &[&[u8]] = &[b"", b"-", b"c0,c1,c2", b"3:c0", b"s3:c0"];
+
+/// Bytes in the format of a number, with the level that they spell.
+const SPELLINGS: &[(u32, &[u8], Result<Level, ReadError>)] = &[
+    (
+        101,
+        b"\x00\x00\x00\x01\x01\x03\xe4\x00\x00\x00",
+        Ok(Level(1)),
+    ),
+    (101, b"\x00\x00\x00\x01\x00\x00", Ok(Level(0))),
+    (
+        101,
+        b"\x00\x00\x00\x01\x01\x03\x00\x00\x00\x00",
+        Err(ReadError::BadLabel),
+    ),
+    (
+        101,
+        b"\x00\x00\x00\x01\x01\x03\x00\x00\x00\x01",
+        Err(ReadError::BadLabel),
+    ),
+    (102, b"s3:c0.c2,c5", Ok(Level(1))),
+    (102, b"s3:c0,c1,c2", Err(ReadError::BadLabel)),
+    (103, b"open", Ok(Level(0))),
+    (103, b"shut", Err(ReadError::BadLabel)),
+    (999, b"open", Err(ReadError::WrongLfs)),
+];
+
+/// The format of a number and a level, with the bytes that spell it.
+const SPELLED: &[(u32, u32, &[u8])] = &[
+    (101, 1, b"\x00\x00\x00\x01\x01\x03\xe4\x00\x00\x00"),
+    (101, 0, b"\x00\x00\x00\x01\x00\x00"),
+    (102, 1, b"s3:c0.c2,c5"),
+    (102, 0, b"s0"),
+    (103, 0, b"open"),
+];
 
 #[test]
 fn texts_are_read_and_written(rt: HostRuntime) -> Result<(), Fail> {
     let alloc = rt.alloc();
-    let cases: [(&[u8], u8, &[u16]); 9] = [
-        (b"s0", 0, &[]),
-        (b"s255", 255, &[]),
-        (b"s1:c0", 1, &[0]),
-        (b"s10:c9,c11", 10, &[9, 11]),
-        (b"s1:c1,c2", 1, &[1, 2]),
-        (b"s3:c0.c2,c5", 3, &[0, 1, 2, 5]),
-        (b"s3:c0.c2,c5,c6", 3, &[0, 1, 2, 5, 6]),
-        (b"s1:c255", 1, &[255]),
-        (b"s99:c99.c101,c254,c255", 99, &[255, 254, 101, 100, 99]),
-    ];
-    for (bytes, sens, comps) in cases {
-        let label = Label::new(alloc, 7, sens, comps)?;
+    for (bytes, sens, comps) in TEXTS {
+        let label = Label::new(alloc, 7, *sens, comps)?;
         assert!(rt; read_text(alloc, 7, bytes)? == Some(label), "{bytes:?}");
         let text = write_text(alloc, 7, &label)?.ok_or("no text")?;
-        assert!(rt; text.as_slice() == bytes, "{bytes:?}");
+        assert!(rt; text.as_slice() == *bytes, "{bytes:?}");
         assert!(rt; write_text(alloc, 8, &label)?.is_none(), "{bytes:?}");
     }
-    Ok(())
-}
-
-#[test]
-fn what_is_almost_a_text_is_refused(rt: HostRuntime) -> Result<(), Fail> {
-    let alloc = rt.alloc();
-    let cases: [&[u8]; 32] = [
-        b"",
-        b"s",
-        b"3",
-        b"S3",
-        b"s03",
-        b"s256",
-        b"s3 ",
-        b" s3",
-        b"s3:",
-        b"s3c0",
-        b"s3:0",
-        b"s3:c",
-        b"s3:c00",
-        b"s3:c256",
-        b"s3:c0,",
-        b"s3:c0,,c2",
-        b"s3:,c0",
-        b"s3:c2,c0",
-        b"s3:c0,c0",
-        b"s3:c0,c1,c2",
-        b"s3:c0.c1",
-        b"s3:c0.c0",
-        b"s3:c2.c0",
-        b"s3:c0.c2,c3",
-        b"s3:c0.c2.c4",
-        b"s3:c0.",
-        b"s3:.c2",
-        b"s3:c0;c2",
-        b"s3:c0:c2",
-        b"s3:c0,s2",
-        b"s3s3",
-        b"s3:c0.c2,c5\n",
-    ];
-    for bytes in cases {
+    for bytes in NO_TEXTS {
         assert!(rt; read_text(alloc, 7, bytes)?.is_none(), "{bytes:?}");
     }
-    Ok(())
-}
-
-#[test]
-fn compartments_alone(rt: HostRuntime) -> Result<(), Fail> {
-    let alloc = rt.alloc();
     let label = Label::new(alloc, 1, 3, &[0, 1, 2, 5])?;
     assert!(rt; write_comps(alloc, &label)?.as_slice() == b"c0.c2,c5".as_slice());
     assert!(rt; read_comps(alloc, 1, 3, b"c0.c2,c5")? == Some(label));
-    let cases: [&[u8]; 5] = [b"", b"-", b"c0,c1,c2", b"3:c0", b"s3:c0"];
-    for bytes in cases {
+    for bytes in NO_RUNS {
         assert!(rt; read_comps(alloc, 1, 3, bytes)?.is_none(), "{bytes:?}");
     }
     Ok(())
 }
 
-#[test]
-fn levels_are_read_and_written(rt: HostRuntime) -> Result<(), Fail> {
-    let alloc = rt.alloc();
-    let read: ReadFn = Box::new(
-        alloc,
-        move |kind: &Kind, bytes: &[u8]| read_kind(alloc, kind, bytes),
-    )?;
-    let write: WriteFn = Box::new(
-        alloc,
-        move |kind: &Kind, label: &Label| write_kind(alloc, kind, label),
-    )?;
-    let calipso = Codec::new(0, read, write);
-    let read: ReadFn = Box::new(
-        alloc,
-        move |kind: &Kind, bytes: &[u8]| read_kind(alloc, kind, bytes),
-    )?;
-    let write: WriteFn = Box::new(
-        alloc,
-        move |kind: &Kind, label: &Label| write_kind(alloc, kind, label),
-    )?;
-    let text = Codec::new(1, read, write);
-    let read: ReadFn = Box::new(
-        alloc,
-        move |kind: &Kind, bytes: &[u8]| read_kind(alloc, kind, bytes),
-    )?;
-    let write: WriteFn = Box::new(
-        alloc,
-        move |kind: &Kind, label: &Label| write_kind(alloc, kind, label),
-    )?;
-    let name = Codec::new(2, read, write);
-    let codecs = Codecs::new(calipso, text, name);
-    let bottom = Label::new(alloc, 1, 0, &[])?;
-    let top = Label::new(alloc, 1, 3, &[0, 1, 2, 5])?;
-    let lattice = Lattice::new(alloc, &[bottom, top]).map_err(|_error| "no levels")?;
-    assert_eq!(rt; lattice.len(), 2);
+/// Formats of the three kinds, of which the last has a name for one label.
+fn three_formats(alloc: Global, named: Label) -> Result<Formats, Fail> {
     let mut rows = Vec::new(alloc);
     rows.push(NameRow {
-        label: bottom,
+        label: named,
         bytes: Octets::from_slice(alloc, b"open")?,
     })?;
+    let name = Kind::Name {
+        rows: Items::new(rows),
+    };
     let mut formats = Formats::new(alloc);
-    assert!(rt; formats.first().is_none());
     for (lfs, kind) in [
         (101, Kind::Calipso),
         (102, Kind::Text { doi: 1 }),
-        (
-            103,
-            Kind::Name {
-                rows: Items::new(rows),
-            },
-        ),
+        (103, name),
     ] {
-        assert!(rt; formats.add(FormatEntry { lfs, pi: 1, kind }).is_ok());
+        formats
+            .add(FormatEntry { lfs, pi: 1, kind })
+            .map_err(|_error| "not added")?;
     }
+    Ok(formats)
+}
+
+#[test]
+fn formats_are_added(rt: HostRuntime) -> Result<(), Fail> {
+    let mut formats = three_formats(rt.alloc(), Label::bare(1, 0))?;
     let again = FormatEntry {
         lfs: 102,
         pi: 1,
@@ -148,61 +148,39 @@ fn levels_are_read_and_written(rt: HostRuntime) -> Result<(), Fail> {
     };
     assert!(rt; formats.add(again) == Err(AddError::Taken));
     assert!(rt; formats.first().is_some_and(|entry| entry.lfs == 101));
-    let read: [(u32, &[u8], Result<Level, ReadError>); 9] = [
-        (
-            101,
-            b"\x00\x00\x00\x01\x01\x03\xe4\x00\x00\x00",
-            Ok(Level(1)),
-        ),
-        (101, b"\x00\x00\x00\x01\x00\x00", Ok(Level(0))),
-        (
-            101,
-            b"\x00\x00\x00\x01\x01\x03\x00\x00\x00\x00",
-            Err(ReadError::BadLabel),
-        ),
-        (
-            101,
-            b"\x00\x00\x00\x01\x01\x03\x00\x00\x00\x01",
-            Err(ReadError::BadLabel),
-        ),
-        (102, b"s3:c0.c2,c5", Ok(Level(1))),
-        (102, b"s3:c0,c1,c2", Err(ReadError::BadLabel)),
-        (103, b"open", Ok(Level(0))),
-        (103, b"shut", Err(ReadError::BadLabel)),
-        (999, b"open", Err(ReadError::WrongLfs)),
-    ];
-    for (lfs, bytes, level) in read {
-        assert!(rt;
-            formats.read(&codecs, &lattice, lfs, 1, bytes) == level,
-            "{lfs} {bytes:?}"
-        );
+    assert!(rt; Formats::new(rt.alloc()).first().is_none());
+    Ok(())
+}
+
+#[test]
+fn levels_are_read_and_written(rt: HostRuntime) -> Result<(), Fail> {
+    let alloc = rt.alloc();
+    let read = move |kind: &Kind, bytes: &[u8]| read_kind(alloc, kind, bytes);
+    let write = move |kind: &Kind, label: &Label| write_kind(alloc, kind, label);
+    let calipso = Codec::new(0, Box::new(alloc, read)?, Box::new(alloc, write)?);
+    let text = Codec::new(1, Box::new(alloc, read)?, Box::new(alloc, write)?);
+    let name = Codec::new(2, Box::new(alloc, read)?, Box::new(alloc, write)?);
+    let codecs = Codecs::new(calipso, text, name);
+    let bottom = Label::bare(1, 0);
+    let top = Label::new(alloc, 1, 3, &[0, 1, 2, 5])?;
+    let lattice = Lattice::new(alloc, &[bottom, top]).map_err(|_error| "no levels")?;
+    assert_eq!(rt; lattice.len(), 2);
+    let formats = three_formats(alloc, bottom)?;
+    for (lfs, bytes, level) in SPELLINGS {
+        let found = formats.read(&codecs, &lattice, *lfs, 1, bytes);
+        assert!(rt; found == *level, "{lfs} {bytes:?}");
     }
-    let written: [(u32, u32, &[u8]); 5] = [
-        (101, 1, b"\x00\x00\x00\x01\x01\x03\xe4\x00\x00\x00"),
-        (101, 0, b"\x00\x00\x00\x01\x00\x00"),
-        (102, 1, b"s3:c0.c2,c5"),
-        (102, 0, b"s0"),
-        (103, 0, b"open"),
-    ];
-    for (lfs, level, bytes) in written {
-        assert!(rt; lattice.holds(Level(level)));
+    for (lfs, level, bytes) in SPELLED {
+        assert!(rt; lattice.holds(Level(*level)));
         let text = formats
-            .write(&codecs, &lattice, lfs, 1, Level(level))
+            .write(&codecs, &lattice, *lfs, 1, Level(*level))
             .map_err(|_error| "no text")?;
-        assert!(rt; text.as_slice() == bytes, "{lfs} {level}");
+        assert!(rt; text.as_slice() == *bytes, "{lfs} {level}");
     }
-    assert!(rt;
-        is_unwritten(
-            formats.write(&codecs, &lattice, 103, 1, Level(1)),
-            WriteError::NotInFormat
-        )
-    );
-    assert!(rt;
-        is_unwritten(
-            formats.write(&codecs, &lattice, 103, 2, Level(1)),
-            WriteError::WrongLfs
-        )
-    );
+    let unnamed = formats.write(&codecs, &lattice, 103, 1, Level(1));
+    assert!(rt; is_unwritten(unnamed, WriteError::NotInFormat));
+    let unknown = formats.write(&codecs, &lattice, 103, 2, Level(1));
+    assert!(rt; is_unwritten(unknown, WriteError::WrongLfs));
     Ok(())
 }
 
@@ -216,32 +194,19 @@ fn is_unwritten(text: Result<Vec<u8>, WriteError>, error: WriteError) -> bool {
 #[test]
 fn the_stored_closures_are_called(rt: HostRuntime) -> Result<(), Fail> {
     let alloc = rt.alloc();
-    let read: ReadFn = Box::new(alloc, |_kind: &Kind, _bytes: &[u8]| Err(AllocError))?;
-    let write: WriteFn = Box::new(alloc, |_kind: &Kind, _label: &Label| Err(AllocError))?;
-    let calipso = Codec::new(0, read, write);
-    let read: ReadFn = Box::new(alloc, |_kind: &Kind, _bytes: &[u8]| Err(AllocError))?;
-    let write: WriteFn = Box::new(alloc, |_kind: &Kind, _label: &Label| Err(AllocError))?;
-    let text = Codec::new(1, read, write);
-    let read: ReadFn = Box::new(alloc, |_kind: &Kind, _bytes: &[u8]| Err(AllocError))?;
-    let write: WriteFn = Box::new(alloc, |_kind: &Kind, _label: &Label| Err(AllocError))?;
-    let name = Codec::new(2, read, write);
+    let read = |_kind: &Kind, _bytes: &[u8]| Err(AllocError);
+    let write = |_kind: &Kind, _label: &Label| Err(AllocError);
+    let calipso = Codec::new(0, Box::new(alloc, read)?, Box::new(alloc, write)?);
+    let text = Codec::new(1, Box::new(alloc, read)?, Box::new(alloc, write)?);
+    let name = Codec::new(2, Box::new(alloc, read)?, Box::new(alloc, write)?);
     let codecs = Codecs::new(calipso, text, name);
-    let lattice = Lattice::new(alloc, &[Label::bare(1, 0)]).map_err(|_error| "no levels")?;
-    let mut formats = Formats::new(alloc);
-    let entry = FormatEntry {
-        lfs: 1,
-        pi: 1,
-        kind: Kind::Calipso,
-    };
-    assert!(rt; formats.add(entry).is_ok());
-    let bytes = b"\x00\x00\x00\x01\x00\x00";
-    assert!(rt; formats.read(&codecs, &lattice, 1, 1, bytes) == Err(ReadError::Memory));
+    let bottom = Label::bare(1, 0);
+    let lattice = Lattice::new(alloc, &[bottom]).map_err(|_error| "no levels")?;
     assert!(rt; lattice.holds(Level(0)));
-    assert!(rt;
-        is_unwritten(
-            formats.write(&codecs, &lattice, 1, 1, Level(0)),
-            WriteError::Memory
-        )
-    );
+    let formats = three_formats(alloc, bottom)?;
+    let bytes = b"\x00\x00\x00\x01\x00\x00";
+    assert!(rt; formats.read(&codecs, &lattice, 101, 1, bytes) == Err(ReadError::Memory));
+    let unwritten = formats.write(&codecs, &lattice, 101, 1, Level(0));
+    assert!(rt; is_unwritten(unwritten, WriteError::Memory));
     Ok(())
 }

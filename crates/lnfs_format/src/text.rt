@@ -2,7 +2,6 @@
 
 ghost use Rattle.std.specs.Prelude.{◌≡◌, ◌++◌, IfOk, OnOk};
 ghost use Rattle.std.specs.Option.{option_map};
-ghost use Rattle.lnfs_calipso.specs.Same.{same_list};
 ghost use Rattle.lnfs_format.specs.Text.{comps_text, marked_text, text_of};
 ghost use Rattle.lnfs_format.specs.Reading.{reads_text, reads_comps, writes_text};
 
@@ -30,13 +29,6 @@ fn spell(alloc: Global, label: &Label) -> Result<Vec<u8>, AllocError>
     put_decimal(&mut text, label.sens())?;
     put_marked(&mut text, label)?;
     Ok(text)
-}
-
-/// Whether two texts are the same.
-pub fn is_same(a: &[u8], b: &[u8]) -> bool
-    ensures { result ≡ same_list a.now b.now }
-{
-    a == b
 }
 
 /// The text of a label under a DOI, if that is the label's.
@@ -68,7 +60,7 @@ pub fn read_text(alloc: Global, doi: u32, bytes: &[u8]) -> Result<Option<Label>,
         return Ok(None);
     };
     let text = spell(alloc, &label)?;
-    if !is_same(&text, bytes) {
+    if text.as_slice() != bytes {
         return Ok(None);
     }
     Ok(Some(label))
@@ -109,7 +101,7 @@ pub fn read_comps(
         return Ok(None);
     }
     let text = write_comps(alloc, &label)?;
-    if !is_same(&text, bytes) {
+    if text.as_slice() != bytes {
         return Ok(None);
     }
     Ok(Some(label))

@@ -1,85 +1,91 @@
 -- A translation keeps the level.
-use Rattle.std.proofs.Common.{◌≡◌, ℕ, ◌<◌, Bool, true, List, length, Option, Some, None, Result, Ok, Err, refl, sym, ap, ◌∙◌, subst}
-use Rattle.std.specs.Option.{option_and_then}
+use Rattle.std.proofs.Common.{◌≡◌, ℕ, ◌<◌, List, length, Option, Some, None, Result, Ok, Err, refl, sym, ap, ◌∙◌}
+use Rattle.std.specs.Prelude.{All}
 use Rattle.std.specs.List.{slice_index_or}
 use Rattle.std.proofs.lemmas.List.Quantifiers.{position-Some}
-use Rattle.lnfs_calipso.specs.Label.{Label, IsLabel, label_at, lowest, dom_of}
+use Rattle.lnfs_calipso.specs.Label.{Label, IsLabel, label_at, lowest}
 use Rattle.lnfs_calipso.specs.Same.{same_label, level_of}
-use Rattle.lnfs_calipso.specs.Orders.{same_label-true}
+use Rattle.lnfs_calipso.specs.Equality.{same_label-true}
 use Rattle.lnfs_format.specs.Kinds.{reads, writes}
 use Rattle.lnfs_format.specs.Laws.{IsFormat}
 use Rattle.lnfs_format.specs.Entries.{entry_of}
+use Rattle.lnfs_format.specs.Site.{IsSite}
+use Rattle.lnfs_format.specs.LevelRead.{or_bad, level_in, read_in, level_read}
+use Rattle.lnfs_format.specs.LevelWritten.{or_none, written_in, level_written}
 use Rattle.lnfs_format.specs.declared.kind.Kind.{Kind}
 use Rattle.lnfs_format.specs.declared.formats.FormatEntry.{FormatEntry}
-use Rattle.lnfs_map.specs.declared.table.Pair.{Pair}
-use Rattle.lnfs_map.specs.declared.table.MapError.{MapError}
-use Rattle.lnfs_map.specs.declared.table.MapError.TheVariants as mapping
-use Rattle.lnfs_map.specs.Translated.{level_told, or_no_row, written, between, translated}
-use Rattle.lnfs_map.specs.Kept.{IsSite, level_by, IsOneLevel, dom_told, dom_by}
+use Rattle.lnfs_format.specs.declared.formats.Pair.{Pair}
+use Rattle.lnfs_format.specs.declared.formats.ReadError.{ReadError}
+use Rattle.lnfs_format.specs.declared.formats.WriteError.{WriteError}
+use Rattle.lnfs_map.specs.Translated.{written, passed_on, into, translated}
+use Rattle.lnfs_map.specs.Kept.{level_by, IsOneLevel, dom_told, dom_by}
 
 -- what is written is read again
 abbrev pub ReadBack : Type 0
 ReadBack = (kind : Kind) → IsFormat kind → (label : Label) → IsLabel label → (bytes : List ℕ) → writes kind label ≡ Some bytes → reads kind bytes ≡ Some label
 
-no_ok : (x : Result (List ℕ) MapError) (e : MapError) (text : List ℕ) → x ≡ Err e → x ≡ Ok text → ⊥
-no_ok x e text h k = cc
-
-same_text : (x : Result (List ℕ) MapError) (a b : List ℕ) → x ≡ Ok a → x ≡ Ok b → a ≡ b
-same_text x a b h k = cc
-
 -- the level of a label is that of the label at its place
-level_again : (labels : List Label) (label : Label) (level : ℕ) → level_of labels label ≡ Some level → (level < length labels) × (level_of labels (label_at labels level) ≡ Some level)
-level_again labels label level h =
+abbrev IsHeld : List Label → ℕ → Type 0
+IsHeld labels level = (level < length labels) × (level_of labels (label_at labels level) ≡ Some level)
+
+level_held : (labels : List Label) (label : Label) (level : ℕ) → level_of labels label ≡ Some level → IsHeld labels level
+level_held labels label level h =
     let first = position-Some (λ l. same_label l label) labels level (slice_index_or labels 0 lowest) h in
     (first.0, ap (level_of labels) (same_label-true (label_at labels level) label first.1) ∙ h)
 
-told_again : (labels : List Label) (o : Option Label) (level : ℕ) → option_and_then (level_of labels) o ≡ Some level → (level < length labels) × (level_of labels (label_at labels level) ≡ Some level)
-told_again labels None level h = absurd (none_some level h)
-  where
-    none_some : (level : ℕ) → None ≡ Some level → ⊥
-    none_some level h = cc
-told_again labels (Some label) level h = level_again labels label level h
+place_held : (labels : List Label) (label : Label) (place : Option ℕ) (level : ℕ) → level_of labels label ≡ place → or_bad place ≡ Ok level → IsHeld labels level
+place_held labels label None level e h = cc
+place_held labels label (Some place) level e h = let same : place ≡ level = cc in level_held labels label level (e ∙ ap Some same)
 
-text_of : (o : Option (List ℕ)) (text : List ℕ) → or_no_row o ≡ Ok text → o ≡ Some text
-text_of None text h = absurd (no_ok (Err mapping.NoRow) mapping.NoRow text refl h)
-text_of (Some other) text h = ap Some (same_text (Ok other) other text refl h)
+label_held : (labels : List Label) (label : Option Label) (level : ℕ) → level_in labels label ≡ Ok level → IsHeld labels level
+label_held labels None level h = cc
+label_held labels (Some label) level h = place_held labels label (level_of labels label) level refl h
 
-record Both (labels : List Label) (source target : FormatEntry) (bytes text : List ℕ) : Type 0 where
+read_held : (entry : Option FormatEntry) (labels : List Label) (bytes : List ℕ) (level : ℕ) → read_in entry labels bytes ≡ Ok level → IsHeld labels level
+read_held None labels bytes level h = cc
+read_held (Some entry) labels bytes level h = label_held labels (reads entry.kind bytes) level h
+
+text_of : (o : Option (List ℕ)) (text : List ℕ) → or_none o ≡ Ok text → o ≡ Some text
+text_of None text h = cc
+text_of (Some other) text h = let same : other ≡ text = cc in ap Some same
+
+-- a level's label that was written is read as that level
+read_again : ReadBack → (labels : List Label) → All IsLabel labels → (entry : Option FormatEntry) → ((e : FormatEntry) → entry ≡ Some e → IsFormat e.kind)
+    → (level : ℕ) (text : List ℕ) → IsHeld labels level → written_in entry (label_at labels level) ≡ Ok text → read_in entry labels text ≡ Ok level
+read_again back labels are None is level text held h = cc
+read_again back labels are (Some entry) is level text held h =
+    ap (level_in labels) (back entry.kind (is entry refl) (label_at labels level) (are level (slice_index_or labels 0 lowest) held.0) text (text_of (writes entry.kind (label_at labels level)) text h))
+    ∙ ap or_bad held.1
+
+-- a translation passes on a level
+record PassesOn (told : Result ℕ ReadError) (write : ℕ → Result (List ℕ) WriteError) (text : List ℕ) : Type 0 where
   level : ℕ
-  source_is : level_told labels source.kind bytes ≡ Some level
-  target_is : level_told labels target.kind text ≡ Some level
+  read : told ≡ Ok level
+  wrote : write level ≡ Ok text
 
-both_told : ReadBack → (labels : List Label) → ((i : ℕ) → i < length labels → IsLabel (label_at labels i)) → (source target : FormatEntry) → IsFormat target.kind → (bytes text : List ℕ)
-    → (o : Option ℕ) → level_told labels source.kind bytes ≡ o → written labels target.kind o ≡ Ok text → Both labels source target bytes text
-both_told back labels are source target is bytes text None told h = absurd (no_ok (Err mapping.BadLabel) mapping.BadLabel text refl h)
-both_told back labels are source target is bytes text (Some level) told h =
-    let place = told_again labels (reads source.kind bytes) level told in
-    let label = label_at labels level in
-    record {
-      level = level;
-      source_is = told;
-      target_is =
-          ap (option_and_then (level_of labels)) (back target.kind is label (are level place.0) text (text_of (writes target.kind label) text h)) ∙ place.1;
-    }
+text_is : (given : Result (List ℕ) WriteError) (text : List ℕ) → written given ≡ Ok text → given ≡ Ok text
+text_is (Ok bytes) text h = let same : bytes ≡ text = cc in ap Ok same
+text_is (Err error) text h = cc
 
-kept : ReadBack → (labels : List Label) → ((i : ℕ) → i < length labels → IsLabel (label_at labels i)) → (source target : Option FormatEntry) → ((entry : FormatEntry) → target ≡ Some entry → IsFormat entry.kind) → (bytes text : List ℕ)
-    → between labels source target bytes ≡ Ok text
-    → (level : ℕ) × (option_and_then (λ e. level_told labels e.kind bytes) source ≡ Some level) × (option_and_then (λ e. level_told labels e.kind text) target ≡ Some level)
-kept back labels are None target is bytes text h = absurd (no_ok (Err mapping.WrongLfs) mapping.WrongLfs text refl h)
-kept back labels are (Some source) None is bytes text h = absurd (no_ok (Err mapping.WrongLfs) mapping.WrongLfs text refl h)
-kept back labels are (Some source) (Some target) is bytes text h =
-    let both = both_told back labels are source target (is target refl) bytes text (level_told labels source.kind bytes) refl h in
-    (both.level, both.source_is, both.target_is)
+passes_on : (target : Option FormatEntry) (told : Result ℕ ReadError) (write : ℕ → Result (List ℕ) WriteError) (text : List ℕ) → into target (passed_on told write) ≡ Ok text → PassesOn told write text
+passes_on None told write text h = cc
+passes_on (Some entry) (Err error) write text h = cc
+passes_on (Some entry) (Ok level) write text h = record { level = level; read = refl; wrote = text_is (write level) text h }
 
 pub keeps_level : ReadBack → (entries : List FormatEntry) (labels : List Label) → IsSite entries labels → (source target : Pair) (bytes text : List ℕ) → translated entries labels source target bytes ≡ Ok text → IsOneLevel entries labels source target bytes text
-unfolding translated
+unfolding translated level_read level_written
 keeps_level back entries labels site source target bytes text h =
-    let one = kept back labels site.labels_are (entry_of entries source.lfs source.pi) (entry_of entries target.lfs target.pi) (λ e k. site.formats_are target.lfs target.pi e k) bytes text h in
-    record { level = one.0; source_is = one.1; target_is = one.2 }
+    let on = passes_on (entry_of entries target.lfs target.pi) (level_read entries labels source.lfs source.pi bytes) (level_written entries labels target.lfs target.pi) text h in
+    let held = read_held (entry_of entries source.lfs source.pi) labels bytes on.level on.read in
+    record {
+      level = on.level;
+      source_is = on.read;
+      target_is = read_again back labels site.labels_are (entry_of entries target.lfs target.pi) (site.formats_are target.lfs target.pi) on.level text held on.wrote;
+    }
 
 pub keeps_dominance : ReadBack → (entries : List FormatEntry) (labels : List Label) → IsSite entries labels → (source target : Pair) (a b text_a text_b : List ℕ) → translated entries labels source target a ≡ Ok text_a → translated entries labels source target b ≡ Ok text_b → dom_by entries labels target text_a text_b ≡ dom_by entries labels source a b
 keeps_dominance back entries labels site source target a b text_a text_b h k =
     let p = keeps_level back entries labels site source target a text_a h in
     let q = keeps_level back entries labels site source target b text_b k in
-    ap (λ (o : Option ℕ). dom_told labels o (level_by entries labels target text_b)) (p.target_is ∙ sym p.source_is)
-    ∙ ap (λ (o : Option ℕ). dom_told labels (level_by entries labels source a) o) (q.target_is ∙ sym q.source_is)
+    ap (λ (o : Result ℕ ReadError). dom_told labels o (level_by entries labels target text_b)) (p.target_is ∙ sym p.source_is)
+    ∙ ap (λ (o : Result ℕ ReadError). dom_told labels (level_by entries labels source a) o) (q.target_is ∙ sym q.source_is)

@@ -3,9 +3,10 @@
 ghost use Rattle.std.specs.Prelude.{◌≡◌, ℕ, List, Ok};
 ghost use Rattle.lnfs_calipso.specs.Label.{Label};
 ghost use Rattle.lnfs_format.specs.declared.formats.FormatEntry.{FormatEntry};
+ghost use Rattle.lnfs_format.specs.declared.formats.Pair.{Pair};
+ghost use Rattle.lnfs_format.specs.Site.{IsSite};
 ghost use Rattle.lnfs_map.specs.Translated.{translated};
-ghost use Rattle.lnfs_map.specs.Kept.{IsSite, IsOneLevel, dom_by};
-ghost use Rattle.lnfs_map.specs.declared.table.Pair.{Pair};
+ghost use Rattle.lnfs_map.specs.Kept.{IsOneLevel, dom_by};
 
 /// A translation keeps the level, and so dominance in both directions.
 pub fn translation()

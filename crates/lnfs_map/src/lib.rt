@@ -4,7 +4,8 @@
 pub mod laws;
 mod table;
 
-pub use table::{MapError, Pair, TranslationTable};
+pub use lnfs_format::Pair;
+pub use table::{MapError, TranslationTable};
 
 #[cfg(test)]
 mod tests;

@@ -2,14 +2,7 @@ ghost use Rattle.std.specs.Prelude.{◌≡◌};
 ghost use Rattle.lnfs_map.specs.Translated.{translated, IsTranslated};
 
 use lnfs_calipso::Lattice;
-use lnfs_format::{Codecs, Formats, ReadError, WriteError};
-
-/// A format by its number and its policy identifier (RFC 7569).
-#[derive(Clone, Copy, Debug, PartialEq, Eq)]
-pub struct Pair {
-    pub lfs: u32,
-    pub pi: u32,
-}
+use lnfs_format::{Codecs, Formats, Pair, ReadError, WriteError};
 
 /// Why some bytes aren't translated.
 #[derive(Clone, Copy, Debug, PartialEq, Eq)]

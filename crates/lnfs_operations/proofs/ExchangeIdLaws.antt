@@ -4,7 +4,7 @@ use Rattle.std.specs.Prelude.{◌==◌}
 use Rattle.std.specs.List.{find, list_any}
 use Rattle.std.specs.Option.{option_map}
 use Rattle.std.proofs.lemmas.Bool.Decides.{nat_tests}
-use Rattle.lnfs_calipso.specs.Label.{IsLattice}
+use Rattle.lnfs_calipso.specs.Label.{IsPreorderWithBottom}
 use Rattle.lnfs_world.specs.declared.Client.{Client}
 use Rattle.lnfs_world.specs.declared.Last.{Last}
 use Rattle.lnfs_world.specs.Rows.{kept}
@@ -20,7 +20,7 @@ same_option : {X : Type 0} (o : Option X) → option_map (λ x. x) o ≡ o
 same_option None = refl
 same_option (Some x) = refl
 
-module _ (dom : ℕ → ℕ → Bool) (lattice : IsLattice dom) (s : ℕ) where
+module _ (dom : ℕ → ℕ → Bool) (lattice : IsPreorderWithBottom dom) (s : ℕ) where
   -- a look-up among the subject's own rows
   own_client : (q : Client → Bool) → ((c : Client) → q c ≡ true → c.level ≡ s) → (clients : List Client) → find q (kept (λ c. dom s c.level) (λ c. c) clients) ≡ find q clients
   own_client q own clients = find-kept _ _ q (λ c e. ap (dom s) (own c e) ∙ lattice.reflexive s) (λ c. refl) clients ∙ same_option (find q clients)

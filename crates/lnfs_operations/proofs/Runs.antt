@@ -1,7 +1,7 @@
 -- Both laws of erasure for operations in order.
 use Rattle.std.proofs.Common.{◌≡◌, ℕ, ◌+◌, Bool, true, false, cond, List, [], ◌∷◌, Option, refl, sym, ap, ◌∙◌, subst}
 use Rattle.std.specs.Prelude.{◌==◌}
-use Rattle.lnfs_calipso.specs.Label.{IsLattice}
+use Rattle.lnfs_calipso.specs.Label.{IsPreorderWithBottom}
 use Rattle.lnfs_arguments.specs.declared.types.Op.{Op}
 use Rattle.lnfs_arguments.specs.declared.types.Op.TheVariants as ops
 use Rattle.lnfs_arguments.specs.declared.types.Compound.{Compound}
@@ -18,7 +18,7 @@ use Rattle.lnfs_operations.specs.Table.{answer_as, with_result, told_result, out
 use Rattle.lnfs_operations.specs.Compound.{Ran, Denial, followed, run_from, run}
 use Rattle.lnfs_operations.proofs.ExchangeIdLaws.{view, footprint}
 
-module _ (dom : ℕ → ℕ → Bool) (lattice : IsLattice dom) where
+module _ (dom : ℕ → ℕ → Bool) (lattice : IsPreorderWithBottom dom) where
   -- one answer, and no change
   refused_lawful : {A : Type 0} (answer : A) → Lawful dom (λ s w. record { answer = answer; changes = [] })
   refused_lawful answer = record {

@@ -1,11 +1,10 @@
 -- The operations: for each its number, and its outcome.
-use Rattle.std.specs.Prelude.{ℕ, ◌+◌, ◌*◌, ◌^◌, ◌==◌, Bool, cond, List, [], ◌∷◌, codes, if◌then◌else◌}
+use Rattle.std.specs.Prelude.{ℕ, ◌+◌, ◌*◌, ◌^◌, ◌==◌, Bool, cond, List, [], ◌∷◌, codes}
 use Rattle.lnfs_attrs.specs.declared.bitmap.Bitmap.{Bitmap}
 use Rattle.lnfs_arguments.specs.declared.types.Op.{Op}
 use Rattle.lnfs_arguments.specs.declared.types.Op.TheVariants as ops
 use Rattle.lnfs_arguments.specs.declared.types.Compound.{Compound}
-use Rattle.lnfs_arguments.specs.Numbers.{op_illegal}
-use Rattle.lnfs_arguments.specs.Numbered.{number_of}
+use Rattle.lnfs_arguments.specs.Numbered.{result_number}
 use Rattle.lnfs_results.specs.declared.types.OpResult.{OpResult}
 use Rattle.lnfs_results.specs.declared.types.OpResult.TheVariants as results
 use Rattle.lnfs_world.specs.Outcome.{Outcome, Act}
@@ -17,15 +16,10 @@ use Rattle.lnfs_operations.specs.ExchangeId.{Told, exchange_id}
 abbrev pub no_attributes : Bitmap
 no_attributes = record { words = 0 ∷ 0 ∷ 0 ∷ 0 ∷ 0 ∷ 0 ∷ 0 ∷ 0 ∷ [] }
 
--- An operation that has no number in the protocol answers ILLEGAL as its number (RFC 8881 section
--- 18.52).
-abbrev pub answered_as : ℕ → ℕ → ℕ
-answered_as number status = if status == op_illegal then op_illegal else number
-
 -- The result of an operation that failed: SETATTR's bitmap follows any status (RFC 8881 section 18.30.2).
 abbrev pub failed : Op → ℕ → OpResult
 failed (ops.SetAttr id attrs) status = results.SetAttr status no_attributes
-failed op status = results.Failed (answered_as (number_of op) status) status
+failed op status = results.Failed (result_number op) status
 
 -- the names under which the server goes
 abbrev pub server_name : List ℕ

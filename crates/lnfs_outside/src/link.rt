@@ -1,5 +1,6 @@
 //! Links in memory.
 ghost use Rattle.std.specs.Prelude.{◌≡◌, [], Some, None, IfOk, refl};
+ghost use Rattle.std.specs.Result.{IsOk};
 ghost use Rattle.std.specs.Io.{ReadsAtMost, WritesAtMost};
 ghost use Rattle.std.specs.Io.KnownBytes.{ReadConsumes};
 ghost use Rattle.lnfs_outside.specs.Causes.{HasCause};
@@ -78,6 +79,8 @@ impl Sink for MemLink {
 
     ghost beside_sink = { λ s. (Some s.input.left, s.input.faults) };
 
+    ghost waiting = { λ s. [] };
+
     fn write(&mut self, bytes: &[u8]) -> Result<usize, Failed>
         ensures bound { WritesAtMost result bytes.now }
         ensures bytes { Writes (Some self.old.output.taken) (Some self.new.output.taken) result bytes.now }
@@ -86,6 +89,12 @@ impl Sink for MemLink {
         ensures beside { self.new.input ≡ self.old.input }
     {
         self.output.write(bytes)
+    }
+
+    fn flush(&mut self) -> Result<(), Failed>
+        ensures exact { IsOk result × (self.new ≡ self.old) }
+    {
+        self.output.flush()
     }
 }
 

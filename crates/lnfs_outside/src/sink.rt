@@ -1,5 +1,6 @@
 //! Sinks in memory.
-ghost use Rattle.std.specs.Prelude.{◌≡◌, [], Some, None, IfOk};
+ghost use Rattle.std.specs.Prelude.{◌≡◌, [], Some, None, IfOk, length};
+ghost use Rattle.std.specs.Result.{IsOk, IsOkAnd};
 ghost use Rattle.std.specs.Io.{WritesAtMost};
 ghost use Rattle.lnfs_outside.specs.Causes.{HasCause};
 ghost use Rattle.lnfs_outside.specs.Bytes.{Writes};
@@ -53,6 +54,8 @@ impl Sink for MemSink {
 
     ghost beside_sink = { λ s. (None, 0) };
 
+    ghost waiting = { λ s. [] };
+
     fn write(&mut self, bytes: &[u8]) -> Result<usize, Failed>
         ensures bound { WritesAtMost result bytes.now }
         ensures bytes { Writes (Some self.old.taken) (Some self.new.taken) result bytes.now }
@@ -66,6 +69,12 @@ impl Sink for MemSink {
             return Err(fail(&mut self.faults));
         }
         Ok(bytes.len())
+    }
+
+    fn flush(&mut self) -> Result<(), Failed>
+        ensures exact { IsOk result × (self.new ≡ self.old) }
+    {
+        Ok(())
     }
 }
 
@@ -87,7 +96,19 @@ impl Sink for CalmSink {
 
     ghost beside_sink = { λ s. (None, 0) };
 
-    fn write(&mut self, bytes: &[u8]) -> Result<usize, Failed> {
+    ghost waiting = { λ s. [] };
+
+    fn write(&mut self, bytes: &[u8]) -> Result<usize, Failed>
+        ensures bound { WritesAtMost result bytes.now }
+        ensures cause { HasCause 0 0 result }
+        ensures exact { IsOkAnd result (λ n. n ≡ length bytes.now) }
+    {
         Ok(bytes.len())
+    }
+
+    fn flush(&mut self) -> Result<(), Failed>
+        ensures exact { IsOk result }
+    {
+        Ok(())
     }
 }

@@ -1,12 +1,13 @@
 //! Sources in memory.
-ghost use Rattle.std.specs.Prelude.{◌≡◌, Some, None, IfOk, OnErr, length, min, take, drop, MatchResult};
+ghost use Rattle.std.specs.Prelude.{◌≡◌, Some, None, IfOk, length, min, take, drop};
+ghost use Rattle.std.specs.Result.{IsOkAnd};
 ghost use Rattle.std.specs.Io.{ReadsAtMost};
 ghost use Rattle.std.specs.Io.KnownBytes.{ReadConsumes};
 ghost use Rattle.lnfs_outside.specs.Causes.{HasCause};
 ghost use Rattle.lnfs_outside.specs.Calls.{from_the_first, ReadsFrom};
 
 use crate::calls::{Calls, fail};
-use crate::shelf::Stock;
+use crate::shelf::Unread;
 use crate::traits::{Failed, Source};
 use std::alloc::{AllocError, Global};
 use std::marker::Model;
@@ -14,7 +15,7 @@ use std::marker::Model;
 /// Bytes in memory, with reads that are to fail.
 #[derive(Drop)]
 pub struct MemSource {
-    stock: Stock,
+    unread: Unread,
     calls: Calls,
     faults: u64,
 }
@@ -24,7 +25,7 @@ impl Model for MemSource {
 
     ghost Value = { Input };
 
-    ghost view = { λ s. record { left = s.stock; calls = s.calls; faults = s.faults } };
+    ghost view = { λ s. record { left = s.unread; calls = s.calls; faults = s.faults } };
 }
 
 impl MemSource {
@@ -33,7 +34,7 @@ impl MemSource {
         ensures { IfOk result (λ source. source ≡ record { left = bytes.now; calls = from_the_first failing.now; faults = 0 }) }
     {
         Ok(MemSource {
-            stock: Stock::new(alloc, bytes)?,
+            unread: Unread::new(alloc, bytes)?,
             calls: Calls::new(alloc, failing)?,
             faults: 0,
         })
@@ -56,14 +57,14 @@ impl Source for MemSource {
         if self.calls.strikes() {
             return Err(fail(&mut self.faults));
         }
-        Ok(self.stock.read(buf))
+        Ok(self.unread.read(buf))
     }
 }
 
 /// Bytes in memory that are always given.
 #[derive(Drop)]
 pub struct CalmSource {
-    stock: Stock,
+    unread: Unread,
 }
 
 impl Model for CalmSource {
@@ -71,7 +72,7 @@ impl Model for CalmSource {
 
     ghost Value = { List ℕ };
 
-    ghost view = { λ s. s.stock };
+    ghost view = { λ s. s.unread };
 }
 
 impl CalmSource {
@@ -80,7 +81,7 @@ impl CalmSource {
         ensures { IfOk result (λ source. source ≡ bytes.now) }
     {
         Ok(CalmSource {
-            stock: Stock::new(alloc, bytes)?,
+            unread: Unread::new(alloc, bytes)?,
         })
     }
 }
@@ -92,7 +93,12 @@ impl Source for CalmSource {
 
     ghost beside_source = { λ s. (None, 0) };
 
-    fn read(&mut self, buf: &mut [u8]) -> Result<usize, Failed> {
-        Ok(self.stock.read(buf))
+    fn read(&mut self, buf: &mut [u8]) -> Result<usize, Failed>
+        ensures bound { ReadsAtMost result buf.new }
+        ensures bytes { ReadConsumes (Some self.old) (Some self.new) result buf.new }
+        ensures cause { HasCause 0 0 result }
+        ensures exact { IsOkAnd result (λ n. (n ≡ min (length self.old) (length buf.new)) × (take n buf.new ≡ take n self.old) × (self.new ≡ drop n self.old)) }
+    {
+        Ok(self.unread.read(buf))
     }
 }

@@ -45,7 +45,6 @@ fn put_all_stops_at_a_fault(rt: HostRuntime) -> Result<(), AllocError> {
         "the empty piece is no write"
     );
     assert_eq!(rt; sink.bytes(), b"ab".as_slice(), "taken");
-    assert!(rt; put_all(&mut CalmSink::new(), b"ab") == Ok(()), "calm");
     Ok(())
 }
 
@@ -78,16 +77,20 @@ fn the_first_of_a_name_counts(rt: HostRuntime) -> Result<(), AllocError> {
 }
 
 #[test]
-fn the_real_ends(rt: HostRuntime) {
+fn the_real_ends(rt: HostRuntime) -> Result<(), AllocError> {
     let mut buf = [0u8; 8];
     let mut files = DiskFiles::new(rt);
     assert!(rt; files.read(&mut buf) == Ok(0), "none is current");
     assert!(rt; files.open("lnfs_no_such_file") == Ok(false), "not there");
     assert!(rt; files.open(".") == Ok(true), "a folder opens");
     assert!(rt; files.read(&mut buf) == Err(Failed), "and can't be read");
-    let mut sink = StdSink::new(rt.stderr());
-    assert!(rt;
-        put_all(&mut sink, b"a line of the test\n") == Ok(()),
-        "standard error"
-    );
+    for room in [0, 65_536] {
+        let mut sink = StdSink::new(rt.alloc(), room, rt.stderr())?;
+        assert!(rt;
+            put_all(&mut sink, b"a line of the test\n") == Ok(()),
+            "{room}"
+        );
+        assert!(rt; sink.flush() == Ok(()), "{room}");
+    }
+    Ok(())
 }

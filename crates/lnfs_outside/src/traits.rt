@@ -1,5 +1,5 @@
 //! Sources, sinks, links and files, by the bytes that they give and take and by their counts of faults.
-ghost use Rattle.std.specs.Prelude.{◌≡◌, ◌≤◌, ℕ, List, [], IfOk, OnErr, Some, length};
+ghost use Rattle.std.specs.Prelude.{◌≡◌, ◌≤◌, ℕ, List, [], IfOk, OnOk, OnErr, Some, length};
 ghost use Rattle.std.specs.Io.{ReadsAtMost, WritesAtMost};
 ghost use Rattle.std.specs.Io.KnownBytes.{ReadConsumes};
 ghost use Rattle.std.specs.declared.option.Option.{Option};
@@ -33,16 +33,25 @@ pub trait Source {
 pub trait Sink {
     // all bytes taken, where they are told
     ghost taken: { Self → Option (List ℕ) };
-    // how often a write has failed
+    // how often a call has failed
     ghost write_faults: { Self → ℕ };
-    // what a write leaves alone
+    // what a call leaves alone
     ghost beside_sink: { Self → Option (List ℕ) × ℕ };
+    // the bytes that were taken and are still to be handed on
+    ghost waiting: { Self → List ℕ };
 
     /// Takes a front of the bytes and says how long it is: at least one byte, where there is one.
     /// Where it fails, nothing of them was taken.
     fn write(&mut self, bytes: &[u8]) -> Result<usize, Failed>
         ensures bound { WritesAtMost result bytes.now }
         ensures bytes { Writes (taken self.old) (taken self.new) result bytes.now }
+        ensures cause { HasCause (write_faults self.old) (write_faults self.new) result }
+        ensures beside { beside_sink self.new ≡ beside_sink self.old };
+
+    /// Hands on all that was taken. Where it fails, what is left of it is still to be handed on.
+    fn flush(&mut self) -> Result<(), Failed>
+        ensures taken { taken self.new ≡ taken self.old }
+        ensures handed { OnOk result (waiting self.new ≡ []) }
         ensures cause { HasCause (write_faults self.old) (write_faults self.new) result }
         ensures beside { beside_sink self.new ≡ beside_sink self.old };
 }
@@ -71,7 +80,8 @@ pub trait Files {
         ensures cause { HasCause (faults self.old) (faults self.new) result };
 
     /// Puts the next bytes of the current file at the front of the buffer and says how many. Into a
-    /// buffer that isn't empty it is 0 only at the file's end, and where no file is current.
+    /// buffer that isn't empty it is 0 only at the file's end, and always where no file is current. A
+    /// fault comes first: a call that fails is `Failed`, whether or not a file is current.
     fn read(&mut self, buf: &mut [u8]) -> Result<usize, Failed>
         ensures content { content self.new ≡ content self.old }
         ensures bound { ReadsAtMost result buf.new }

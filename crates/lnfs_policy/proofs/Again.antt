@@ -3,12 +3,13 @@ use Rattle.std.proofs.Common.{◌≡◌, ◌+◌, ◌==◌, ℕ, Bool, true, fal
 use Rattle.std.specs.Prelude.{Result, Ok, Err, filter}
 use Rattle.std.specs.List.{list_all, flat_map}
 use Rattle.std.proofs.lemmas.Bool.{cases_Bool, and_parts, false≢true}
-use Rattle.lnfs_policy.specs.Words.{is_empty, newline, split, longer, is_ascii}
+use Rattle.lnfs_words.specs.Words.{is_empty, newline, split, longer, is_ascii}
 use Rattle.lnfs_policy.specs.Line.{demand, Line}
 use Rattle.lnfs_policy.specs.Policy.{Policy, policy_in}
-use Rattle.lnfs_policy.specs.PolicyText.{version_in_place, lines_after, is_skipped, is_complete, Refused, at, lines_from, kept, canonical, policy_from, policy_of, IsPolicy}
+use Rattle.lnfs_policy.specs.PolicyText.{version_in_place, lines_after, is_skipped, is_complete, Refused, told_at, lines_from, kept, canonical, policy_from, policy_of, IsPolicy}
 use Rattle.lnfs_policy.specs.declared.cause.Cause.{Cause}
 use Rattle.lnfs_policy.specs.declared.cause.Cause.TheVariants as because
+use Rattle.lnfs_policy.proofs.Outcomes.{ended, not_ok}
 
 -- ---- no part has a separator
 
@@ -69,33 +70,24 @@ kept_again parts = ap ended_by (significant_again parts)
 
 -- ---- they say the same
 
-abbrev went : List Line → Result (List Line) Refused
-went lines = Ok lines
-
 abbrev finally : ℕ → List Line → Result (List Line) Refused
-finally n ls = at n (demand (is_complete ls) because.Missing) (λ _. Ok ls)
+finally n ls = told_at n (demand (is_complete ls) because.Missing) (λ _. Ok ls)
 
-abbrev failed : Refused → Result (List Line) Refused
-failed refused = Err refused
-
-not_went : (refused : Refused) (lines : List Line) → failed refused ≡ went lines → ⊥
-not_went refused lines e = cc
-
-ends_so : (n m : ℕ) (ls lines : List Line) → finally n ls ≡ went lines → finally m ls ≡ went lines
+ends_so : (n m : ℕ) (ls lines : List Line) → finally n ls ≡ ended Refused lines → finally m ls ≡ ended Refused lines
 ends_so n m ls lines e =
     elim (cases_Bool (is_complete ls)) [
       | inl t ↦ rw t (rw t at e)
-      | inr f ↦ absurd (not_went _ lines (rw f at e))
+      | inr f ↦ absurd (not_ok _ lines (rw f at e))
     ]
 
 -- a line without its newline is refused
-not_ended : (ls lines : List Line) (text : List ℕ) (n : ℕ) (next : List Line → Result (List Line) Refused) → at n (lines_after ls false text) next ≡ went lines → ⊥
+not_ended : (ls lines : List Line) (text : List ℕ) (n : ℕ) (next : List Line → Result (List Line) Refused) → told_at n (lines_after ls false text) next ≡ ended Refused lines → ⊥
 not_ended ls lines text n next e =
     elim (cases_Bool (is_skipped text)) [
-      | inl t ↦ not_went _ lines (rw t at e)
+      | inl t ↦ not_ok _ lines (rw t at e)
       | inr f ↦ let g = rw f at e in elim (cases_Bool (version_in_place (is_empty ls) text)) [
-        | inl t ↦ not_went _ lines (rw t at g)
-        | inr h ↦ not_went _ lines (rw h at g)
+        | inl t ↦ not_ok _ lines (rw t at g)
+        | inr h ↦ not_ok _ lines (rw h at g)
       ]
     ]
 
@@ -107,12 +99,12 @@ closed_some parts = some (significant parts)
     some (x ∷ xs) = refl
 
 -- one line, and then others
-step : (n m : ℕ) (lines : List Line) (parts : List (List ℕ)) → ((ls : List Line) → lines_from n ls parts ≡ went lines → lines_from m ls (closed parts) ≡ went lines)
-    → (a b : ℕ) (r : Result (List Line) Cause) → at a r (λ ls. lines_from n ls parts) ≡ went lines → at b r (λ ls. lines_from m ls (closed parts)) ≡ went lines
+step : (n m : ℕ) (lines : List Line) (parts : List (List ℕ)) → ((ls : List Line) → lines_from n ls parts ≡ ended Refused lines → lines_from m ls (closed parts) ≡ ended Refused lines)
+    → (a b : ℕ) (r : Result (List Line) Cause) → told_at a r (λ ls. lines_from n ls parts) ≡ ended Refused lines → told_at b r (λ ls. lines_from m ls (closed parts)) ≡ ended Refused lines
 step n m lines parts rest a b (Ok ls) e = rest ls e
-step n m lines parts rest a b (Err c) e = absurd (not_went _ lines e)
+step n m lines parts rest a b (Err c) e = absurd (not_ok _ lines e)
 
-same_lines : (n m : ℕ) (ls lines : List Line) (parts : List (List ℕ)) → lines_from n ls parts ≡ went lines → lines_from m ls (closed parts) ≡ went lines
+same_lines : (n m : ℕ) (ls lines : List Line) (parts : List (List ℕ)) → lines_from n ls parts ≡ ended Refused lines → lines_from m ls (closed parts) ≡ ended Refused lines
 unfolding lines_from
 same_lines n m ls lines [] e = ends_so n m ls lines e
 same_lines n m ls lines ([] ∷ []) e = ends_so n m ls lines e
@@ -122,26 +114,20 @@ same_lines n m ls lines ((b ∷ text) ∷ other ∷ others) e =
     elim (cases_Bool (is_skipped (b ∷ text))) [
       | inl t ↦ let g = rw t at e in elim (cases_Bool (is_ascii (b ∷ text))) [
         | inl a ↦ rw t (same_lines (n + 1) m ls lines (other ∷ others) (rw a at g))
-        | inr f ↦ absurd (not_went _ lines (rw f at g))
+        | inr f ↦ absurd (not_ok _ lines (rw f at g))
       ]
       | inr f ↦
           rw (f, closed_some (other ∷ others), f)
           (step (n + 1) (m + 1) lines (other ∷ others) (λ new h. same_lines (n + 1) (m + 1) new lines (other ∷ others) h) n m _ (rw f at e))
     ]
 
-abbrev found : Policy → Result Policy Refused
-found p = Ok p
-
-missed : (refused : Refused) (p : Policy) → policy_from [] (failed refused) ≡ found p → ⊥
-missed refused p e = cc
-
 pub again : (text : List ℕ) (p : Policy) → policy_of text ≡ Ok p → IsPolicy p
 unfolding policy_of
 again text p e = of (lines_from 1 [] (split newline text)) refl e
   where
-    itself : (lines : List Line) → lines_from 1 [] (split newline text) ≡ went lines → IsPolicy (policy_in (canonical text) lines)
+    itself : (lines : List Line) → lines_from 1 [] (split newline text) ≡ ended Refused lines → IsPolicy (policy_in (canonical text) lines)
     itself lines h = rw (split_kept (split newline text) (clean_split text), kept_again (split newline text), same_lines 1 1 [] lines (split newline text) h) refl
 
-    of : (r : Result (List Line) Refused) → lines_from 1 [] (split newline text) ≡ r → policy_from (canonical text) r ≡ found p → IsPolicy p
+    of : (r : Result (List Line) Refused) → lines_from 1 [] (split newline text) ≡ r → policy_from (canonical text) r ≡ ended Refused p → IsPolicy p
     of (Ok lines) h f = let is : policy_in (canonical text) lines ≡ p = cc in subst IsPolicy is (itself lines h)
-    of (Err refused) h f = absurd (missed refused p f)
+    of (Err refused) h f = absurd (not_ok refused p f)

@@ -1,7 +1,7 @@
 -- The policy of tables that lack nothing.
 use Rattle.std.proofs.Common.{◌≡◌, true, false, refl}
 use Rattle.std.specs.Prelude.{Ok, Some}
-use Rattle.lnfs_policy.specs.Words.{is_empty}
+use Rattle.lnfs_words.specs.Words.{is_empty}
 use Rattle.lnfs_policy.specs.PolicyText.{spells_all}
 use Rattle.lnfs_policy.specs.Reading.{Read, finish, finished, entries_in}
 use Rattle.lnfs_policy.specs.declared.mode.Mode.{Mode}

@@ -1,15 +1,12 @@
 pub mod Again
-pub mod Decimals
 pub mod Full
 pub mod Kept
 pub mod Names
-pub mod Numbers
+pub mod Outcomes
 pub mod Parents
-pub mod Paths
 pub mod Same
 pub mod Site
 pub mod Sound
 pub mod Spelled
-pub mod Splits
 pub mod Steps
 pub mod Tables

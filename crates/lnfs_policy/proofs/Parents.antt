@@ -7,6 +7,7 @@ use Rattle.std.specs.declared.cmp.Ordering.{Ordering}
 use Rattle.std.specs.declared.cmp.Ordering.TheVariants.{Less, Equal, Greater}
 use Rattle.std.specs.BTreeMap.{insert_entry, is_at}
 use Rattle.std.specs.Map.{lookup}
+use Rattle.std.proofs.Math.Bool.{or_assoc, or-false}
 use Rattle.std.proofs.lemmas.Bool.Decides.{nat_tests}
 use Rattle.lnfs_policy.specs.Fits.{is_taken}
 use Rattle.lnfs_policy.specs.Policy.{with_parent, by_number}
@@ -28,10 +29,6 @@ turned true true c e = refl
 turned true false c e = e
 turned false true c e = refl
 turned false false c e = e
-
-nested : (a b c : Bool) → (a || (b || c)) ≡ ((a || b) || c)
-nested true b c = refl
-nested false b c = refl
 
 again : (a b c : Bool) → a ≡ c → (a || b) ≡ ((a || b) || c)
 again true b c e = refl
@@ -58,7 +55,7 @@ module _ (n k : ℕ) (p : Parent) where
   placed e es new Greater h deeper =
       found (at_key n e.0) e.1 (lookup (is_at (nat_cmp n)) new)
       ∙ ap (λ b. at_key n e.0 || b) deeper
-      ∙ nested (at_key n e.0) (is_some (lookup (is_at (nat_cmp n)) es)) (k == n)
+      ∙ sym (or_assoc (at_key n e.0) (is_some (lookup (is_at (nat_cmp n)) es)) (k == n))
       ∙ ap (λ b. b || (k == n)) (sym (found (at_key n e.0) e.1 (lookup (is_at (nat_cmp n)) es)))
 
   alone : (a : Bool) → a ≡ (k == n) → is_some (cond a (Some p) None) ≡ (false || (k == n))
@@ -70,15 +67,11 @@ module _ (n k : ℕ) (p : Parent) where
   inserted (e ∷ es) = placed e es (insert_entry nat_cmp es k p) (nat_cmp k e.0) refl (inserted es)
 
 collected : (n : ℕ) (es : List (ℕ × Parent)) (parents : List Parent) → has_parent (fold with_parent es parents) n ≡ (has_parent es n || is_taken parents n)
-collected n es [] = none (has_parent es n)
-  where
-    none : (b : Bool) → b ≡ (b || false)
-    none true = refl
-    none false = refl
+collected n es [] = sym (or-false (has_parent es n))
 collected n es (p ∷ parents) =
     collected n (with_parent es p) parents
     ∙ ap (λ b. b || is_taken parents n) (inserted n p.number p es)
-    ∙ sym (nested (has_parent es n) (p.number == n) (is_taken parents n))
+    ∙ or_assoc (has_parent es n) (p.number == n) (is_taken parents n)
 
 pub taken_same : (parents : List Parent) (n : ℕ) → has_parent (by_number parents) n ≡ is_taken parents n
 taken_same parents n = collected n [] parents

@@ -4,12 +4,13 @@ use Rattle.std.specs.Prelude.{Result, Ok, Err, Option, Some, None, option_map}
 use Rattle.std.proofs.lemmas.Bool.{cases_Bool}
 use Rattle.std.proofs.lemmas.List.{append-nil}
 use Rattle.lnfs_calipso.specs.Label.{Label}
-use Rattle.lnfs_policy.specs.Words.{is_empty, newline, words, is_ascii, is_worded, hex_of, hex_sized, split}
+use Rattle.lnfs_words.specs.Words.{is_empty, newline, words, is_ascii, is_worded, split}
+use Rattle.lnfs_words.specs.Hex.{lower_hex_of, lower_hex_sized}
 use Rattle.lnfs_policy.specs.Line.{◌>>=◌, demand, Line, version_line, mode_line, level_line, format_line, name_line, parent_line, guest_line, quota_line, dir_line, line_of, rank, in_order, cause_of}
 use Rattle.lnfs_policy.specs.Rows.{label_of, spelling_of, labels_of, rows_of, names_of, parents_of, quotas_of, dirs_of}
 use Rattle.lnfs_policy.specs.Fits.{fits, level_fits, format_fits, name_fits, parent_fits, guest_fits, quota_fits, dir_fits, is_taken}
 use Rattle.lnfs_policy.specs.Policy.{policy_in, by_number, with_parent}
-use Rattle.lnfs_policy.specs.PolicyText.{version_in_place, said_after, lines_after, is_skipped, is_complete, at, is_end, lines_from, kept, policy_from, policy_of}
+use Rattle.lnfs_policy.specs.PolicyText.{version_in_place, said_after, lines_after, is_skipped, is_complete, told_at, is_end, lines_from, kept, policy_from, policy_of}
 use Rattle.lnfs_policy.specs.Reading.{Read, nothing, add, noted, stands, judge, judge_line, finish, read_from}
 use Rattle.lnfs_policy.specs.declared.rows.Spelling.{Spelling}
 use Rattle.lnfs_policy.specs.declared.mode.Mode.{Mode}
@@ -18,11 +19,9 @@ use Rattle.lnfs_policy.specs.declared.rows.LevelName.{LevelName}
 use Rattle.lnfs_policy.specs.declared.rows.Parent.{Parent}
 use Rattle.lnfs_policy.specs.declared.cause.Cause.{Cause}
 use Rattle.lnfs_policy.specs.declared.cause.Cause.TheVariants as because
+use Rattle.lnfs_policy.proofs.Outcomes.{went}
 use Rattle.lnfs_policy.proofs.Tables.{tables, and_some, and_parent, grown, more, has_begun, has_mode, stage_of, stands_as, stage_now, mode_now}
 use Rattle.lnfs_policy.proofs.Parents.{taken_same}
-
-abbrev went : {A : Type 0} → A → Result A Cause
-went a = Ok a
 
 abbrev mapped : {B C : Type 0} → (B → C) → Result B Cause → Result C Cause
 mapped f (Ok b) = Ok (f b)
@@ -73,22 +72,22 @@ module _ (k : List ℕ) (ls : List Line) (text : List ℕ) where
   format_added lfs pi word e None h = rw h refl
   format_added lfs pi word e (Some s) h =
       let line = format_line lfs pi word in
-      let row : FormatRow = record { lfs = lfs; pi = pi; spelling = s } in
+      let row : FormatRow = record { pair = record { lfs = lfs; pi = pi }; spelling = s } in
       rw h (tested (format_fits (rows_of ls) lfs pi) because.Format (record (tables k ls) { rows = rows_of ls ++ row ∷ [] }) line
-      ((λ i. record (settled line) { rows = and_some (rows_of ls) (option_map (λ s. record { lfs = lfs; pi = pi; spelling = s }) (sym h i)) }) ∙ settle line e))
+      ((λ i. record (settled line) { rows = and_some (rows_of ls) (option_map (λ s. record { pair = record { lfs = lfs; pi = pi }; spelling = s }) (sym h i)) }) ∙ settle line e))
 
   name_added : (lfs pi level : ℕ) (hex : List ℕ) → in_order ls (name_line lfs pi level hex) ≡ true
-      → (o : Option (List ℕ)) → hex_of hex ≡ o → IsAdded (name_line lfs pi level hex)
+      → (o : Option (List ℕ)) → lower_hex_of hex ≡ o → IsAdded (name_line lfs pi level hex)
   unfolding name_fits
   name_added lfs pi level hex e None h = rw h refl
   name_added lfs pi level hex e (Some bytes) h =
       let line = name_line lfs pi level hex in
-      let name : LevelName = record { lfs = lfs; pi = pi; level = record { 0 = level }; bytes = bytes } in
+      let name : LevelName = record { pair = record { lfs = lfs; pi = pi }; level = record { 0 = level }; bytes = bytes } in
       rw h (tested (name_fits (labels_of ls) (rows_of ls) (names_of ls) lfs pi level (Some bytes)) because.Name (record (tables k ls) { names = names_of ls ++ name ∷ [] }) line
-      ((λ i. record (settled line) { names = and_some (names_of ls) (option_map (λ bytes. record { lfs = lfs; pi = pi; level = record { 0 = level }; bytes = bytes }) (sym h i)) }) ∙ settle line e))
+      ((λ i. record (settled line) { names = and_some (names_of ls) (option_map (λ bytes. record { pair = record { lfs = lfs; pi = pi }; level = record { 0 = level }; bytes = bytes }) (sym h i)) }) ∙ settle line e))
 
   parent_added : (number : ℕ) (hex : List ℕ) (level : ℕ) → in_order ls (parent_line number hex level) ≡ true
-      → (o : Option (List ℕ)) → hex_sized 32 hex ≡ o → IsAdded (parent_line number hex level)
+      → (o : Option (List ℕ)) → lower_hex_sized 32 hex ≡ o → IsAdded (parent_line number hex level)
   parent_added number hex level e None h = rw h refl
   parent_added number hex level e (Some secret) h =
       let line = parent_line number hex level in
@@ -101,8 +100,8 @@ module _ (k : List ℕ) (ls : List Line) (text : List ℕ) where
   added (mode_line mode) e = mode_added mode e
   added (level_line place doi sens comps) e = level_added place doi sens comps e (label_of doi sens comps) refl
   added (format_line lfs pi word) e = format_added lfs pi word e (spelling_of word) refl
-  added (name_line lfs pi level hex) e = name_added lfs pi level hex e (hex_of hex) refl
-  added (parent_line number hex level) e = parent_added number hex level e (hex_sized 32 hex) refl
+  added (name_line lfs pi level hex) e = name_added lfs pi level hex e (lower_hex_of hex) refl
+  added (parent_line number hex level) e = parent_added number hex level e (lower_hex_sized 32 hex) refl
   added (guest_line class uid level) e =
       tested (guest_fits (labels_of ls) class level) because.Guest _ (guest_line class uid level) (settle (guest_line class uid level) e)
   added (quota_line level nodes bytes) e =
@@ -147,10 +146,10 @@ judged k ls ended text =
 
 -- ---- the whole text
 
-ended_same : (n : ℕ) (k : List ℕ) (ls : List Line) → at n (finish (tables k ls)) Ok ≡ policy_from k (at n (demand (is_complete ls) because.Missing) (λ _. Ok ls))
+ended_same : (n : ℕ) (k : List ℕ) (ls : List Line) → told_at n (finish (tables k ls)) Ok ≡ policy_from k (told_at n (demand (is_complete ls) because.Missing) (λ _. Ok ls))
 ended_same n k ls = rw (has_mode ls) (closed (is_complete ls))
   where
-    closed : (b : Bool) → at n (demand b because.Missing >>= (λ _. went (policy_in k ls))) Ok ≡ policy_from k (at n (demand b because.Missing) (λ _. Ok ls))
+    closed : (b : Bool) → told_at n (demand b because.Missing >>= (λ _. went (policy_in k ls))) Ok ≡ policy_from k (told_at n (demand b because.Missing) (λ _. Ok ls))
     closed true = refl
     closed false = refl
 
@@ -177,7 +176,7 @@ read_same n k ls (text ∷ others) =
 
     next : ((lines : List Line) → read_from (n + 1) (tables (k ++ line_kept text) lines) others ≡ policy_from ((k ++ line_kept text) ++ kept others) (lines_from (n + 1) lines others))
         → (r : Result (List Line) Cause)
-        → at n (mapped (tables (k ++ line_kept text)) r) (λ read. read_from (n + 1) read others) ≡ policy_from ((k ++ line_kept text) ++ kept others) (at n r (λ lines. lines_from (n + 1) lines others))
+        → told_at n (mapped (tables (k ++ line_kept text)) r) (λ read. read_from (n + 1) read others) ≡ policy_from ((k ++ line_kept text) ++ kept others) (told_at n r (λ lines. lines_from (n + 1) lines others))
     next rest (Ok lines) = rest lines
     next rest (Err c) = refl
 

@@ -1,29 +1,34 @@
 -- The labels of a policy are labels, and its formats are formats.
-use Rattle.std.proofs.Common.{◌≡◌, ◌<◌, ◌≤◌, ◌+◌, ◌^◌, ◌==◌, ℕ, zero, suc, Bool, true, false, not, ◌&&◌, List, [], ◌∷◌, ◌++◌, length, map, filter, nat_le, get_or, refl, sym, ap, subst, ◌∙◌, inl, inr, arith}
+use Rattle.std.proofs.Common.{◌≡◌, ◌<◌, ◌≤◌, ◌+◌, ◌^◌, ◌==◌, ℕ, zero, suc, Bool, true, false, not, ◌&&◌, List, [], ◌∷◌, ◌++◌, length, map, filter, nat_le, refl, sym, ap, subst, ◌∙◌, inl, inr, arith}
 use Rattle.std.specs.Prelude.{Result, Ok, Err, Option, Some, None, option_map, All, find, codes}
 use Rattle.std.specs.List.{list_any, filter_map, range_with_len}
 use Rattle.std.proofs.lemmas.Bool.{cases_Bool, and_parts, ltb-true, leb-true, not-true}
-use Rattle.std.proofs.lemmas.List.{length_push, get_or_default}
+use Rattle.std.proofs.lemmas.List.{length_push}
 use Rattle.std.proofs.lemmas.List.Elements.{All-push, All-nil, All-head, All-tail}
-use Rattle.lnfs_calipso.specs.Label.{Label, IsLabel, label_at, has_comp, compartments, numbers_below, lowest}
+use Rattle.lnfs_calipso.specs.Levels.{AreFirstLevels}
+use Rattle.lnfs_calipso.specs.Label.{Label, IsLabel, has_comp, compartments, numbers_below}
 use Rattle.lnfs_format.specs.Reading.{bare, reads_comps}
 use Rattle.lnfs_format.specs.Laws.{IsFormat, IsComps}
-use Rattle.lnfs_format.specs.Entries.{entry_of, is_pair as is_entry}
+use Rattle.lnfs_format.specs.Entries.{is_pair, pair_of}
+use Rattle.lnfs_format.specs.Site.{AreFormats}
+use Rattle.lnfs_format.specs.declared.formats.TheConstants.{MAX_SPELLING}
 use Rattle.lnfs_format.specs.declared.formats.FormatEntry.{FormatEntry}
-use Rattle.lnfs_policy.specs.Words.{is, split, newline, hex_of}
-use Rattle.lnfs_policy.specs.Line.{Line, version_line, mode_line, level_line, format_line, name_line, parent_line, guest_line, quota_line, dir_line, line_of}
+use Rattle.std.specs.Str.{bytes_eq}
+use Rattle.lnfs_words.specs.Words.{split, newline}
+use Rattle.lnfs_words.specs.Hex.{lower_hex_of}
+use Rattle.lnfs_policy.specs.Line.{Line, level_line, format_line, name_line, line_of}
 use Rattle.lnfs_policy.specs.Rows.{label_of, label_in, spelling_of, format_in, name_in, labels_of, rows_of, names_of, kind_of, entry_in, entries_of, formats_of}
-use Rattle.lnfs_policy.specs.Fits.{fits, is_next, level_fits, name_fits, clashes, is_known, is_table, is_pair, max_spelling}
+use Rattle.lnfs_policy.specs.Fits.{fits, is_next, level_fits, name_fits, clashes, is_known, is_table}
 use Rattle.lnfs_policy.specs.Policy.{Policy, policy_in}
 use Rattle.lnfs_policy.specs.PolicyText.{Refused, lines_from, policy_from, policy_of, canonical}
-use Rattle.lnfs_policy.specs.Reading.{IsSound}
-use Rattle.lnfs_policy.specs.Site.{HasLabels, HasFormats}
 use Rattle.lnfs_policy.specs.declared.rows.Spelling.{Spelling}
 use Rattle.lnfs_policy.specs.declared.rows.Spelling.TheVariants as spelling
 use Rattle.lnfs_policy.specs.declared.rows.FormatRow.{FormatRow}
 use Rattle.lnfs_policy.specs.declared.rows.LevelName.{LevelName}
+use Rattle.lnfs_words.proofs.Decimals.{same_some}
 use Rattle.lnfs_policy.proofs.Kept.{kept_by}
 use Rattle.lnfs_policy.proofs.Names.{Distinct, distinct_push, table}
+use Rattle.lnfs_policy.proofs.Outcomes.{not_ok}
 use Rattle.lnfs_policy.proofs.Sound.{next_sound}
 use Rattle.lnfs_policy.proofs.Tables.{and_some, one_more}
 
@@ -46,9 +51,6 @@ no_comps = none_of 256 0
 bare_is : (doi sens : ℕ) → doi < 2 ^ 32 → sens ≤ 255 → IsLabel (bare doi sens)
 bare_is doi sens d s = record { doi = d; sens = omega arith; comps = sym no_comps }
 
-same_some : {A : Type 0} (a b : A) → Some a ≡ Some b → a ≡ b
-same_some a b e = cc
-
 no_some : {A : Type 0} (a : A) (o : Option A) → o ≡ None → o ≡ Some a → ⊥
 no_some a None e f = cc
 no_some a (Some b) e f = cc
@@ -64,30 +66,27 @@ label_is reader doi sens comps label d e =
       | inl t ↦
           let s : sens ≤ 255 = leb-true sens 255 t in
           let g = rw t at e in
-          elim (cases_Bool (is comps (codes "-"))) [
+          elim (cases_Bool (bytes_eq comps (codes "-"))) [
             | inl u ↦ subst (λ (l : Label). IsLabel l) (same_some (bare doi sens) label (rw u at g)) (bare_is doi sens d s)
-            | inr n ↦ (reader doi sens d (omega arith) comps label (rw n at g)).is
+            | inr n ↦ (reader doi sens d (omega arith) comps label (rw n at g)).label_is
           ]
     ]
-
-missed : (refused : Refused) (p : Policy) → policy_from [] (Err refused) ≡ Ok p → ⊥
-missed refused p e = cc
 
 -- ---- what each line keeps
 
 -- the labels are labels and are sound, text formats have DOIs of 32 bits, names are of known levels and distinct
 record IsGood (ls : List Line) : Type 0 where
-  sound : IsSound (labels_of ls)
+  sound : AreFirstLevels (labels_of ls)
   labels : All IsLabel (labels_of ls)
-  rows : All (λ row. row.pi < 2 ^ 32) (rows_of ls)
+  rows : All (λ row. row.pair.pi < 2 ^ 32) (rows_of ls)
   names : Distinct (names_of ls)
   known : All (λ name. name.level.0 < length (labels_of ls)) (names_of ls)
 
 nothing_yet : IsGood []
 nothing_yet = record {
-  sound = record { few = omega arith; apart = λ i j li lj e. absurd (omega arith); bottom = λ i li. absurd (omega arith) };
+  sound = record { few = omega arith; apart = λ i j ij lj e. absurd (omega arith); above = λ i li. absurd (omega arith) };
   labels = All-nil IsLabel;
-  rows = All-nil (λ (row : FormatRow). row.pi < 2 ^ 32);
+  rows = All-nil (λ (row : FormatRow). row.pair.pi < 2 ^ 32);
   names = tt;
   known = All-nil (λ (name : LevelName). name.level.0 < 0);
 }
@@ -104,27 +103,27 @@ next_of ls (level_line place doi sens comps) a f e =
     (and_parts (place == length (labels_of ls)) (is_next (labels_of ls) a) g).1
 next_of ls line a f e = absurd (no_some a None refl e)
 
-sound_more : (ls : List Line) (line : Line) (o : Option Label) → label_in line ≡ o → IsSound (labels_of ls) → ((a : Label) → o ≡ Some a → is_next (labels_of ls) a ≡ true) → IsSound (labels_of (ls ++ line ∷ []))
-sound_more ls line None e s next = subst IsSound (sym (one_more label_in ls line ∙ ap (and_some (labels_of ls)) e)) s
-sound_more ls line (Some a) e s next = subst IsSound (sym (one_more label_in ls line ∙ ap (and_some (labels_of ls)) e)) (next_sound (labels_of ls) a s (next a refl))
+sound_more : (ls : List Line) (line : Line) (o : Option Label) → label_in line ≡ o → AreFirstLevels (labels_of ls) → ((a : Label) → o ≡ Some a → is_next (labels_of ls) a ≡ true) → AreFirstLevels (labels_of (ls ++ line ∷ []))
+sound_more ls line None e s next = subst AreFirstLevels (sym (one_more label_in ls line ∙ ap (and_some (labels_of ls)) e)) s
+sound_more ls line (Some a) e s next = subst AreFirstLevels (sym (one_more label_in ls line ∙ ap (and_some (labels_of ls)) e)) (next_sound (labels_of ls) a s (next a refl))
 
 label_ok : IsReader → (line : Line) (a : Label) → HasBounds line → label_in line ≡ Some a → IsLabel a
 label_ok reader (level_line place doi sens comps) a b e = label_is reader doi sens comps a b e
 label_ok reader line a b e = absurd (no_some a None refl e)
 
-row_ok : (line : Line) (a : FormatRow) → HasBounds line → format_in line ≡ Some a → a.pi < 2 ^ 32
+row_ok : (line : Line) (a : FormatRow) → HasBounds line → format_in line ≡ Some a → a.pair.pi < 2 ^ 32
 row_ok (format_line lfs pi word) a b e = of (spelling_of word) e
   where
     mk : Spelling → FormatRow
-    mk s = record { lfs = lfs; pi = pi; spelling = s }
+    mk s = record { pair = record { lfs = lfs; pi = pi }; spelling = s }
 
-    of : (o : Option Spelling) → option_map mk o ≡ Some a → a.pi < 2 ^ 32
+    of : (o : Option Spelling) → option_map mk o ≡ Some a → a.pair.pi < 2 ^ 32
     of None e = absurd (no_some a None refl e)
-    of (Some s) e = subst (λ (r : FormatRow). r.pi < 2 ^ 32) (same_some (mk s) a e) b
+    of (Some s) e = subst (λ (r : FormatRow). r.pair.pi < 2 ^ 32) (same_some (mk s) a e) b
 row_ok line a b e = absurd (no_some a None refl e)
 
 abbrev IsFit : List Line → LevelName → Type 0
-IsFit ls a = (list_any (clashes a.lfs a.pi a.level.0 a.bytes) (names_of ls) ≡ false) × (a.level.0 < length (labels_of ls))
+IsFit ls a = (list_any (clashes a.pair.lfs a.pair.pi a.level.0 a.bytes) (names_of ls) ≡ false) × (a.level.0 < length (labels_of ls))
 
 middle : (a b c d e : Bool) → (a && b && c && d && e) ≡ true → (b ≡ true) × (c ≡ true)
 middle a b c d e h =
@@ -135,15 +134,15 @@ middle a b c d e h =
 
 name_ok : (ls : List Line) (line : Line) (a : LevelName) → fits ls line ≡ true → name_in line ≡ Some a → IsFit ls a
 unfolding name_fits
-name_ok ls (name_line lfs pi level hex) a f e = of (hex_of hex) f e
+name_ok ls (name_line lfs pi level hex) a f e = of (lower_hex_of hex) f e
   where
     mk : List ℕ → LevelName
-    mk bytes = record { lfs = lfs; pi = pi; level = record { 0 = level }; bytes = bytes }
+    mk bytes = record { pair = record { lfs = lfs; pi = pi }; level = record { 0 = level }; bytes = bytes }
 
     fit : (bytes : List ℕ) → name_fits (labels_of ls) (rows_of ls) (names_of ls) lfs pi level (Some bytes) ≡ true → IsFit ls (mk bytes)
     fit bytes f =
-        let two = middle (list_any (λ row. is_pair lfs pi row && is_table row.spelling) (rows_of ls)) (is_known (labels_of ls) level)
-        (not (list_any (clashes lfs pi level bytes) (names_of ls))) (nat_le 1 (length bytes)) (nat_le (length bytes) max_spelling) f in
+        let two = middle (list_any (λ row. is_pair lfs pi row.pair && is_table row.spelling) (rows_of ls)) (is_known (labels_of ls) level)
+        (not (list_any (clashes lfs pi level bytes) (names_of ls))) (nat_le 1 (length bytes)) (nat_le (length bytes) MAX_SPELLING) f in
         (not-true (list_any (clashes lfs pi level bytes) (names_of ls)) two.1, ltb-true level (length (labels_of ls)) two.0)
 
     of : (o : Option (List ℕ)) → name_fits (labels_of ls) (rows_of ls) (names_of ls) lfs pi level o ≡ true → option_map mk o ≡ Some a → IsFit ls a
@@ -168,7 +167,7 @@ good_more reader ls line good bounds f =
     record {
       sound = sound_more ls line (label_in line) refl good.sound (λ a e. next_of ls line a f e);
       labels = grown IsLabel label_in ls line (label_in line) refl good.labels (λ a e. label_ok reader line a bounds e);
-      rows = grown (λ row. row.pi < 2 ^ 32) format_in ls line (format_in line) refl good.rows (λ a e. row_ok line a bounds e);
+      rows = grown (λ row. row.pair.pi < 2 ^ 32) format_in ls line (format_in line) refl good.rows (λ a e. row_ok line a bounds e);
       names = names_more ls line (name_in line) refl good.names (λ a e. name_ok ls line a f e);
       known = grown (λ name. name.level.0 < length (labels_of (ls ++ line ∷ []))) name_in ls line (name_in line) refl
           (λ k d lt. let old = good.known k d lt in omega (arith, old, longer))
@@ -177,39 +176,36 @@ good_more reader ls line good bounds f =
 
 -- ---- the whole policy
 
-format_is : (labels : List Label) (names : List LevelName) (row : FormatRow) → IsSound labels → row.pi < 2 ^ 32 → Distinct names → All (λ name. name.level.0 < length labels) names
+format_is : (labels : List Label) (names : List LevelName) (row : FormatRow) → AreFirstLevels labels → row.pair.pi < 2 ^ 32 → Distinct names → All (λ name. name.level.0 < length labels) names
     → (s : Spelling) → IsFormat (kind_of labels names row s)
 format_is labels names row sound small d k spelling.Calipso = tt
 format_is labels names row sound small d k spelling.Text = small
-format_is labels names row sound small d k spelling.Name = table labels sound.apart row.lfs row.pi names d k
+format_is labels names row sound small d k spelling.Name = table labels sound.apart row.pair.lfs row.pair.pi names d k
 
-found_is : (labels : List Label) (names : List LevelName) (lfs pi : ℕ) (entry : FormatEntry) → IsSound labels → Distinct names → All (λ name. name.level.0 < length labels) names
-    → (rows : List FormatRow) → All (λ row. row.pi < 2 ^ 32) rows → find (is_entry lfs pi) (map (entry_in labels names) rows) ≡ Some entry → IsFormat entry.kind
+found_is : (labels : List Label) (names : List LevelName) (lfs pi : ℕ) (entry : FormatEntry) → AreFirstLevels labels → Distinct names → All (λ name. name.level.0 < length labels) names
+    → (rows : List FormatRow) → All (λ row. row.pair.pi < 2 ^ 32) rows → find (λ entry. is_pair lfs pi (pair_of entry)) (map (entry_in labels names) rows) ≡ Some entry → IsFormat entry.kind
 found_is labels names lfs pi entry sound d k [] small e = absurd (no_some entry None refl e)
 found_is labels names lfs pi entry sound d k (row ∷ rows) small e =
-    elim (cases_Bool (is_entry lfs pi (entry_in labels names row))) [
+    elim (cases_Bool (is_pair lfs pi row.pair)) [
       | inl t ↦ subst (λ (x : FormatEntry). IsFormat x.kind) (same_some (entry_in labels names row) entry (rw t at e))
-          (format_is labels names row sound (All-head (λ row. row.pi < 2 ^ 32) row rows small) d k row.spelling)
-      | inr f ↦ found_is labels names lfs pi entry sound d k rows (All-tail (λ row. row.pi < 2 ^ 32) row rows small) (rw f at e)
+          (format_is labels names row sound (All-head (λ row. row.pair.pi < 2 ^ 32) row rows small) d k row.spelling)
+      | inr f ↦ found_is labels names lfs pi entry sound d k rows (All-tail (λ row. row.pair.pi < 2 ^ 32) row rows small) (rw f at e)
     ]
 
-formats_are : (text : List ℕ) (ls : List Line) → IsGood ls → HasFormats (policy_in text ls)
+formats_are : (ls : List Line) → IsGood ls → AreFormats (formats_of ls)
 unfolding entries_of
-formats_are text ls good lfs pi entry e = found_is (labels_of ls) (names_of ls) lfs pi entry good.sound good.names good.known (rows_of ls) good.rows e
+formats_are ls good lfs pi entry e = found_is (labels_of ls) (names_of ls) lfs pi entry good.sound good.names good.known (rows_of ls) good.rows e
 
-labels_are : (text : List ℕ) (ls : List Line) → IsGood ls → HasLabels (policy_in text ls)
-labels_are text ls good i lt = good.labels i (get_or (labels_of ls) 0 lowest) lt
-
-pub site : IsReader → ((words : List (List ℕ)) (line : Line) → line_of words ≡ Ok line → HasBounds line) → (text : List ℕ) (p : Policy) → policy_of text ≡ Ok p → HasLabels p × HasFormats p
+pub site : IsReader → ((words : List (List ℕ)) (line : Line) → line_of words ≡ Ok line → HasBounds line) → (text : List ℕ) (p : Policy) → policy_of text ≡ Ok p → All IsLabel p.labels × AreFormats p.formats
 unfolding policy_of
 site reader bounded text p e = of (lines_from 1 [] (split newline text)) refl e
   where
-    both : (ls : List Line) → IsGood ls → HasLabels (policy_in (canonical text) ls) × HasFormats (policy_in (canonical text) ls)
-    both ls good = (labels_are (canonical text) ls good, formats_are (canonical text) ls good)
+    both : (ls : List Line) → IsGood ls → All IsLabel (labels_of ls) × AreFormats (formats_of ls)
+    both ls good = (good.labels, formats_are ls good)
 
-    of : (r : Result (List Line) Refused) → lines_from 1 [] (split newline text) ≡ r → policy_from (canonical text) r ≡ Ok p → HasLabels p × HasFormats p
+    of : (r : Result (List Line) Refused) → lines_from 1 [] (split newline text) ≡ r → policy_from (canonical text) r ≡ Ok p → All IsLabel p.labels × AreFormats p.formats
     of (Ok ls) h f =
         let is : policy_in (canonical text) ls ≡ p = cc in
         let good = kept_by IsGood (λ ls ws line q w t. good_more reader ls line q (bounded ws line w) t) 1 [] ls (split newline text) nothing_yet h in
-        subst (λ (x : Policy). HasLabels x × HasFormats x) is (both ls good)
-    of (Err refused) h f = absurd (missed refused p f)
+        subst (λ (x : Policy). All IsLabel x.labels × AreFormats x.formats) is (both ls good)
+    of (Err refused) h f = absurd (not_ok refused p f)

@@ -1,16 +1,17 @@
 -- A line says something exactly where its words are the one spelling of it.
-use Rattle.std.proofs.Common.{◌≡◌, ◌^◌, ◌+◌, ℕ, Bool, true, false, cond, List, [], ◌∷◌, refl, sym, ap, ◌∙◌, subst, inl, inr, arith}
+use Rattle.std.proofs.Common.{◌≡◌, ◌^◌, ◌-◌, ℕ, Bool, true, false, cond, List, [], ◌∷◌, refl, sym, ap, ◌∙◌, subst, inl, inr, arith}
 use Rattle.std.specs.Prelude.{Result, Ok, Err, Option, Some, None, IfSome, codes}
 use Rattle.std.specs.Fmt.{decimal}
 use Rattle.std.proofs.lemmas.Slice.Eq.{bytes_eq-Decides}
 use Rattle.std.proofs.lemmas.Bool.{cases_Bool}
-use Rattle.lnfs_policy.specs.Words.{is, number, long_number}
-use Rattle.lnfs_policy.specs.Line.{Line, version_line, mode_line, level_line, format_line, name_line, parent_line, guest_line, quota_line, dir_line, ◌>>=◌, says_version, says_mode, says_level, says_format, says_name, says_parent, uid_of, says_guest, says_quota, says_dir, line_of}
+use Rattle.std.specs.Str.{bytes_eq}
+use Rattle.lnfs_policy.specs.Line.{or_number, number, long_number, Line, version_line, mode_line, level_line, format_line, name_line, parent_line, guest_line, quota_line, dir_line, ◌>>=◌, says_version, says_mode, says_level, says_format, says_name, says_parent, uid_of, says_guest, says_quota, says_dir, line_of}
 use Rattle.lnfs_policy.specs.Spelled.{uid_word, spelled, Fits32, FitsQuota, HasNumbers}
 use Rattle.lnfs_policy.specs.declared.mode.Mode.TheVariants.{Enforcing, Limited}
 use Rattle.lnfs_policy.specs.declared.cause.Cause.{Cause}
 use Rattle.lnfs_policy.specs.declared.cause.Cause.TheVariants as because
-use Rattle.lnfs_policy.proofs.Decimals.{number_is, number_decimal, same_ok, not_ok}
+use Rattle.lnfs_words.proofs.Decimals.{number_is, number_decimal}
+use Rattle.lnfs_policy.proofs.Outcomes.{same_ok, not_ok}
 
 -- ---- steps that went well
 
@@ -37,25 +38,29 @@ three_steps (Err cause) s t f l e = cc
 
 -- ---- words
 
-name_is : (word name : List ℕ) → is word name ≡ true → word ≡ name
+name_is : (word name : List ℕ) → bytes_eq word name ≡ true → word ≡ name
 name_is word name = (bytes_eq-Decides word name).0
 
+given : (o : Option ℕ) (n : ℕ) → or_number o ≡ Ok n → o ≡ Some n
+given (Some m) n e = ap Some (same_ok m n e)
+given None n e = cc
+
 short_is : (word : List ℕ) (n : ℕ) → number word ≡ Ok n → (word ≡ decimal n) × Fits32 n
-short_is = number_is (2 ^ 32) (omega arith)
+short_is word n e = let p = number_is (2 ^ 32 - 1) (omega arith) word n (given _ n e) in (p.1, omega (arith, p.0))
 
 short_decimal : (n : ℕ) → Fits32 n → number (decimal n) ≡ Ok n
-short_decimal = number_decimal (2 ^ 32) (omega arith)
+short_decimal n h = ap or_number (number_decimal (2 ^ 32 - 1) (omega arith) n (omega arith))
 
 long_is : (word : List ℕ) (n : ℕ) → long_number word ≡ Ok n → (word ≡ decimal n) × FitsQuota n
-long_is = number_is (2 ^ 62 + 1) (omega arith)
+long_is word n e = let p = number_is (2 ^ 62) (omega arith) word n (given _ n e) in (p.1, omega (arith, p.0))
 
 long_decimal : (n : ℕ) → FitsQuota n → long_number (decimal n) ≡ Ok n
-long_decimal = number_decimal (2 ^ 62 + 1) (omega arith)
+long_decimal n h = ap or_number (number_decimal (2 ^ 62) (omega arith) n (omega arith))
 
 -- no number is spelled `*`
-star : (uid : ℕ) → Fits32 uid → is (decimal uid) (codes "*") ≡ false
+star : (uid : ℕ) → Fits32 uid → bytes_eq (decimal uid) (codes "*") ≡ false
 star uid small =
-    elim (cases_Bool (is (decimal uid) (codes "*"))) [
+    elim (cases_Bool (bytes_eq (decimal uid) (codes "*"))) [
       | inl t ↦ absurd (not_ok because.Number uid (ap number (sym (name_is (decimal uid) (codes "*") t)) ∙ short_decimal uid small))
       | inr f ↦ f
     ]
@@ -70,7 +75,7 @@ IsUid word uid = (word ≡ uid_word uid) × IfSome uid Fits32
 
 uid_is : (word : List ℕ) (uid : Option ℕ) → uid_of word ≡ Ok uid → IsUid word uid
 uid_is word uid e =
-    elim (cases_Bool (is word (codes "*"))) [
+    elim (cases_Bool (bytes_eq word (codes "*"))) [
       | inl t ↦ subst (IsUid word) (same_ok None uid (rw t at e)) (name_is word (codes "*") t, tt)
       | inr f ↦
           let s = one_step (number word) Some uid (rw f at e) in
@@ -85,19 +90,19 @@ Says words line = HasNumbers line × (words ≡ spelled line)
 
 version_says : (words : List (List ℕ)) (l : Line) → says_version words ≡ Ok l → Says (codes "lnfs-policy" ∷ words) l
 version_says (one ∷ []) l e =
-    let s = chosen (is one (codes "1")) (Ok version_line) because.Words l e in
+    let s = chosen (bytes_eq one (codes "1")) (Ok version_line) because.Words l e in
     let o : one ≡ codes "1" = name_is one (codes "1") s.0 in
     subst (Says (codes "lnfs-policy" ∷ one ∷ [])) (same_ok version_line l s.1) (tt, cc o)
 version_says words l e = cc
 
 mode_says : (words : List (List ℕ)) (l : Line) → says_mode words ≡ Ok l → Says (codes "mode" ∷ words) l
 mode_says (mode ∷ []) l e =
-    elim (cases_Bool (is mode (codes "enforcing"))) [
+    elim (cases_Bool (bytes_eq mode (codes "enforcing"))) [
       | inl t ↦
           let m : mode ≡ codes "enforcing" = name_is mode (codes "enforcing") t in
           subst (Says (codes "mode" ∷ mode ∷ [])) (same_ok (mode_line Enforcing) l (rw t at e)) (tt, cc m)
       | inr f ↦
-          let s = chosen (is mode (codes "limited")) (Ok (mode_line Limited)) because.Words l (rw f at e) in
+          let s = chosen (bytes_eq mode (codes "limited")) (Ok (mode_line Limited)) because.Words l (rw f at e) in
           let m : mode ≡ codes "limited" = name_is mode (codes "limited") s.0 in
           subst (Says (codes "mode" ∷ mode ∷ [])) (same_ok (mode_line Limited) l s.1) (tt, cc m)
     ]
@@ -166,24 +171,24 @@ pub line_says : (words : List (List ℕ)) (l : Line) → line_of words ≡ Ok l 
 unfolding line_of
 line_says [] l e = cc
 line_says (name ∷ words) l e =
-    let heads : (front : List ℕ) → is name front ≡ true → Says (front ∷ words) l → Says (name ∷ words) l = λ front t. subst (λ (x : List ℕ). Says (x ∷ words) l) (sym (name_is name front t)) in
-    elim (cases_Bool (is name (codes "lnfs-policy"))) [
+    let heads : (front : List ℕ) → bytes_eq name front ≡ true → Says (front ∷ words) l → Says (name ∷ words) l = λ front t. subst (λ (x : List ℕ). Says (x ∷ words) l) (sym (name_is name front t)) in
+    elim (cases_Bool (bytes_eq name (codes "lnfs-policy"))) [
       | inl t ↦ heads (codes "lnfs-policy") t (version_says words l (rw t at e))
-      | inr f ↦ let e = rw f at e in elim (cases_Bool (is name (codes "mode"))) [
+      | inr f ↦ let e = rw f at e in elim (cases_Bool (bytes_eq name (codes "mode"))) [
         | inl t ↦ heads (codes "mode") t (mode_says words l (rw t at e))
-        | inr f ↦ let e = rw f at e in elim (cases_Bool (is name (codes "level"))) [
+        | inr f ↦ let e = rw f at e in elim (cases_Bool (bytes_eq name (codes "level"))) [
           | inl t ↦ heads (codes "level") t (level_says words l (rw t at e))
-          | inr f ↦ let e = rw f at e in elim (cases_Bool (is name (codes "format"))) [
+          | inr f ↦ let e = rw f at e in elim (cases_Bool (bytes_eq name (codes "format"))) [
             | inl t ↦ heads (codes "format") t (format_says words l (rw t at e))
-            | inr f ↦ let e = rw f at e in elim (cases_Bool (is name (codes "name"))) [
+            | inr f ↦ let e = rw f at e in elim (cases_Bool (bytes_eq name (codes "name"))) [
               | inl t ↦ heads (codes "name") t (name_says words l (rw t at e))
-              | inr f ↦ let e = rw f at e in elim (cases_Bool (is name (codes "parent"))) [
+              | inr f ↦ let e = rw f at e in elim (cases_Bool (bytes_eq name (codes "parent"))) [
                 | inl t ↦ heads (codes "parent") t (parent_says words l (rw t at e))
-                | inr f ↦ let e = rw f at e in elim (cases_Bool (is name (codes "guest"))) [
+                | inr f ↦ let e = rw f at e in elim (cases_Bool (bytes_eq name (codes "guest"))) [
                   | inl t ↦ heads (codes "guest") t (guest_says words l (rw t at e))
-                  | inr f ↦ let e = rw f at e in elim (cases_Bool (is name (codes "quota"))) [
+                  | inr f ↦ let e = rw f at e in elim (cases_Bool (bytes_eq name (codes "quota"))) [
                     | inl t ↦ heads (codes "quota") t (quota_says words l (rw t at e))
-                    | inr f ↦ let e = rw f at e in elim (cases_Bool (is name (codes "dir"))) [
+                    | inr f ↦ let e = rw f at e in elim (cases_Bool (bytes_eq name (codes "dir"))) [
                       | inl t ↦ heads (codes "dir") t (dir_says words l (rw t at e))
                       | inr f ↦ absurd (not_ok because.Words l (rw f at e))
                     ]

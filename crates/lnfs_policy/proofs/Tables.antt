@@ -8,7 +8,7 @@ use Rattle.std.proofs.lemmas.Bool.Decides.{nat_tests}
 use Rattle.std.proofs.lemmas.List.{append-nil}
 use Rattle.std.proofs.lemmas.List.Sums.{fold-append}
 use Rattle.std.proofs.lemmas.List.Elements.{filter_map-append}
-use Rattle.lnfs_policy.specs.Words.{is_empty}
+use Rattle.lnfs_words.specs.Words.{is_empty}
 use Rattle.lnfs_policy.specs.Line.{Line, version_line, mode_line, level_line, format_line, name_line, parent_line, guest_line, quota_line, dir_line, rank, is_mode, in_order}
 use Rattle.lnfs_policy.specs.Rows.{mode_in, label_in, format_in, name_in, parent_in, guest_in, quota_in, dir_in, mode_of, labels_of, rows_of, names_of, parents_of, guests_of, quotas_of, dirs_of}
 use Rattle.lnfs_policy.specs.Policy.{with_parent, by_number}

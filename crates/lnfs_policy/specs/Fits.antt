@@ -1,11 +1,18 @@
 -- The rules of a line of the policy file after the lines before it: one definition for each kind.
-use Rattle.std.specs.Prelude.{ℕ, ◌==◌, ◌&&◌, ◌||◌, Bool, true, false, not, if◌then◌else◌, nat_lt, nat_le, List, [], ◌∷◌, length, Option, Some, None, is_some, option_map, find, codes}
-use Rattle.std.specs.List.{list_all, list_any, slice_index_or}
+use Rattle.std.specs.Prelude.{ℕ, ◌==◌, ◌&&◌, ◌||◌, Bool, true, false, not, if◌then◌else◌, nat_lt, nat_le, List, length, Option, Some, None, is_some, option_map, find}
+use Rattle.std.specs.List.{list_any, slice_index_or}
 use Rattle.lnfs_calipso.specs.Label.{Label, dominates, dom_of}
-use Rattle.lnfs_calipso.specs.Same.{same_list, same_label}
-use Rattle.lnfs_policy.specs.Words.{is, is_empty, split, slash, before_last, is_name_byte, hex_of, hex_sized}
+use Rattle.lnfs_calipso.specs.Same.{same_label}
+use Rattle.lnfs_calipso.specs.declared.lattice.TheConstants.{MAX_LEVELS}
+use Rattle.lnfs_format.specs.Entries.{is_pair}
+use Rattle.lnfs_format.specs.declared.formats.TheConstants.{MAX_FORMATS, MAX_SPELLING}
+use Rattle.std.specs.Str.{bytes_eq}
+use Rattle.lnfs_words.specs.Words.{is_empty}
+use Rattle.lnfs_words.specs.Hex.{lower_hex_of, lower_hex_sized}
+use Rattle.lnfs_words.specs.Paths.{is_path, parent_of}
 use Rattle.lnfs_policy.specs.Line.{Line, version_line, mode_line, level_line, format_line, name_line, parent_line, guest_line, quota_line, dir_line}
 use Rattle.lnfs_policy.specs.Rows.{label_of, spelling_of, labels_of, rows_of, names_of, parents_of, quotas_of, dirs_of}
+use Rattle.lnfs_policy.specs.declared.fits.TheConstants.{MAX_CLASS, MAX_DIRS}
 use Rattle.lnfs_policy.specs.declared.rows.Spelling.{Spelling}
 use Rattle.lnfs_policy.specs.declared.rows.Spelling.TheVariants as spelling
 use Rattle.lnfs_policy.specs.declared.rows.FormatRow.{FormatRow}
@@ -13,28 +20,6 @@ use Rattle.lnfs_policy.specs.declared.rows.LevelName.{LevelName}
 use Rattle.lnfs_policy.specs.declared.rows.Parent.{Parent}
 use Rattle.lnfs_policy.specs.declared.rows.Quota.{Quota}
 use Rattle.lnfs_policy.specs.declared.rows.DirLine.{DirLine}
-
-abbrev pub max_levels : ℕ
-max_levels = 32
-
-abbrev pub max_formats : ℕ
-max_formats = 8
-
-abbrev pub max_class : ℕ
-max_class = 7
-
-abbrev pub max_dirs : ℕ
-max_dirs = 256
-
-abbrev pub max_components : ℕ
-max_components = 16
-
-abbrev pub max_name : ℕ
-max_name = 255
-
--- of a spelling of a label, in bytes
-abbrev pub max_spelling : ℕ
-max_spelling = 1024
 
 abbrev pub is_known : List Label → (level : ℕ) → Bool
 is_known labels level = nat_lt level (length labels)
@@ -44,7 +29,7 @@ is_known labels level = nat_lt level (length labels)
 -- there is room, the label is new, and it dominates the first
 unfoldable pub is_next : List Label → Label → Bool
 is_next labels label =
-    nat_lt (length labels) max_levels && dominates label (slice_index_or labels 0 label) && not (list_any (λ l. same_label l label) labels)
+    nat_lt (length labels) MAX_LEVELS && dominates label (slice_index_or labels 0 label) && not (list_any (λ l. same_label l label) labels)
 
 abbrev pub level_fits : List Label → (place : ℕ) → Option Label → Bool
 level_fits labels place None = false
@@ -52,11 +37,8 @@ level_fits labels place (Some label) = place == length labels && is_next labels 
 
 -- ---- format
 
-abbrev pub is_pair : (lfs pi : ℕ) → FormatRow → Bool
-is_pair lfs pi row = row.lfs == lfs && row.pi == pi
-
 abbrev pub format_fits : List FormatRow → (lfs pi : ℕ) → Bool
-format_fits rows lfs pi = nat_lt (length rows) max_formats && not (list_any (is_pair lfs pi) rows)
+format_fits rows lfs pi = nat_lt (length rows) MAX_FORMATS && not (list_any (λ row. is_pair lfs pi row.pair) rows)
 
 -- ---- name
 
@@ -67,15 +49,15 @@ is_table spelling.Name = true
 
 -- one of the two has the level or the bytes of the other
 abbrev pub clashes : (lfs pi level : ℕ) → List ℕ → LevelName → Bool
-clashes lfs pi level bytes name = name.lfs == lfs && name.pi == pi && (name.level.0 == level || same_list name.bytes bytes)
+clashes lfs pi level bytes name = is_pair lfs pi name.pair && (name.level.0 == level || bytes_eq name.bytes bytes)
 
 unfoldable pub name_fits : List Label → List FormatRow → List LevelName → (lfs pi level : ℕ) → Option (List ℕ) → Bool
 name_fits labels rows names lfs pi level None = false
 name_fits labels rows names lfs pi level (Some bytes) =
-    list_any (λ row. is_pair lfs pi row && is_table row.spelling) rows
+    list_any (λ row. is_pair lfs pi row.pair && is_table row.spelling) rows
     && is_known labels level
     && not (list_any (clashes lfs pi level bytes) names)
-    && nat_le 1 (length bytes) && nat_le (length bytes) max_spelling
+    && nat_le 1 (length bytes) && nat_le (length bytes) MAX_SPELLING
 
 -- ---- parent
 
@@ -89,7 +71,7 @@ parent_fits labels taken (Some secret) level = not taken && is_known labels leve
 -- ---- guest
 
 abbrev pub guest_fits : List Label → (class level : ℕ) → Bool
-guest_fits labels class level = nat_le class max_class && is_known labels level
+guest_fits labels class level = nat_le class MAX_CLASS && is_known labels level
 
 -- ---- quota
 
@@ -98,24 +80,9 @@ quota_fits labels quotas level = is_known labels level && not (list_any (λ quot
 
 -- ---- dir
 
--- a name of a directory: printable ASCII without space and slash, and neither `.` nor `..`
-abbrev pub is_component : List ℕ → Bool
-is_component name =
-    nat_le 1 (length name) && nat_le (length name) max_name && list_all is_name_byte name
-    && not (is name (codes ".")) && not (is name (codes ".."))
-
-abbrev pub are_components : List (List ℕ) → Bool
-are_components [] = false
-are_components (front ∷ names) =
-    is_empty front && nat_le 1 (length names) && nat_le (length names) max_components && list_all is_component names
-
--- names, each behind a slash
-unfoldable pub is_path : List ℕ → Bool
-is_path path = are_components (split slash path)
-
 -- the level of the directory of a path that was made before; the root has level 0
 abbrev pub level_at : List DirLine → List ℕ → Option ℕ
-level_at dirs path = if is_empty path then Some 0 else option_map (λ dir. dir.level.0) (find (λ dir. same_list dir.path path) dirs)
+level_at dirs path = if is_empty path then Some 0 else option_map (λ dir. dir.level.0) (find (λ dir. bytes_eq dir.path path) dirs)
 
 abbrev pub is_above : List Label → (level : ℕ) → Option ℕ → Bool
 is_above labels level None = false
@@ -123,9 +90,9 @@ is_above labels level (Some parent) = dom_of labels level parent
 
 unfoldable pub dir_fits : List Label → List DirLine → (path : List ℕ) (level : ℕ) → Bool
 dir_fits labels dirs path level =
-    is_path path && nat_lt (length dirs) max_dirs && is_known labels level
-    && not (list_any (λ dir. same_list dir.path path) dirs)
-    && is_above labels level (level_at dirs (before_last slash path))
+    is_path path && nat_lt (length dirs) MAX_DIRS && is_known labels level
+    && not (list_any (λ dir. bytes_eq dir.path path) dirs)
+    && is_above labels level (level_at dirs (parent_of path))
 
 -- ---- a line after those before it
 
@@ -134,8 +101,8 @@ fits before version_line = true
 fits before (mode_line mode) = true
 fits before (level_line place doi sens comps) = level_fits (labels_of before) place (label_of doi sens comps)
 fits before (format_line lfs pi word) = is_some (spelling_of word) && format_fits (rows_of before) lfs pi
-fits before (name_line lfs pi level hex) = name_fits (labels_of before) (rows_of before) (names_of before) lfs pi level (hex_of hex)
-fits before (parent_line number hex level) = parent_fits (labels_of before) (is_taken (parents_of before) number) (hex_sized 32 hex) level
+fits before (name_line lfs pi level hex) = name_fits (labels_of before) (rows_of before) (names_of before) lfs pi level (lower_hex_of hex)
+fits before (parent_line number hex level) = parent_fits (labels_of before) (is_taken (parents_of before) number) (lower_hex_sized 32 hex) level
 fits before (guest_line class uid level) = guest_fits (labels_of before) class level
 fits before (quota_line level nodes bytes) = quota_fits (labels_of before) (quotas_of before) level
 fits before (dir_line path level) = dir_fits (labels_of before) (dirs_of before) path level

@@ -1,4 +1,3 @@
-pub mod Words
 pub mod Line
 pub mod Spelled
 pub mod Rows
@@ -7,4 +6,4 @@ pub mod Policy
 pub mod PolicyText
 pub mod Reading
 pub mod Seen
-pub mod Site
+pub mod Held

@@ -1,5 +1,5 @@
 -- The policy of a site, as its text spells it.
-use Rattle.std.specs.Prelude.{◌==◌, ◌&&◌, ℕ, Bool, true, false, List, [], length, Option, Some, None, option_map, find, codes}
+use Rattle.std.specs.Prelude.{◌==◌, ◌&&◌, ℕ, Bool, true, false, List, [], Option, Some, None, option_map, find, codes}
 use Rattle.std.specs.Ordering.{nat_cmp}
 use Rattle.std.specs.BTreeMap.{insert_entry, is_at}
 use Rattle.std.specs.Map.{lookup}
@@ -49,11 +49,6 @@ policy_in text lines = record {
   quotas = quotas_of lines;
   dirs = dirs_of lines;
 }
-
--- ---- levels
-
-abbrev pub level_count : Policy → ℕ
-level_count p = length p.labels
 
 -- dominance of the levels
 abbrev pub dominance : Policy → ℕ → ℕ → Bool

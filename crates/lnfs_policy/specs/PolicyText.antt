@@ -6,7 +6,8 @@ use Rattle.std.specs.List.{list_any, list_all, flat_map}
 use Rattle.lnfs_calipso.specs.Label.{Label}
 use Rattle.lnfs_format.specs.Kinds.{writes}
 use Rattle.lnfs_format.specs.declared.formats.FormatEntry.{FormatEntry}
-use Rattle.lnfs_policy.specs.Words.{is_empty, split, newline, number_sign, words, is, is_ascii, is_worded}
+use Rattle.std.specs.Str.{bytes_eq}
+use Rattle.lnfs_words.specs.Words.{is_empty, split, newline, words, is_ascii, is_worded}
 use Rattle.lnfs_policy.specs.Line.{◌>>=◌, demand, Line, line_of, in_order, is_mode, cause_of}
 use Rattle.lnfs_policy.specs.Rows.{labels_of, formats_of}
 use Rattle.lnfs_policy.specs.Fits.{fits}
@@ -18,8 +19,8 @@ use Rattle.lnfs_policy.specs.declared.cause.PolicyError.TheVariants as error
 
 -- the version line is the first line, and no other
 abbrev pub version_in_place : (first : Bool) → List ℕ → Bool
-version_in_place true text = is text (codes "lnfs-policy 1")
-version_in_place false text = not (is text (codes "lnfs-policy 1"))
+version_in_place true text = bytes_eq text (codes "lnfs-policy 1")
+version_in_place false text = not (bytes_eq text (codes "lnfs-policy 1"))
 
 -- what a line says after those before it, or the first rule that it breaks
 abbrev pub said_after : List Line → (ended : Bool) → List ℕ → Result Line Cause
@@ -30,6 +31,10 @@ said_after before ended text = do
   _ ← demand (in_order before line) because.Order
   _ ← demand (fits before line) (cause_of line)
   Ok line
+
+-- `#`
+abbrev pub number_sign : ℕ
+number_sign = 35
 
 -- an empty line, and one that begins with `#`
 abbrev pub is_skipped : List ℕ → Bool
@@ -59,19 +64,19 @@ pub record Refused : Type 0 where
   pub line : ℕ
   pub cause : Cause
 
-abbrev pub at : {A B : Type 0} → (line : ℕ) → Result A Cause → (A → Result B Refused) → Result B Refused
-at line (Ok a) next = next a
-at line (Err cause) next = Err (record { line = line; cause = cause })
+abbrev pub told_at : {A B : Type 0} → (line : ℕ) → Result A Cause → (A → Result B Refused) → Result B Refused
+told_at line (Ok a) next = next a
+told_at line (Err cause) next = Err (record { line = line; cause = cause })
 
 -- Each line ends with a newline, so behind the last newline stands nothing.
 abbrev pub is_end : List ℕ → List (List ℕ) → Bool
 is_end text others = is_empty text && is_empty others
 
 unfoldable pub lines_from : (number : ℕ) → List Line → List (List ℕ) → Result (List Line) Refused
-lines_from number before [] = at number (demand (is_complete before) because.Missing) (λ _. Ok before)
+lines_from number before [] = told_at number (demand (is_complete before) because.Missing) (λ _. Ok before)
 lines_from number before (text ∷ others) =
-    if is_end text others then at number (demand (is_complete before) because.Missing) (λ _. Ok before)
-    else at number (lines_after before (not (is_empty others)) text) (λ lines. lines_from (number + 1) lines others)
+    if is_end text others then told_at number (demand (is_complete before) because.Missing) (λ _. Ok before)
+    else told_at number (lines_after before (not (is_empty others)) text) (λ lines. lines_from (number + 1) lines others)
 
 -- the lines as they stand, without the skipped ones
 abbrev pub kept : List (List ℕ) → List ℕ

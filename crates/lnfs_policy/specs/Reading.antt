@@ -1,16 +1,17 @@
 -- What stands while the lines are read: the tables of the reader. What is read with them is what the text spells.
-use Rattle.std.specs.Prelude.{◌≡◌, ◌&&◌, ◌+◌, ◌≤◌, ◌<◌, ℕ, Bool, true, false, not, if◌then◌else◌, nat_le, List, [], ◌∷◌, ◌++◌, length, Option, Some, None, is_some, Result, Ok, Err}
+use Rattle.std.specs.Prelude.{◌≡◌, ◌&&◌, ◌+◌, ℕ, Bool, true, false, not, if◌then◌else◌, nat_le, List, [], ◌∷◌, ◌++◌, Option, Some, None, is_some, Result, Ok, Err}
 use Rattle.std.specs.Option.{unwrap_or}
 use Rattle.std.specs.Ordering.{nat_cmp}
 use Rattle.std.specs.BTreeMap.{is_at}
 use Rattle.std.specs.Map.{lookup}
-use Rattle.lnfs_calipso.specs.Label.{Label, label_at, dominates}
-use Rattle.lnfs_policy.specs.Words.{is_empty, newline, words, is_ascii, is_worded, hex_of, hex_sized}
+use Rattle.lnfs_calipso.specs.Label.{Label}
+use Rattle.lnfs_words.specs.Words.{is_empty, newline, words, is_ascii, is_worded}
+use Rattle.lnfs_words.specs.Hex.{lower_hex_of, lower_hex_sized}
 use Rattle.lnfs_policy.specs.Line.{◌>>=◌, demand, Line, version_line, mode_line, level_line, format_line, name_line, parent_line, guest_line, quota_line, dir_line, line_of, rank, is_mode}
 use Rattle.lnfs_policy.specs.Rows.{label_of, spelling_of, entries_of}
 use Rattle.lnfs_policy.specs.Fits.{level_fits, format_fits, name_fits, parent_fits, guest_fits, quota_fits, dir_fits}
 use Rattle.lnfs_policy.specs.Policy.{Policy, with_parent}
-use Rattle.lnfs_policy.specs.PolicyText.{version_in_place, is_skipped, spells_all, Refused, at, is_end}
+use Rattle.lnfs_policy.specs.PolicyText.{version_in_place, is_skipped, spells_all, Refused, told_at, is_end}
 use Rattle.lnfs_format.specs.declared.formats.FormatEntry.{FormatEntry}
 use Rattle.lnfs_policy.specs.declared.mode.Mode.{Mode}
 use Rattle.lnfs_policy.specs.declared.mode.Mode.TheVariants.{Enforcing}
@@ -61,13 +62,13 @@ abbrev pub add_format : Read → (lfs pi : ℕ) → Option Spelling → Result R
 add_format read lfs pi None = Err because.Format
 add_format read lfs pi (Some spelling) = do
   _ ← demand (format_fits read.rows lfs pi) because.Format
-  Ok (record read { rows = read.rows ++ record { lfs = lfs; pi = pi; spelling = spelling } ∷ [] })
+  Ok (record read { rows = read.rows ++ record { pair = record { lfs = lfs; pi = pi }; spelling = spelling } ∷ [] })
 
 abbrev pub add_name : Read → (lfs pi level : ℕ) → Option (List ℕ) → Result Read Cause
 add_name read lfs pi level None = Err because.Name
 add_name read lfs pi level (Some bytes) = do
   _ ← demand (name_fits read.labels read.rows read.names lfs pi level (Some bytes)) because.Name
-  Ok (record read { names = read.names ++ record { lfs = lfs; pi = pi; level = record { 0 = level }; bytes = bytes } ∷ [] })
+  Ok (record read { names = read.names ++ record { pair = record { lfs = lfs; pi = pi }; level = record { 0 = level }; bytes = bytes } ∷ [] })
 
 abbrev pub has_parent : List (ℕ × Parent) → (number : ℕ) → Bool
 has_parent parents number = is_some (lookup (is_at (nat_cmp number)) parents)
@@ -98,8 +99,8 @@ add read version_line = Ok read
 add read (mode_line mode) = add_mode read mode
 add read (level_line place doi sens comps) = add_label read place (label_of doi sens comps)
 add read (format_line lfs pi word) = add_format read lfs pi (spelling_of word)
-add read (name_line lfs pi level hex) = add_name read lfs pi level (hex_of hex)
-add read (parent_line number hex level) = add_parent read number (hex_sized 32 hex) level
+add read (name_line lfs pi level hex) = add_name read lfs pi level (lower_hex_of hex)
+add read (parent_line number hex level) = add_parent read number (lower_hex_sized 32 hex) level
 add read (guest_line class uid level) = add_guest read class uid level
 add read (quota_line level nodes bytes) = add_quota read level nodes bytes
 add read (dir_line path level) = add_dir read path level
@@ -152,18 +153,12 @@ finish read = do
   Ok (finished read)
 
 unfoldable pub read_from : (number : ℕ) → Read → List (List ℕ) → Result Policy Refused
-read_from number read [] = at number (finish read) Ok
+read_from number read [] = told_at number (finish read) Ok
 read_from number read (text ∷ others) =
-    if is_end text others then at number (finish read) Ok
-    else at number (judge read (not (is_empty others)) text) (λ next. read_from (number + 1) next others)
+    if is_end text others then told_at number (finish read) Ok
+    else told_at number (judge read (not (is_empty others)) text) (λ next. read_from (number + 1) next others)
 
--- ---- what every reader keeps, and why it stops
-
--- The labels are those of levels, but that there may be none.
-pub record IsSound (labels : List Label) : Type 0 where
-  pub few : length labels ≤ 32
-  pub apart : (i j : ℕ) → i < length labels → j < length labels → label_at labels i ≡ label_at labels j → i ≡ j
-  pub bottom : (i : ℕ) → i < length labels → dominates (label_at labels i) (label_at labels 0) ≡ true
+-- ---- why the reader stops
 
 -- a line is refused, or memory is short
 abbrev pub IsStop : {A : Type 0} → Result A Cause → Stop → Type 0

@@ -1,15 +1,17 @@
 -- What the lines of a policy give: its labels, formats, names, parents, guests, quotas and directories, each in
 -- the order of the lines.
-use Rattle.std.specs.Prelude.{ℕ, ◌==◌, ◌&&◌, nat_le, Bool, if◌then◌else◌, List, [], ◌∷◌, map, Option, Some, None, option_map, codes}
+use Rattle.std.specs.Prelude.{ℕ, nat_le, if◌then◌else◌, List, [], ◌∷◌, map, Option, Some, None, option_map, codes}
 use Rattle.std.specs.List.{filter_map}
 use Rattle.std.specs.Option.{option_or}
 use Rattle.lnfs_calipso.specs.Label.{Label, label_at}
+use Rattle.lnfs_format.specs.Entries.{is_pair}
 use Rattle.lnfs_format.specs.Reading.{bare, reads_comps}
 use Rattle.lnfs_format.specs.declared.kind.Kind.{Kind}
 use Rattle.lnfs_format.specs.declared.kind.Kind.TheVariants as kind
 use Rattle.lnfs_format.specs.declared.kind.NameRow.{NameRow}
 use Rattle.lnfs_format.specs.declared.formats.FormatEntry.{FormatEntry}
-use Rattle.lnfs_policy.specs.Words.{is, hex_of, hex_sized}
+use Rattle.std.specs.Str.{bytes_eq}
+use Rattle.lnfs_words.specs.Hex.{lower_hex_of, lower_hex_sized}
 use Rattle.lnfs_policy.specs.Line.{Line, mode_line, level_line, format_line, name_line, parent_line, guest_line, quota_line, dir_line}
 use Rattle.lnfs_policy.specs.declared.mode.Mode.{Mode}
 use Rattle.lnfs_policy.specs.declared.rows.Spelling.{Spelling}
@@ -30,7 +32,7 @@ mode_in line = None
 -- `-` is no compartment, and other words are compartments as their maximal runs
 unfoldable pub label_of : (doi sens : ℕ) (comps : List ℕ) → Option Label
 label_of doi sens comps =
-    if nat_le sens 255 then (if is comps (codes "-") then Some (bare doi sens) else reads_comps doi sens comps) else None
+    if nat_le sens 255 then (if bytes_eq comps (codes "-") then Some (bare doi sens) else reads_comps doi sens comps) else None
 
 abbrev pub label_in : Line → Option Label
 label_in (level_line place doi sens comps) = label_of doi sens comps
@@ -38,20 +40,20 @@ label_in line = None
 
 abbrev pub spelling_of : List ℕ → Option Spelling
 spelling_of word =
-    if is word (codes "calipso") then Some spelling.Calipso
-    else (if is word (codes "text") then Some spelling.Text
-    else (if is word (codes "name") then Some spelling.Name else None))
+    if bytes_eq word (codes "calipso") then Some spelling.Calipso
+    else (if bytes_eq word (codes "text") then Some spelling.Text
+    else (if bytes_eq word (codes "name") then Some spelling.Name else None))
 
 abbrev pub format_in : Line → Option FormatRow
-format_in (format_line lfs pi word) = option_map (λ s. record { lfs = lfs; pi = pi; spelling = s }) (spelling_of word)
+format_in (format_line lfs pi word) = option_map (λ s. record { pair = record { lfs = lfs; pi = pi }; spelling = s }) (spelling_of word)
 format_in line = None
 
 abbrev pub name_in : Line → Option LevelName
-name_in (name_line lfs pi level hex) = option_map (λ bytes. record { lfs = lfs; pi = pi; level = record { 0 = level }; bytes = bytes }) (hex_of hex)
+name_in (name_line lfs pi level hex) = option_map (λ bytes. record { pair = record { lfs = lfs; pi = pi }; level = record { 0 = level }; bytes = bytes }) (lower_hex_of hex)
 name_in line = None
 
 abbrev pub parent_in : Line → Option Parent
-parent_in (parent_line number hex level) = option_map (λ secret. record { number = number; secret = secret; clearance = record { 0 = level } }) (hex_sized 32 hex)
+parent_in (parent_line number hex level) = option_map (λ secret. record { number = number; secret = secret; clearance = record { 0 = level } }) (lower_hex_sized 32 hex)
 parent_in line = None
 
 abbrev pub guest_in : Line → Option Guest
@@ -96,20 +98,17 @@ dirs_of = filter_map dir_in
 
 -- ---- the formats, each with its names
 
-abbrev pub is_of : (lfs pi : ℕ) → LevelName → Bool
-is_of lfs pi name = name.lfs == lfs && name.pi == pi
-
 abbrev pub name_row : List Label → (lfs pi : ℕ) → LevelName → Option NameRow
-name_row labels lfs pi name = if is_of lfs pi name then Some (record { label = label_at labels name.level.0; bytes = name.bytes }) else None
+name_row labels lfs pi name = if is_pair lfs pi name.pair then Some (record { label = label_at labels name.level.0; bytes = name.bytes }) else None
 
 -- A text's DOI is the policy identifier.
 abbrev pub kind_of : List Label → List LevelName → FormatRow → Spelling → Kind
 kind_of labels names row spelling.Calipso = kind.Calipso
-kind_of labels names row spelling.Text = kind.Text row.pi
-kind_of labels names row spelling.Name = kind.Name (filter_map (name_row labels row.lfs row.pi) names)
+kind_of labels names row spelling.Text = kind.Text row.pair.pi
+kind_of labels names row spelling.Name = kind.Name (filter_map (name_row labels row.pair.lfs row.pair.pi) names)
 
 abbrev pub entry_in : List Label → List LevelName → FormatRow → FormatEntry
-entry_in labels names row = record { lfs = row.lfs; pi = row.pi; kind = kind_of labels names row row.spelling }
+entry_in labels names row = record { lfs = row.pair.lfs; pi = row.pair.pi; kind = kind_of labels names row row.spelling }
 
 unfoldable pub entries_of : List Label → List LevelName → List FormatRow → List FormatEntry
 entries_of labels names rows = map (entry_in labels names) rows

@@ -9,8 +9,8 @@ abbrev pub seen : Line → said.Line
 seen line.Version = said.version_line
 seen (line.Mode mode) = said.mode_line mode
 seen (line.Level place doi sens comps) = said.level_line place doi sens comps.now
-seen (line.Format lfs pi kind) = said.format_line lfs pi kind.now
-seen (line.Name lfs pi level hex) = said.name_line lfs pi level hex.now
+seen (line.Format pair kind) = said.format_line pair.lfs pair.pi kind.now
+seen (line.Name pair level hex) = said.name_line pair.lfs pair.pi level hex.now
 seen (line.Parent number hex level) = said.parent_line number hex.now level
 seen (line.Guest class uid level) = said.guest_line class uid level
 seen (line.Quota level nodes bytes) = said.quota_line level nodes bytes

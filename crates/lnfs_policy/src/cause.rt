@@ -70,7 +70,7 @@ pub enum PolicyError {
 }
 
 /// Why reading stops at a line.
-#[derive(Debug, Drop)]
+#[derive(Drop)]
 pub(crate) enum Stop {
     Broken(Cause),
     Memory,

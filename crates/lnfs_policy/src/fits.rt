@@ -1,41 +1,25 @@
 //! The rules of the lines after those before them, one function for each kind.
 
 ghost use Rattle.std.specs.Prelude.{◌≡◌, ◌==◌, ◌&&◌, ◌<◌, Some, length, find, IfOk};
-ghost use Rattle.std.specs.List.{list_all, list_any, slice_index_or};
+ghost use Rattle.std.specs.List.{list_any, slice_index_or};
 ghost use Rattle.std.specs.Option.{option_copied};
-ghost use Rattle.lnfs_calipso.specs.Same.{same_list, same_label};
+ghost use Rattle.std.specs.Str.{bytes_eq};
 ghost use Rattle.lnfs_calipso.specs.Label.{label_at};
-ghost use Rattle.lnfs_policy.specs.Words.{is_name_byte};
+ghost use Rattle.lnfs_format.specs.Entries.{is_pair};
 ghost use Rattle.lnfs_policy.specs.Rows.{label_of, spelling_of};
-ghost use Rattle.lnfs_policy.specs.Fits.{is_known, is_next, is_pair, is_table, format_fits, clashes, name_fits, guest_fits, quota_fits, is_component, is_path, level_at, is_above, dir_fits};
+ghost use Rattle.lnfs_policy.specs.Fits.{is_known, is_next, is_table, format_fits, clashes, name_fits, guest_fits, quota_fits, level_at, is_above, dir_fits};
 
-use crate::parts::Parts;
 use crate::rows::{DirLine, FormatRow, LevelName, Quota, Spelling};
-use crate::words::{before_last, is};
-use lnfs_calipso::{Label, Level};
-use lnfs_format::read_comps;
+use lnfs_calipso::{Label, MAX_LEVELS};
+use lnfs_format::{MAX_FORMATS, MAX_SPELLING, Pair, read_comps};
+use lnfs_words::{is_path, parent_of, spells};
 use std::alloc::{AllocError, Global};
-
-/// The most levels of a site.
-const MAX_LEVELS: usize = 32;
-
-/// The most formats of a site.
-const MAX_FORMATS: usize = 8;
 
 /// The highest class of a guest.
 const MAX_CLASS: u32 = 7;
 
 /// The most directories of a policy.
 const MAX_DIRS: usize = 256;
-
-/// The most names of a path.
-const MAX_COMPONENTS: usize = 16;
-
-/// The longest name of a directory, in bytes.
-const MAX_NAME: usize = 255;
-
-/// The longest spelling of a label, in bytes.
-const MAX_SPELLING: usize = 1024;
 
 /// Whether there is such a level.
 pub fn is_known(labels: &[Label], level: u32) -> bool
@@ -61,7 +45,7 @@ pub fn label_of(
     if sens > 255 {
         return Ok(None);
     }
-    if is(comps, "-") {
+    if spells(comps, "-") {
         return Ok(Some(Label::bare(doi, sens as u8)));
     }
     read_comps(alloc, doi, sens as u8, comps)
@@ -85,28 +69,28 @@ pub fn is_next(labels: &[Label], label: &Label) -> bool
 pub fn spelling_of(word: &[u8]) -> Option<Spelling>
     ensures { result ≡ spelling_of word.now }
 {
-    if is(word, "calipso") {
+    if spells(word, "calipso") {
         Some(Spelling::Calipso)
-    } else if is(word, "text") {
+    } else if spells(word, "text") {
         Some(Spelling::Text)
-    } else if is(word, "name") {
+    } else if spells(word, "name") {
         Some(Spelling::Name)
     } else {
         None
     }
 }
 
-fn has_pair(rows: &[FormatRow], lfs: u32, pi: u32) -> bool
-    ensures { result ≡ list_any (is_pair lfs pi) rows.now }
+fn has_pair(rows: &[FormatRow], pair: Pair) -> bool
+    ensures { result ≡ list_any (λ row. is_pair pair.lfs pair.pi row.pair) rows.now }
 {
-    rows.iter().any(|row| row.lfs == lfs && row.pi == pi)
+    rows.iter().any(|row| row.pair == pair)
 }
 
 /// Whether a format may come next: there is room, and its number and policy identifier are new together.
-pub fn format_fits(rows: &[FormatRow], lfs: u32, pi: u32) -> bool
-    ensures { result ≡ format_fits rows.now lfs pi }
+pub fn format_fits(rows: &[FormatRow], pair: Pair) -> bool
+    ensures { result ≡ format_fits rows.now pair.lfs pair.pi }
 {
-    rows.len() < MAX_FORMATS && !has_pair(rows, lfs, pi)
+    rows.len() < MAX_FORMATS && !has_pair(rows, pair)
 }
 
 impl Spelling {
@@ -120,32 +104,25 @@ impl Spelling {
     }
 }
 
-fn is_same(a: &[u8], b: &[u8]) -> bool
-    ensures { result ≡ same_list a.now b.now }
-{
-    a == b
-}
-
 impl LevelName {
     /// Whether a later name has the level or the bytes in the same format.
     fn clashes(&self, later: &LevelName) -> bool
-        ensures { result ≡ clashes later.now.lfs later.now.pi later.now.level.0 later.now.bytes self.now }
+        ensures { result ≡ clashes later.now.pair.lfs later.now.pair.pi later.now.level.0 later.now.bytes self.now }
     {
-        self.lfs == later.lfs
-            && self.pi == later.pi
-            && (self.level.0 == later.level.0
-                || is_same(self.bytes.as_slice(), later.bytes.as_slice()))
+        self.pair == later.pair
+            && (self.level == later.level || self.bytes.as_slice() == later.bytes.as_slice())
     }
 }
 
-fn has_table(rows: &[FormatRow], lfs: u32, pi: u32) -> bool
-    ensures { result ≡ list_any (λ row. is_pair lfs pi row && is_table row.spelling) rows.now }
+fn has_table(rows: &[FormatRow], pair: Pair) -> bool
+    ensures { result ≡ list_any (λ row. is_pair pair.lfs pair.pi row.pair && is_table row.spelling) rows.now }
 {
-    rows.iter().any(|row| row.lfs == lfs && row.pi == pi && row.spelling.is_table())
+    rows.iter()
+        .any(|row| row.pair == pair && row.spelling.is_table())
 }
 
 fn has_clash(names: &[LevelName], name: &LevelName) -> bool
-    ensures { result ≡ list_any (clashes name.now.lfs name.now.pi name.now.level.0 name.now.bytes) names.now }
+    ensures { result ≡ list_any (clashes name.now.pair.lfs name.now.pair.pi name.now.level.0 name.now.bytes) names.now }
 {
     names.iter().any(|earlier| earlier.clashes(name))
 }
@@ -159,9 +136,9 @@ pub fn name_fits(
     names: &[LevelName],
     name: &LevelName,
 ) -> bool
-    ensures { result ≡ name_fits labels.now rows.now names.now name.now.lfs name.now.pi name.now.level.0 (Some name.now.bytes) }
+    ensures { result ≡ name_fits labels.now rows.now names.now name.now.pair.lfs name.now.pair.pi name.now.level.0 (Some name.now.bytes) }
 {
-    has_table(rows, name.lfs, name.pi)
+    has_table(rows, name.pair)
         && is_known(labels, name.level.0)
         && !has_clash(names, name)
         && !name.bytes.is_empty()
@@ -188,48 +165,10 @@ pub fn quota_fits(labels: &[Label], quotas: &[Quota], level: u32) -> bool
     is_known(labels, level) && !has_quota(quotas, level)
 }
 
-fn all_name_bytes(name: &[u8]) -> bool
-    ensures { result ≡ list_all is_name_byte name.now }
-{
-    name.iter().all(|b| 32 < *b && *b < 127)
-}
-
-fn is_component(name: &[u8]) -> bool
-    ensures { result ≡ is_component name.now }
-{
-    !name.is_empty()
-        && name.len() <= MAX_NAME
-        && all_name_bytes(name)
-        && !is(name, ".")
-        && !is(name, "..")
-}
-
-/// Whether the path is from 1 to 16 names, each behind a slash.
-#[tactic(auto, unfolding(crate::specs::Fits::is_path))]
-fn is_path(path: &[u8]) -> bool
-    ensures { result ≡ is_path path.now }
-{
-    let mut names = Parts::new(path, b'/');
-    let Some(front) = names.next() else {
-        return false;
-    };
-    if !front.is_empty() {
-        return false;
-    }
-    let mut count = 0;
-    while let Some(name) = names.next() {
-        if count == MAX_COMPONENTS || !is_component(name) {
-            return false;
-        }
-        count += 1;
-    }
-    count > 0
-}
-
 fn dir_at<'a>(dirs: &'a [DirLine], path: &[u8]) -> Option<&'a DirLine>
-    ensures { option_copied result ≡ find (λ dir. same_list dir.path path.now) dirs.now }
+    ensures { option_copied result ≡ find (λ dir. bytes_eq dir.path path.now) dirs.now }
 {
-    dirs.iter().find(|dir| is_same(dir.path.as_slice(), path))
+    dirs.iter().find(|dir| dir.path.as_slice() == path)
 }
 
 /// The level of the directory of a path, where it was made before or is the root.
@@ -268,9 +207,9 @@ fn is_above(labels: &[Label], level: u32, parent: Option<u32>) -> bool
 }
 
 fn has_path(dirs: &[DirLine], path: &[u8]) -> bool
-    ensures { result ≡ list_any (λ dir. same_list dir.path path.now) dirs.now }
+    ensures { result ≡ list_any (λ dir. bytes_eq dir.path path.now) dirs.now }
 {
-    dirs.iter().any(|dir| is_same(dir.path.as_slice(), path))
+    dirs.iter().any(|dir| dir.path.as_slice() == path)
 }
 
 /// Whether a directory may come next: its path is one and is new, its parent was made before or is the root, its
@@ -283,5 +222,5 @@ pub fn dir_fits(labels: &[Label], dirs: &[DirLine], path: &[u8], level: u32) -> 
         && dirs.len() < MAX_DIRS
         && is_known(labels, level)
         && !has_path(dirs, path)
-        && is_above(labels, level, level_at(dirs, before_last(path, b'/')))
+        && is_above(labels, level, level_at(dirs, parent_of(path)))
 }

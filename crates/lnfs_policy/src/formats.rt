@@ -10,7 +10,7 @@ ghost use Rattle.lnfs_policy.specs.PolicyText.{spells_all};
 use crate::fits::label_at;
 use crate::rows::{FormatRow, LevelName, Spelling};
 use lnfs_calipso::Label;
-use lnfs_format::{Codecs, FormatEntry, Kind, NameRow};
+use lnfs_format::{Codecs, FormatEntry, Kind, NameRow, Pair};
 use lnfs_lists::{Items, Octets};
 use std::alloc::{AllocError, Global};
 
@@ -30,15 +30,14 @@ fn table_of(
     alloc: Global,
     labels: &[Label],
     names: &[LevelName],
-    lfs: u32,
-    pi: u32,
+    pair: Pair,
 ) -> Result<Vec<NameRow>, AllocError>
     requires { 0 < length labels.now }
-    ensures { IfOk result (λ rows. rows.items ≡ filter_map (name_row labels.now lfs pi) names.now) }
+    ensures { IfOk result (λ rows. rows.items ≡ filter_map (name_row labels.now pair.lfs pair.pi) names.now) }
 {
     let mut rows = Vec::new(alloc);
     for name in names {
-        if name.lfs == lfs && name.pi == pi {
+        if name.pair == pair {
             rows.push(row_of(alloc, labels, name)?)?;
         }
     }
@@ -57,14 +56,14 @@ fn entry_of(
 {
     let kind = match row.spelling {
         Spelling::Calipso => Kind::Calipso,
-        Spelling::Text => Kind::Text { doi: row.pi },
+        Spelling::Text => Kind::Text { doi: row.pair.pi },
         Spelling::Name => Kind::Name {
-            rows: Items::new(table_of(alloc, labels, names, row.lfs, row.pi)?),
+            rows: Items::new(table_of(alloc, labels, names, row.pair)?),
         },
     };
     Ok(FormatEntry {
-        lfs: row.lfs,
-        pi: row.pi,
+        lfs: row.pair.lfs,
+        pi: row.pair.pi,
         kind,
     })
 }

@@ -7,19 +7,16 @@ mod formats;
 pub mod laws;
 mod line;
 mod mode;
-mod parts;
 mod policy;
 mod read;
 mod reading;
 mod rows;
-mod words;
 
 pub use cause::{Cause, PolicyError};
 pub use mode::Mode;
 pub use policy::Policy;
 pub use read::{read_policy, write_policy};
 pub use rows::{DirLine, Guest, Limit, Parent, Quota};
-pub use words::number;
 
 #[cfg(test)]
 mod site_tests;

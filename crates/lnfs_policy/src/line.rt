@@ -1,17 +1,20 @@
 //! What the words of a line say, one function for each kind.
 
 ghost use Rattle.std.specs.Prelude.{◌≡◌};
-ghost use Rattle.lnfs_policy.specs.Words.{words};
-ghost use Rattle.lnfs_policy.specs.Line.{rank, is_mode, cause_of, uid_of, says_version, says_mode, says_level, says_format, says_name, says_parent, says_guest, says_quota, says_dir, line_of};
+ghost use Rattle.lnfs_words.specs.Words.{words};
+ghost use Rattle.lnfs_policy.specs.Line.{rank, is_mode, number, long_number, uid_of, says_version, says_mode, says_level, says_format, says_name, says_parent, says_guest, says_quota, says_dir, line_of};
 ghost use Rattle.lnfs_policy.specs.Seen.{seen, seen_line};
 
 use crate::cause::Cause;
 use crate::mode::Mode;
-use crate::parts::Parts;
-use crate::words::{is, long_number, number};
+use lnfs_format::Pair;
+use lnfs_words::{Parts, number_up_to, spells};
+
+/// The largest number of a quota line.
+const MAX_QUOTA: u64 = 1 << 62;
 
 /// What a line says: its kind, its numbers, and the words that are no numbers.
-#[derive(Clone, Copy, Debug)]
+#[derive(Clone, Copy)]
 pub enum Line<'a> {
     Version,
     Mode(Mode),
@@ -22,13 +25,11 @@ pub enum Line<'a> {
         comps: &'a [u8],
     },
     Format {
-        lfs: u32,
-        pi: u32,
+        pair: Pair,
         kind: &'a [u8],
     },
     Name {
-        lfs: u32,
-        pi: u32,
+        pair: Pair,
         level: u32,
         hex: &'a [u8],
     },
@@ -92,65 +93,71 @@ pub fn line_of<'a>(text: &'a [u8]) -> Result<Line<'a>, Cause>
     let Some(name) = words.next() else {
         return Err(Cause::Words);
     };
-    if is(name, "lnfs-policy") {
-        version(&mut words)
-    } else if is(name, "mode") {
-        mode(&mut words)
-    } else if is(name, "level") {
-        level(&mut words)
-    } else if is(name, "format") {
-        format(&mut words)
-    } else if is(name, "name") {
-        level_name(&mut words)
-    } else if is(name, "parent") {
-        parent(&mut words)
-    } else if is(name, "guest") {
-        guest(&mut words)
-    } else if is(name, "quota") {
-        quota(&mut words)
-    } else if is(name, "dir") {
-        dir(&mut words)
+    if spells(name, "lnfs-policy") {
+        version(words)
+    } else if spells(name, "mode") {
+        mode(words)
+    } else if spells(name, "level") {
+        level(words)
+    } else if spells(name, "format") {
+        format(words)
+    } else if spells(name, "name") {
+        level_name(words)
+    } else if spells(name, "parent") {
+        parent(words)
+    } else if spells(name, "guest") {
+        guest(words)
+    } else if spells(name, "quota") {
+        quota(words)
+    } else if spells(name, "dir") {
+        dir(words)
     } else {
         Err(Cause::Words)
     }
 }
 
-fn version<'a>(words: &mut Parts<'a>) -> Result<Line<'a>, Cause>
-    ensures { seen_line result ≡ says_version words.old }
+/// The number of 32 bits that a word spells.
+fn number(word: &[u8]) -> Result<u32, Cause>
+    ensures { result ≡ number word.now }
 {
-    match (words.next(), words.next()) {
-        (Some(one), None) if is(one, "1") => Ok(Line::Version),
-        _ => Err(Cause::Words),
+    lnfs_words::number(word).ok_or(Cause::Number)
+}
+
+/// The number of a quota that a word spells.
+fn long_number(word: &[u8]) -> Result<u64, Cause>
+    ensures { result ≡ long_number word.now }
+{
+    number_up_to(MAX_QUOTA, word).ok_or(Cause::Number)
+}
+
+fn version<'a>(words: Parts<'a>) -> Result<Line<'a>, Cause>
+    ensures { seen_line result ≡ says_version words.entry }
+{
+    let one = words.one().ok_or(Cause::Words)?;
+    if spells(one, "1") {
+        Ok(Line::Version)
+    } else {
+        Err(Cause::Words)
     }
 }
 
-fn mode<'a>(words: &mut Parts<'a>) -> Result<Line<'a>, Cause>
-    ensures { seen_line result ≡ says_mode words.old }
+fn mode<'a>(words: Parts<'a>) -> Result<Line<'a>, Cause>
+    ensures { seen_line result ≡ says_mode words.entry }
 {
-    let (Some(mode), None) = (words.next(), words.next()) else {
-        return Err(Cause::Words);
-    };
-    if is(mode, "enforcing") {
+    let mode = words.one().ok_or(Cause::Words)?;
+    if spells(mode, "enforcing") {
         Ok(Line::Mode(Mode::Enforcing))
-    } else if is(mode, "limited") {
+    } else if spells(mode, "limited") {
         Ok(Line::Mode(Mode::Limited))
     } else {
         Err(Cause::Words)
     }
 }
 
-fn level<'a>(words: &mut Parts<'a>) -> Result<Line<'a>, Cause>
-    ensures { seen_line result ≡ says_level words.old }
+fn level<'a>(words: Parts<'a>) -> Result<Line<'a>, Cause>
+    ensures { seen_line result ≡ says_level words.entry }
 {
-    let (Some(place), Some(doi), Some(sens), Some(comps), None) = (
-        words.next(),
-        words.next(),
-        words.next(),
-        words.next(),
-        words.next(),
-    ) else {
-        return Err(Cause::Words);
-    };
+    let (place, doi, sens, comps) = words.four().ok_or(Cause::Words)?;
     Ok(Line::Level {
         place: number(place)?,
         doi: number(doi)?,
@@ -159,55 +166,37 @@ fn level<'a>(words: &mut Parts<'a>) -> Result<Line<'a>, Cause>
     })
 }
 
-fn format<'a>(words: &mut Parts<'a>) -> Result<Line<'a>, Cause>
-    ensures { seen_line result ≡ says_format words.old }
+fn format<'a>(words: Parts<'a>) -> Result<Line<'a>, Cause>
+    ensures { seen_line result ≡ says_format words.entry }
 {
-    let (Some(lfs), Some(pi), Some(kind), None) = (
-        words.next(),
-        words.next(),
-        words.next(),
-        words.next(),
-    ) else {
-        return Err(Cause::Words);
-    };
+    let (lfs, pi, kind) = words.three().ok_or(Cause::Words)?;
     Ok(Line::Format {
-        lfs: number(lfs)?,
-        pi: number(pi)?,
+        pair: Pair {
+            lfs: number(lfs)?,
+            pi: number(pi)?,
+        },
         kind,
     })
 }
 
-fn level_name<'a>(words: &mut Parts<'a>) -> Result<Line<'a>, Cause>
-    ensures { seen_line result ≡ says_name words.old }
+fn level_name<'a>(words: Parts<'a>) -> Result<Line<'a>, Cause>
+    ensures { seen_line result ≡ says_name words.entry }
 {
-    let (Some(lfs), Some(pi), Some(level), Some(hex), None) = (
-        words.next(),
-        words.next(),
-        words.next(),
-        words.next(),
-        words.next(),
-    ) else {
-        return Err(Cause::Words);
-    };
+    let (lfs, pi, level, hex) = words.four().ok_or(Cause::Words)?;
     Ok(Line::Name {
-        lfs: number(lfs)?,
-        pi: number(pi)?,
+        pair: Pair {
+            lfs: number(lfs)?,
+            pi: number(pi)?,
+        },
         level: number(level)?,
         hex,
     })
 }
 
-fn parent<'a>(words: &mut Parts<'a>) -> Result<Line<'a>, Cause>
-    ensures { seen_line result ≡ says_parent words.old }
+fn parent<'a>(words: Parts<'a>) -> Result<Line<'a>, Cause>
+    ensures { seen_line result ≡ says_parent words.entry }
 {
-    let (Some(place), Some(hex), Some(level), None) = (
-        words.next(),
-        words.next(),
-        words.next(),
-        words.next(),
-    ) else {
-        return Err(Cause::Words);
-    };
+    let (place, hex, level) = words.three().ok_or(Cause::Words)?;
     Ok(Line::Parent {
         number: number(place)?,
         hex,
@@ -218,23 +207,16 @@ fn parent<'a>(words: &mut Parts<'a>) -> Result<Line<'a>, Cause>
 fn uid_of(word: &[u8]) -> Result<Option<u32>, Cause>
     ensures { result ≡ uid_of word.now }
 {
-    if is(word, "*") {
+    if spells(word, "*") {
         return Ok(None);
     }
     Ok(Some(number(word)?))
 }
 
-fn guest<'a>(words: &mut Parts<'a>) -> Result<Line<'a>, Cause>
-    ensures { seen_line result ≡ says_guest words.old }
+fn guest<'a>(words: Parts<'a>) -> Result<Line<'a>, Cause>
+    ensures { seen_line result ≡ says_guest words.entry }
 {
-    let (Some(class), Some(uid), Some(level), None) = (
-        words.next(),
-        words.next(),
-        words.next(),
-        words.next(),
-    ) else {
-        return Err(Cause::Words);
-    };
+    let (class, uid, level) = words.three().ok_or(Cause::Words)?;
     Ok(Line::Guest {
         class: number(class)?,
         uid: uid_of(uid)?,
@@ -242,17 +224,10 @@ fn guest<'a>(words: &mut Parts<'a>) -> Result<Line<'a>, Cause>
     })
 }
 
-fn quota<'a>(words: &mut Parts<'a>) -> Result<Line<'a>, Cause>
-    ensures { seen_line result ≡ says_quota words.old }
+fn quota<'a>(words: Parts<'a>) -> Result<Line<'a>, Cause>
+    ensures { seen_line result ≡ says_quota words.entry }
 {
-    let (Some(level), Some(nodes), Some(bytes), None) = (
-        words.next(),
-        words.next(),
-        words.next(),
-        words.next(),
-    ) else {
-        return Err(Cause::Words);
-    };
+    let (level, nodes, bytes) = words.three().ok_or(Cause::Words)?;
     Ok(Line::Quota {
         level: number(level)?,
         nodes: long_number(nodes)?,
@@ -260,12 +235,10 @@ fn quota<'a>(words: &mut Parts<'a>) -> Result<Line<'a>, Cause>
     })
 }
 
-fn dir<'a>(words: &mut Parts<'a>) -> Result<Line<'a>, Cause>
-    ensures { seen_line result ≡ says_dir words.old }
+fn dir<'a>(words: Parts<'a>) -> Result<Line<'a>, Cause>
+    ensures { seen_line result ≡ says_dir words.entry }
 {
-    let (Some(path), Some(level), None) = (words.next(), words.next(), words.next()) else {
-        return Err(Cause::Words);
-    };
+    let (path, level) = words.two().ok_or(Cause::Words)?;
     Ok(Line::Dir {
         path,
         level: number(level)?,

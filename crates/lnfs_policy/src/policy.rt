@@ -2,7 +2,7 @@
 
 ghost use Rattle.std.specs.Prelude.{◌≡◌, option_map};
 ghost use Rattle.std.specs.Option.{option_copied};
-ghost use Rattle.lnfs_calipso.specs.Label.{IsLattice};
+ghost use Rattle.lnfs_calipso.specs.Label.{IsPreorderWithBottom};
 ghost use Rattle.lnfs_policy.specs.Policy.{dominance, guest_level, parent_at, limit_of};
 ghost use Rattle.lnfs_policy.specs.PolicyText.{IsPolicy};
 
@@ -36,31 +36,14 @@ pub struct Policy {
 
 impl Model for Policy {
     ghost use Rattle.lnfs_policy.specs.Policy as policy;
-    ghost use Rattle.lnfs_policy.specs.PolicyText.{IsPolicy};
 
     ghost Value = { policy.Policy };
 
-    ghost view = { λ p. record {
-      text = p.text.items;
-      mode = p.mode;
-      labels = p.lattice;
-      formats = p.formats;
-      parents = p.parents.entries;
-      guests = p.guests.items;
-      quotas = p.quotas.items;
-      dirs = p.dirs.items;
-    } };
+    ghost use Rattle.lnfs_policy.specs.Held.{held, IsHeld};
 
-    ghost invariant = { λ p. IsPolicy (record {
-      text = p.text.items;
-      mode = p.mode;
-      labels = p.lattice;
-      formats = p.formats;
-      parents = p.parents.entries;
-      guests = p.guests.items;
-      quotas = p.quotas.items;
-      dirs = p.dirs.items;
-    }) };
+    ghost view = { held };
+
+    ghost invariant = { IsHeld };
 }
 
 impl Policy {
@@ -129,11 +112,11 @@ impl Policy {
         &self.dirs
     }
 
-    /// Dominance is an order of the levels, with level 0 below all.
-    pub fn is_ordered(&self)
-        ensures { IsLattice (dominance self.now) }
+    /// Dominance of the levels is a preorder, with level 0 below all.
+    pub fn is_preordered(&self)
+        ensures { IsPreorderWithBottom (dominance self.now) }
     {
-        self.lattice.is_lattice();
+        self.lattice.is_preordered();
     }
 
     /// A policy is what its own text spells.

@@ -1,14 +1,14 @@
 //! Reading and writing the policy file.
 
 ghost use Rattle.std.specs.Prelude.{◌≡◌, ◌&&◌, Ok, IfOk, IfErr};
-ghost use Rattle.lnfs_policy.specs.Words.{is_empty};
+ghost use Rattle.lnfs_words.specs.Words.{is_empty};
 ghost use Rattle.lnfs_policy.specs.PolicyText.{policy_of, IsRefusal};
 
 use crate::cause::PolicyError;
-use crate::parts::Parts;
 use crate::policy::Policy;
 use crate::reading::Reading;
 use lnfs_format::Codecs;
+use lnfs_words::Parts;
 use std::alloc::{AllocError, Global};
 
 /// Whether nothing stands behind the last newline.

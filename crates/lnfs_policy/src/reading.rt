@@ -3,7 +3,7 @@
 ghost use Rattle.std.specs.Prelude.{◌≡◌, Ok, MatchResult};
 ghost use Rattle.lnfs_policy.specs.Seen.{seen};
 ghost use Rattle.lnfs_policy.specs.Rows.{label_of, spelling_of};
-ghost use Rattle.lnfs_policy.specs.Words.{hex_of, hex_sized};
+ghost use Rattle.lnfs_words.specs.Hex.{lower_hex_of};
 ghost use Rattle.lnfs_policy.specs.PolicyText.{IsPolicy};
 ghost use Rattle.lnfs_policy.specs.Reading.{nothing, add, add_label, add_format, add_name, add_parent, add_guest, add_quota, add_dir, stands, judge, judge_line, finish, IsStop};
 
@@ -17,10 +17,10 @@ use crate::line::{Line, line_of};
 use crate::mode::Mode;
 use crate::policy::Policy;
 use crate::rows::{DirLine, FormatRow, Guest, LevelName, Limit, Parent, Quota, Spelling};
-use crate::words::{hex_of, is, is_ascii, is_worded, secret_of};
 use lnfs_calipso::{Label, Lattice, Level};
-use lnfs_format::{Codecs, Formats};
+use lnfs_format::{Codecs, Formats, Pair};
 use lnfs_lists::Octets;
+use lnfs_words::{is_ascii, is_worded, lower_bytes_of, lower_secret_of, spells};
 use std::alloc::Global;
 use std::collections::BTreeMap;
 use std::marker::Model;
@@ -45,6 +45,7 @@ pub struct Reading {
 }
 
 impl Model for Reading {
+    ghost use Rattle.lnfs_calipso.specs.Levels.{AreFirstLevels};
     ghost use Rattle.lnfs_policy.specs.Reading as reading;
 
     ghost Value = { reading.Read };
@@ -63,7 +64,7 @@ impl Model for Reading {
       dirs = r.dirs.items;
     } };
 
-    ghost invariant = { λ r. reading.IsSound r.labels.items };
+    ghost invariant = { λ r. AreFirstLevels r.labels.items };
 }
 
 impl Reading {
@@ -100,28 +101,27 @@ impl Reading {
         Ok(())
     }
 
-    fn add_format(&mut self, lfs: u32, pi: u32, spelling: Option<Spelling>) -> Result<(), Stop>
-        ensures { MatchResult result (λ _. add_format self.old lfs pi spelling ≡ Ok self.new) (IsStop (add_format self.old lfs pi spelling)) }
+    fn add_format(&mut self, pair: Pair, spelling: Option<Spelling>) -> Result<(), Stop>
+        ensures { MatchResult result (λ _. add_format self.old pair.lfs pair.pi spelling ≡ Ok self.new) (IsStop (add_format self.old pair.lfs pair.pi spelling)) }
     {
         let Some(spelling) = spelling else {
             return Err(Stop::Broken(Cause::Format));
         };
-        if !format_fits(&self.rows, lfs, pi) {
+        if !format_fits(&self.rows, pair) {
             return Err(Stop::Broken(Cause::Format));
         }
-        self.rows.push(FormatRow { lfs, pi, spelling })?;
+        self.rows.push(FormatRow { pair, spelling })?;
         Ok(())
     }
 
-    fn add_name(&mut self, lfs: u32, pi: u32, level: u32, hex: &[u8]) -> Result<(), Stop>
-        ensures { MatchResult result (λ _. add_name self.old lfs pi level (hex_of hex.now) ≡ Ok self.new) (IsStop (add_name self.old lfs pi level (hex_of hex.now))) }
+    fn add_name(&mut self, pair: Pair, level: u32, hex: &[u8]) -> Result<(), Stop>
+        ensures { MatchResult result (λ _. add_name self.old pair.lfs pair.pi level (lower_hex_of hex.now) ≡ Ok self.new) (IsStop (add_name self.old pair.lfs pair.pi level (lower_hex_of hex.now))) }
     {
-        let Some(bytes) = hex_of(self.alloc, hex)? else {
+        let Some(bytes) = lower_bytes_of(self.alloc, hex)? else {
             return Err(Stop::Broken(Cause::Name));
         };
         let name = LevelName {
-            lfs,
-            pi,
+            pair,
             level: Level(level),
             bytes: Octets::new(bytes),
         };
@@ -208,14 +208,13 @@ impl Reading {
                 let label = label_of(self.alloc, doi, sens, comps)?;
                 self.add_label(place, label)
             }
-            Line::Format { lfs, pi, kind } => self.add_format(lfs, pi, spelling_of(kind)),
-            Line::Name {
-                lfs,
-                pi,
+            Line::Format { pair, kind } => self.add_format(pair, spelling_of(kind)),
+            Line::Name { pair, level, hex } => self.add_name(pair, level, hex),
+            Line::Parent { number, hex, level } => self.add_parent(
+                number,
+                lower_secret_of(hex),
                 level,
-                hex,
-            } => self.add_name(lfs, pi, level, hex),
-            Line::Parent { number, hex, level } => self.add_parent(number, secret_of(hex), level),
+            ),
             Line::Guest { class, uid, level } => self.add_guest(class, uid, level),
             Line::Quota {
                 level,
@@ -236,7 +235,7 @@ impl Reading {
     fn judge_line(&mut self, ended: bool, text: &[u8]) -> Result<(), Stop>
         ensures { MatchResult result (λ _. judge_line self.old ended text.now ≡ Ok self.new) (IsStop (judge_line self.old ended text.now)) }
     {
-        if is(text, "lnfs-policy 1") == self.begun {
+        if spells(text, "lnfs-policy 1") == self.begun {
             return Err(Stop::Broken(Cause::Version));
         }
         if !ended || !is_worded(text) {

@@ -4,10 +4,11 @@ ghost use Rattle.std.specs.Prelude.{◌≡◌};
 ghost use Rattle.lnfs_policy.specs.Policy.{is_for};
 
 use lnfs_calipso::Level;
+use lnfs_format::Pair;
 use lnfs_lists::Octets;
 
 /// How a format spells labels, as a format line names it.
-#[derive(Clone, Copy, Debug)]
+#[derive(Clone, Copy)]
 pub enum Spelling {
     Calipso,
     Text,
@@ -15,18 +16,16 @@ pub enum Spelling {
 }
 
 /// A format line.
-#[derive(Clone, Copy, Debug)]
+#[derive(Clone, Copy)]
 pub struct FormatRow {
-    pub lfs: u32,
-    pub pi: u32,
+    pub pair: Pair,
     pub spelling: Spelling,
 }
 
 /// A name line: in a format of names, the bytes that spell the label of a level.
-#[derive(Debug, Drop)]
+#[derive(Drop)]
 pub struct LevelName {
-    pub lfs: u32,
-    pub pi: u32,
+    pub pair: Pair,
     pub level: Level,
     pub bytes: Octets,
 }

@@ -1,7 +1,7 @@
 //! Policies that are read, and what they say.
 
 use crate::tests::read;
-use crate::{Cause, Limit, Mode, PolicyError, write_policy};
+use crate::{Cause, Limit, Mode, Policy, PolicyError, write_policy};
 use lnfs_calipso::Level;
 use std::alloc::{AllocError, Global};
 use std::process::Abort;
@@ -23,16 +23,16 @@ guest 0 * 0
 guest 1 100 1
 guest 1 200 2
 guest 1 300 3
+guest 7 5 1
+guest 7 * 0
+guest 7 6 1
 quota 1 8 4096
 dir /one 1
 dir /two 2
 dir /top 3
 ";
 
-#[test]
-fn levels_and_tables_of_a_site(rt: HostRuntime) -> Result<(), Fail> {
-    let alloc = rt.alloc();
-    let policy = read(alloc, SITE).ok().ok_or("refused")?;
+fn expect_levels(rt: &impl Abort, policy: &Policy) {
     assert_eq!(rt; policy.mode(), Mode::Enforcing);
     assert_eq!(rt; policy.lattice().len(), 4);
     for (a, b, dominates) in [
@@ -53,15 +53,9 @@ fn levels_and_tables_of_a_site(rt: HostRuntime) -> Result<(), Fail> {
     );
     assert!(rt; formats.entry(103, 0).is_some());
     assert!(rt; formats.entry(104, 0).is_none());
-    policy.is_ordered();
-    policy.is_policy();
-    Ok(())
 }
 
-#[test]
-fn parents_limits_and_dirs_of_a_site(rt: HostRuntime) -> Result<(), Fail> {
-    let alloc = rt.alloc();
-    let policy = read(alloc, SITE).ok().ok_or("refused")?;
+fn expect_parents_limits_and_dirs(rt: &impl Abort, policy: &Policy) {
     assert_eq!(rt;
         policy.parent(7).map(|parent| parent.clearance),
         Some(Level(3))
@@ -85,14 +79,15 @@ fn parents_limits_and_dirs_of_a_site(rt: HostRuntime) -> Result<(), Fail> {
     assert_eq!(rt; policy.dirs().len(), 3);
     let top = &policy.dirs()[2];
     assert!(rt; top.path.as_slice() == b"/top".as_slice() && top.level.0 == 3);
-    Ok(())
 }
 
 #[test]
-fn guests_of_a_site(rt: HostRuntime) -> Result<(), Fail> {
+fn what_a_site_says(rt: HostRuntime) -> Result<(), Fail> {
     let alloc = rt.alloc();
     let policy = read(alloc, SITE).ok().ok_or("refused")?;
-    assert_eq!(rt; policy.guests().len(), 4);
+    expect_levels(&rt, &policy);
+    expect_parents_limits_and_dirs(&rt, &policy);
+    assert_eq!(rt; policy.guests().len(), 7);
     for (class, uid, level) in [
         (0, None, Some(Level(0))),
         (0, Some(7), Some(Level(0))),
@@ -102,6 +97,10 @@ fn guests_of_a_site(rt: HostRuntime) -> Result<(), Fail> {
         (1, Some(400), None),
         (1, None, None),
         (2, Some(100), None),
+        // the first line that fits
+        (7, Some(5), Some(Level(1))),
+        (7, Some(6), Some(Level(0))),
+        (7, None, Some(Level(0))),
     ] {
         assert_eq!(rt; policy.guest_level(class, uid), level);
     }
@@ -133,18 +132,6 @@ fn canonical_texts(rt: HostRuntime) -> Result<(), Fail> {
         "lnfs-policy 1\n#\nmode limited\nlevel 0 9 7 c0.c255\n\nformat 2 9 text\n",
         "lnfs-policy 1\nmode limited\nlevel 0 9 7 c0.c255\nformat 2 9 text\n",
     )?;
-    Ok(())
-}
-
-#[test]
-fn the_first_guest_line_that_fits(rt: HostRuntime) -> Result<(), Fail> {
-    let alloc = rt.alloc();
-    let text = "lnfs-policy 1\nmode enforcing\nlevel 0 1 0 -\nlevel 1 1 255 -\nformat 1 1 calipso\n\
-guest 7 5 1\nguest 7 * 0\nguest 7 6 1\n";
-    let policy = read(alloc, text).ok().ok_or("refused")?;
-    assert_eq!(rt; policy.guest_level(7, Some(5)), Some(Level(1)));
-    assert_eq!(rt; policy.guest_level(7, Some(6)), Some(Level(0)));
-    assert_eq!(rt; policy.guest_level(7, None), Some(Level(0)));
     Ok(())
 }
 
@@ -230,10 +217,4 @@ fn long_paths(rt: HostRuntime) -> Result<(), Fail> {
     let more = format!(in alloc; "dir /{name}n 0\n")?;
     expect_full(&rt, alloc, &text, &more, 6, Cause::Dir)?;
     Ok(())
-}
-
-#[test]
-fn names_of_causes(rt: HostRuntime) {
-    assert_eq!(rt; Cause::Level.as_str(), "Level");
-    assert_eq!(rt; Cause::Missing.as_str(), "Missing");
 }

@@ -1,30 +1,34 @@
 -- The writes of a recording's events, one event after another; whatever the server answers.
-use Rattle.std.proofs.Common.{◌≡◌, ℕ, false, List, [], ◌∷◌, ◌++◌, ap, refl, subst, unwrap_or}
+use Rattle.std.proofs.Common.{◌≡◌, ℕ, List, [], ◌∷◌, ◌++◌, ap, refl, subst, unwrap_or}
 use Rattle.std.specs.Prelude.{Ok}
+use Rattle.std.specs.Result.{IsErr}
 use Rattle.std.specs.declared.option.Option.{Option}
 use Rattle.lnfs_outside.specs.declared.event.Event.{Event}
-use Rattle.lnfs_program.specs.Recording.{events_of, is_whole, Splits}
+use Rattle.lnfs_xdr.specs.Reading.{read}
+use Rattle.lnfs_traffic.specs.Recording.{event}
+use Rattle.lnfs_traffic.specs.Parts.{parts_of}
+use Rattle.lnfs_traffic.proofs.Fronts.{parts_some, parts_none}
+use Rattle.lnfs_program.specs.Streams.{Streams}
 use Rattle.lnfs_program.specs.Writes.{Write, Takes, TakesFront, TakesBefore, Does, answer_writes, framed, on_out, on_audit, writes_after, frames_after, lines_after}
-use Rattle.lnfs_program.proofs.Recordings.{events_whole, events_end}
 use Rattle.lnfs_program.proofs.Writing.{goes_on, stops_in, ends, front_whole_of}
 
 module _ (reply line : List Event → Event → Option (List ℕ)) where
-  writes_more : (journal : List Event) (event : Event) (bytes others : List ℕ) → Splits bytes event others → writes_after reply line journal (events_of bytes) ≡ answer_writes (reply journal event) (line journal event) ++ writes_after reply line (journal ++ event ∷ []) (events_of others)
+  writes_more : (journal : List Event) (first : Event) (bytes others : List ℕ) → read event bytes ≡ Ok (first, others) → writes_after reply line journal (parts_of bytes).events ≡ answer_writes (reply journal first) (line journal first) ++ writes_after reply line (journal ++ first ∷ []) (parts_of others).events
   unfolding writes_after
-  writes_more journal event bytes others s = rw (events_whole bytes s.whole, s.event, s.others_are) refl
+  writes_more journal first bytes others e = rw (parts_some bytes first others e) refl
 
   -- a turn of the loop: it goes on, stops in the event, or ends
-  module _ {o m a b : Option (List ℕ)} {all : List Write} (journal : List Event) (bytes : List ℕ) (so_far : TakesBefore o m a b all (writes_after reply line journal (events_of bytes))) where
-    module _ {o' a' : Option (List ℕ)} (event : Event) (others : List ℕ) (s : Splits bytes event others) where
-      pub writes_on : Takes m o' b a' (answer_writes (reply journal event) (line journal event)) → TakesBefore o o' a a' all (writes_after reply line (journal ++ event ∷ []) (events_of others))
-      writes_on t = goes_on (answer_writes (reply journal event) (line journal event)) _ (subst (λ rest. TakesBefore o m a b all rest) (writes_more journal event bytes others s) so_far) t
+  module _ {r s : Streams} {all : List Write} (journal : List Event) (bytes : List ℕ) (so_far : TakesBefore r s all (writes_after reply line journal (parts_of bytes).events)) where
+    module _ {t : Streams} (first : Event) (others : List ℕ) (e : read event bytes ≡ Ok (first, others)) where
+      pub writes_on : Takes s t (answer_writes (reply journal first) (line journal first)) → TakesBefore r t all (writes_after reply line (journal ++ first ∷ []) (parts_of others).events)
+      writes_on p = goes_on (answer_writes (reply journal first) (line journal first)) _ (subst (λ rest. TakesBefore r s all rest) (writes_more journal first bytes others e) so_far) p
 
-      pub writes_stop : TakesFront m o' b a' (answer_writes (reply journal event) (line journal event)) → TakesFront o o' a a' all
-      writes_stop t = stops_in (answer_writes (reply journal event) (line journal event)) (writes_after reply line (journal ++ event ∷ []) (events_of others)) (subst (λ rest. TakesBefore o m a b all rest) (writes_more journal event bytes others s) so_far) t
+      pub writes_stop : TakesFront s t (answer_writes (reply journal first) (line journal first)) → TakesFront r t all
+      writes_stop p = stops_in (answer_writes (reply journal first) (line journal first)) (writes_after reply line (journal ++ first ∷ []) (parts_of others).events) (subst (λ rest. TakesBefore r s all rest) (writes_more journal first bytes others e) so_far) p
 
-    pub writes_end : {T E : Type 0} {value : T} → is_whole bytes ≡ false → Does {E = E} (Ok value) o m a b all
+    pub writes_end : {T E : Type 0} {value : T} → IsErr (read event bytes) → Does {E = E} (Ok value) r s all
     unfolding writes_after
-    writes_end e = let t : Takes o m a b all = ends so_far (rw (events_end bytes e) refl) in record { begun = front_whole_of t; done = t }
+    writes_end e = let t : Takes r s all = ends so_far (rw (parts_none bytes e) refl) in record { begun = front_whole_of t; done = t }
 
   -- stream by stream
   pub out_is : (journal events : List Event) → on_out (writes_after reply line journal events) ≡ frames_after reply journal events

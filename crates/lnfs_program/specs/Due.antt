@@ -15,7 +15,7 @@ use Rattle.lnfs_program.specs.declared.status.Status.{Status}
 use Rattle.lnfs_program.specs.declared.status.Status.TheVariants as status
 use Rattle.lnfs_program.specs.declared.status.MapCause.TheVariants as cause
 use Rattle.lnfs_program.specs.Ending.{fault_line}
-use Rattle.lnfs_program.specs.Recording.{recorded, is_recording, place_of}
+use Rattle.lnfs_traffic.specs.Parts.{recorded, is_recording, place_of}
 use Rattle.lnfs_program.specs.Words.{Task, check, replay, translate, Form, help, version, under, help_text, version_text}
 use Rattle.lnfs_program.specs.Writes.{Write, to_out, to_audit, writes_after}
 

@@ -1,9 +1,9 @@
 -- What a run is to write, and how it is to end.
-pub mod Recording
 pub mod Refusals
 pub mod Lines
 pub mod Words
 pub mod Tasks
+pub mod Streams
 pub mod Writes
 pub mod Ending
 pub mod Due

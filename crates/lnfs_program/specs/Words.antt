@@ -1,13 +1,12 @@
 -- The forms of the command line.
-use Rattle.std.specs.Prelude.{ℕ, Bool, cond, nat_eq, nat_le, List, [], ◌∷◌, ◌++◌, length, codes, string_bytes, map, String, Result, Ok, Err}
+use Rattle.std.specs.Prelude.{ℕ, cond, nat_le, List, [], ◌∷◌, ◌++◌, length, codes, string_bytes, map, String}
 use Rattle.std.specs.declared.alloc.Global.{Global}
 use Rattle.std.specs.declared.option.Option.{Option}
 use Rattle.std.specs.declared.option.Option.TheVariants.{Some, None}
-use Rattle.std.specs.Cmp.Lexicographic.{pointwise}
-use Rattle.hex.specs.Hex.{decode_of}
-use Rattle.lnfs_policy.specs.Words.{number, decoded}
-use Rattle.lnfs_policy.specs.declared.cause.Cause.{Cause}
-use Rattle.lnfs_map.specs.declared.table.Pair.{Pair}
+use Rattle.std.specs.Str.{bytes_eq}
+use Rattle.lnfs_words.specs.Numbers.{number}
+use Rattle.lnfs_words.specs.Hex.{hex_of}
+use Rattle.lnfs_format.specs.declared.formats.Pair.{Pair}
 use Rattle.lnfs_program.specs.declared.words.Command.{Command}
 use Rattle.lnfs_program.specs.declared.words.Command.TheVariants.{Help, Version, Check, Replay, Translate}
 
@@ -26,13 +25,10 @@ pub data Form : Type 0 where
   -- the name of the policy, and what is asked under it
   under : (policy : List ℕ) → Task → Form
 
-abbrev pub same_text : List ℕ → List ℕ → Bool
-same_text a b = pointwise nat_eq a b
-
-abbrev pub pair_of : Result ℕ Cause → Result ℕ Cause → Option Pair
-pair_of (Ok lfs) (Ok pi) = Some (record { lfs = lfs; pi = pi })
-pair_of (Ok lfs) (Err cause) = None
-pair_of (Err cause) pi = None
+abbrev pub pair_of : Option ℕ → Option ℕ → Option Pair
+pair_of (Some lfs) (Some pi) = Some (record { lfs = lfs; pi = pi })
+pair_of (Some lfs) None = None
+pair_of None pi = None
 
 -- the format that two words name, its number and its policy identifier
 abbrev pub pair_in : (lfs pi : List ℕ) → Option Pair
@@ -40,7 +36,7 @@ pair_in lfs pi = pair_of (number lfs) (number pi)
 
 -- at most 1,024 bytes, that a word spells in hex of either case
 abbrev pub bytes_in : List ℕ → Option (List ℕ)
-bytes_in word = cond (nat_le (length word) 2048) (decoded (decode_of word)) None
+bytes_in word = cond (nat_le (length word) 2048) (hex_of word) None
 
 abbrev pub translation : (policy : List ℕ) → (source target : Option Pair) → (bytes : Option (List ℕ)) → Option Form
 translation policy (Some source) (Some target) (Some bytes) = Some (under policy (translate source target bytes))
@@ -50,19 +46,19 @@ translation policy None target bytes = None
 
 -- the form that the words are, if they are one
 abbrev pub form_of : List (List ℕ) → Option Form
-form_of (a ∷ []) = cond (same_text a (codes "--help")) (Some help) (cond (same_text a (codes "--version")) (Some version) None)
-form_of (a ∷ b ∷ []) = cond (same_text a (codes "check")) (Some (under b check)) None
-form_of (a ∷ b ∷ c ∷ []) = cond (same_text a (codes "replay")) (Some (under b (replay c))) None
-form_of (a ∷ b ∷ c ∷ d ∷ e ∷ f ∷ g ∷ []) = cond (same_text a (codes "translate")) (translation b (pair_in c d) (pair_in f g) (bytes_in e)) None
+form_of (a ∷ []) = cond (bytes_eq a (codes "--help")) (Some help) (cond (bytes_eq a (codes "--version")) (Some version) None)
+form_of (a ∷ b ∷ []) = cond (bytes_eq a (codes "check")) (Some (under b check)) None
+form_of (a ∷ b ∷ c ∷ []) = cond (bytes_eq a (codes "replay")) (Some (under b (replay c))) None
+form_of (a ∷ b ∷ c ∷ d ∷ e ∷ f ∷ g ∷ []) = cond (bytes_eq a (codes "translate")) (translation b (pair_in c d) (pair_in f g) (bytes_in e)) None
 form_of words = None
 
--- the form that a command is, if it is one
-abbrev pub named : Command → Option Form
-named Help = Some help
-named Version = Some version
-named (Check policy) = Some (under policy.now check)
-named (Replay policy traffic) = Some (under policy.now (replay traffic.now))
-named (Translate policy pairs hex) = translation policy.now (Some pairs.0) (Some pairs.1) (bytes_in hex.now)
+-- the form that a command is
+abbrev pub named : Command → Form
+named Help = help
+named Version = version
+named (Check policy) = under policy.now check
+named (Replay policy traffic) = under policy.now (replay traffic.now)
+named (Translate policy pairs bytes) = under policy.now (translate pairs.0 pairs.1 bytes.items)
 
 -- the words' bytes
 abbrev pub texts : List (String Global) → List (List ℕ)

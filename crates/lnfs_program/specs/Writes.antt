@@ -4,6 +4,7 @@ use Rattle.lnfs_rpc.specs.Formats.{frame_of}
 use Rattle.std.specs.Io.KnownBytes.{Appends}
 use Rattle.std.specs.declared.option.Option.{Option}
 use Rattle.std.specs.declared.option.Option.TheVariants.{Some, None}
+use Rattle.lnfs_program.specs.Streams.{Streams}
 use Rattle.lnfs_outside.specs.declared.event.Event.{Event}
 
 -- an empty text is no write
@@ -33,26 +34,26 @@ front zero n (write ∷ writes) = cut n write ∷ []
 front (suc k) n (write ∷ writes) = write ∷ front k n writes
 
 -- the two streams took the writes
-pub record Takes (out out' audit audit' : Option (List ℕ)) (writes : List Write) : Type 0 where
-  pub out_took : Appends out out' (on_out writes)
-  pub audit_took : Appends audit audit' (on_audit writes)
+pub record Takes (before after : Streams) (writes : List Write) : Type 0 where
+  pub out_took : Appends before.out after.out (on_out writes)
+  pub audit_took : Appends before.audit after.audit (on_audit writes)
 
 -- a front of them: what comes later was taken only where all that comes before it was taken whole
-pub record TakesFront (out out' audit audit' : Option (List ℕ)) (writes : List Write) : Type 0 where
+pub record TakesFront (before after : Streams) (writes : List Write) : Type 0 where
   pub whole : ℕ
   pub part : ℕ
-  pub takes : Takes out out' audit audit' (front whole part writes)
+  pub takes : Takes before after (front whole part writes)
 
 -- a front of them, and all of them where the call ended well
-pub record Does {T E : Type 0} (result : Result T E) (out out' audit audit' : Option (List ℕ)) (writes : List Write) : Type 0 where
-  pub begun : TakesFront out out' audit audit' writes
-  pub done : OnOk result (Takes out out' audit audit' writes)
+pub record Does {T E : Type 0} (result : Result T E) (before after : Streams) (writes : List Write) : Type 0 where
+  pub begun : TakesFront before after writes
+  pub done : OnOk result (Takes before after writes)
 
 -- of the writes, all before the rest were taken
-pub record TakesBefore (out out' audit audit' : Option (List ℕ)) (writes rest : List Write) : Type 0 where
+pub record TakesBefore (before after : Streams) (writes rest : List Write) : Type 0 where
   pub part : List Write
-  pub is : writes ≡ part ++ rest
-  pub takes : Takes out out' audit audit' part
+  pub parts : writes ≡ part ++ rest
+  pub takes : Takes before after part
 
 -- no reply, no frame
 abbrev pub framed : Option (List ℕ) → List ℕ

@@ -1,21 +1,13 @@
 //! What the definitions mean: facts about them alone.
-ghost use Rattle.std.specs.Prelude.{◌≡◌, ◌≤◌, ◌↔◌, ◌++◌, List, ℕ, Ok, true, take, length};
+ghost use Rattle.std.specs.Prelude.{◌≡◌, List, ℕ, Ok};
 ghost use Rattle.std.specs.declared.option.Option.{Option};
 ghost use Rattle.lnfs_map.specs.Kept.{IsOneLevel, dom_by};
 ghost use Rattle.lnfs_map.specs.Translated.{translated};
-ghost use Rattle.lnfs_map.specs.declared.table.Pair.{Pair};
+ghost use Rattle.lnfs_format.specs.declared.formats.Pair.{Pair};
 ghost use Rattle.lnfs_outside.specs.declared.event.Event.{Event};
 ghost use Rattle.lnfs_policy.specs.Policy.{Policy};
 ghost use Rattle.lnfs_policy.specs.PolicyText.{policy_of};
-ghost use Rattle.lnfs_program.specs.Recording.{IsRecording, begins, is_recording, place_of};
 ghost use Rattle.lnfs_program.specs.Writes.{on_out, on_audit, writes_after, frames_after, lines_after};
-
-/// A recording is damaged at the length of its longest front that is a recording, and nowhere else.
-pub fn damage()
-    ensures front { (bytes : List ℕ) → begins bytes ≡ true → IsRecording (take (place_of bytes) bytes) }
-    ensures no_longer { (front rest : List ℕ) → IsRecording front → length front ≤ place_of (front ++ rest) }
-    ensures whole { (bytes : List ℕ) → (is_recording bytes ≡ true) ↔ IsRecording bytes }
-{}
 
 /// Of what is written for events, standard output gets the frames of the replies, and the audit
 /// stream the lines.

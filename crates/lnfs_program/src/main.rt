@@ -9,7 +9,6 @@ mod laws;
 mod policy_tests;
 #[cfg(test)]
 mod record_tests;
-mod recording;
 mod replay;
 mod run;
 mod start;
@@ -24,23 +23,40 @@ mod words;
 use lnfs_outside::{DiskFiles, StdSink};
 use start::start;
 use status::Status;
-use std::env;
+use std::alloc::AllocError;
 use std::process::ExitCode;
+use std::{env, io};
 
-fn main(rt: HostRuntime) -> ExitCode {
-    let mut out = StdSink::new(rt.stdout());
-    let mut audit = StdSink::new(rt.stderr());
-    let mut files = DiskFiles::new(rt);
+/// How many bytes standard output gathers before it hands them on.
+const ROOM: usize = 65_536;
+
+/// The words after the program's name.
+fn words_of(rt: HostRuntime) -> io::Result<Vec<String>> {
     let mut words = Vec::new(rt.alloc());
-    let Ok(args) = env::args(&rt) else {
-        return ExitCode::from(Status::Usage.number());
-    };
-    for word in args.skip(1) {
+    for word in env::args(&rt)?.skip(1) {
         if words.push(word).is_err() {
-            return ExitCode::from(Status::Memory.number());
+            return Err(io::Error::from(io::ErrorKind::OutOfMemory));
         }
     }
-    let status = match start(rt.alloc(), &words, &mut files, &mut out, &mut audit) {
+    Ok(words)
+}
+
+/// Does what the words say, with the files of the disk and the standard streams.
+fn status_of(rt: HostRuntime, words: &[String]) -> Result<Status, AllocError> {
+    let mut out = StdSink::new(rt.alloc(), ROOM, rt.stdout())?;
+    let mut audit = StdSink::new(rt.alloc(), 0, rt.stderr())?;
+    let mut files = DiskFiles::new(rt);
+    start(rt.alloc(), words, &mut files, &mut out, &mut audit)
+}
+
+fn main(rt: HostRuntime) -> ExitCode {
+    let told = match words_of(rt) {
+        Ok(words) => status_of(rt, &words),
+        Err(error) if error.kind() == io::ErrorKind::OutOfMemory => Err(AllocError),
+        // a word that is no text stands in no form of the command line
+        Err(_) => status_of(rt, &[]),
+    };
+    let status = match told {
         Ok(status) => status,
         Err(_) => Status::Memory,
     };

@@ -2,17 +2,18 @@
 ghost use Rattle.std.specs.Prelude.{◌≡◌, ◌++◌, ◌∷◌, ◌≤◌, [], IfOk, OnOk, length, unwrap_or};
 ghost use Rattle.lnfs_outside.specs.Moments.{Fits};
 ghost use Rattle.lnfs_program.specs.Due.{replayed};
-ghost use Rattle.lnfs_program.specs.Recording.{events_of, taken_of};
 ghost use Rattle.lnfs_program.specs.Runs.{Plays, WritesOnly};
+ghost use Rattle.lnfs_program.specs.Streams.{counts, streams};
 ghost use Rattle.lnfs_step.specs.Journal.{answer, audit_at};
+ghost use Rattle.lnfs_traffic.specs.Parts.{parts_of};
 ghost use Rattle.lnfs_program.specs.Lines.{text_in};
 ghost use Rattle.lnfs_program.specs.Writes.{Does, answer_writes, writes_after};
 
-use crate::recording::{BEGINNING, event_at};
 use crate::status::{Status, Stop};
-use crate::streams::{frame, put};
+use crate::streams::{frame, put, put_line};
 use lnfs_outside::{Event, Sink};
 use lnfs_policy::Policy;
+use lnfs_traffic::{BEGINNING, next_event};
 use lnfs_vault::{AuditLine, Vault, write_line};
 use std::alloc::{AllocError, Global};
 
@@ -35,18 +36,19 @@ fn serve_event<K: Sink, A: Sink>(
     audit: &mut A,
 ) -> Result<(), Stop>
     requires fits { Fits event }
-    ensures does { Does result (K.taken out.old) (K.taken out.new) (A.taken audit.old) (A.taken audit.new) (answer_writes (answer vault.old.policy vault.old.journal event) (audit_at vault.old.policy vault.old.journal event)) }
+    ensures does { Does result (streams (K.taken out.old) (A.taken audit.old)) (streams (K.taken out.new) (A.taken audit.new)) (answer_writes (answer vault.old.policy vault.old.journal event) (audit_at vault.old.policy vault.old.journal event)) }
     ensures state { OnOk result (vault.new ≡ record vault.old { journal = vault.old.journal ++ event ∷ [] }) }
-    ensures cause { WritesOnly result (K.write_faults out.old) (K.write_faults out.new) (A.write_faults audit.old) (A.write_faults audit.new) }
+    ensures cause { WritesOnly result (counts (K.write_faults out.old) (A.write_faults audit.old)) (counts (K.write_faults out.new) (A.write_faults audit.new)) }
 {
     let served = vault.serve(event)?;
     let bytes = frame(alloc, &served.reply)?;
     let line = text_of(alloc, &served.line)?;
     put(out, &bytes)?;
-    put(audit, &line)
+    put_line(out, audit, &line)
 }
 
-/// Serves the whole events at the front of the bytes, in a new server, and says how many bytes they took.
+/// Serves the whole events at the front of the bytes, in a new server, and says how many bytes are
+/// left behind them.
 fn serve_events<K: Sink, A: Sink>(
     alloc: Global,
     policy: Policy,
@@ -54,17 +56,17 @@ fn serve_events<K: Sink, A: Sink>(
     out: &mut K,
     audit: &mut A,
 ) -> Result<usize, Stop>
-    ensures does { Does result (K.taken out.old) (K.taken out.new) (A.taken audit.old) (A.taken audit.new) (writes_after (answer policy) (audit_at policy) [] (events_of bytes.now)) }
-    ensures taken { IfOk result (λ taken. (taken ≡ taken_of bytes.now) × (taken ≤ length bytes.now)) }
-    ensures cause { WritesOnly result (K.write_faults out.old) (K.write_faults out.new) (A.write_faults audit.old) (A.write_faults audit.new) }
+    ensures does { Does result (streams (K.taken out.old) (A.taken audit.old)) (streams (K.taken out.new) (A.taken audit.new)) (writes_after (answer policy) (audit_at policy) [] (parts_of bytes.now).events) }
+    ensures left { IfOk result (λ left. (left ≡ length (parts_of bytes.now).rest) × (left ≤ length bytes.now)) }
+    ensures cause { WritesOnly result (counts (K.write_faults out.old) (A.write_faults audit.old)) (counts (K.write_faults out.new) (A.write_faults audit.new)) }
 {
     let mut vault = Vault::new(alloc, policy)?;
     let mut rest = bytes;
-    while let Some((event, others)) = event_at(alloc, rest)? {
+    while let Some((event, others)) = next_event(alloc, rest)? {
         serve_event(alloc, &mut vault, event, out, audit)?;
         rest = others;
     }
-    Ok(bytes.len() - rest.len())
+    Ok(rest.len())
 }
 
 /// Replays a recording in a new server.
@@ -75,18 +77,18 @@ pub fn replay<K: Sink, A: Sink>(
     out: &mut K,
     audit: &mut A,
 ) -> Result<Status, Stop>
-    ensures plays { Plays (replayed policy traffic.now) result (K.taken out.old) (K.taken out.new) (A.taken audit.old) (A.taken audit.new) }
-    ensures cause { WritesOnly result (K.write_faults out.old) (K.write_faults out.new) (A.write_faults audit.old) (A.write_faults audit.new) }
+    ensures plays { Plays (replayed policy traffic.now) result (streams (K.taken out.old) (A.taken audit.old)) (streams (K.taken out.new) (A.taken audit.new)) }
+    ensures cause { WritesOnly result (counts (K.write_faults out.old) (A.write_faults audit.old)) (counts (K.write_faults out.new) (A.write_faults audit.new)) }
 {
-    let Some(rest) = traffic.strip_prefix(BEGINNING) else {
+    let Some(body) = traffic.strip_prefix(BEGINNING) else {
         return Ok(Status::TrafficDamaged { at: 0 });
     };
-    let taken = serve_events(alloc, policy, rest, out, audit)?;
-    if taken == rest.len() {
+    let left = serve_events(alloc, policy, body, out, audit)?;
+    if left == 0 {
         Ok(Status::Ok)
     } else {
         Ok(Status::TrafficDamaged {
-            at: BEGINNING.len() as u64 + taken as u64,
+            at: (traffic.len() - left) as u64,
         })
     }
 }

@@ -1,14 +1,14 @@
 //! The top call.
-ghost use Rattle.std.specs.Prelude.{◌≡◌, ◌⊎◌, ◌≤◌, IfOk, IsSome};
-ghost use Rattle.lnfs_outside.specs.Causes.{Rose};
+ghost use Rattle.std.specs.Prelude.{◌≡◌, ◌≤◌, [], IfOk, IfSome, IsSome, OnOk};
 ghost use Rattle.lnfs_program.specs.Ending.{told_by};
-ghost use Rattle.lnfs_program.specs.Runs.{Judges, Runs, Gives, told_where};
+ghost use Rattle.lnfs_program.specs.Runs.{Judges, Runs, Gives, HasReason, NoneFell, told_where};
+ghost use Rattle.lnfs_program.specs.Streams.{counts, streams};
 ghost use Rattle.lnfs_program.specs.Words.{form_of, texts};
 
 use crate::status::{Status, Stop};
-use crate::streams::{put, show};
+use crate::streams::{hand_on_both, put_line, show};
 use crate::under::{Task, under};
-use crate::words::{Command, bytes_of, command_of, help, version};
+use crate::words::{Command, command_of, help, version};
 use lnfs_format::Codecs;
 use lnfs_outside::{Files, Sink};
 use std::alloc::Global;
@@ -22,11 +22,11 @@ fn judge<F: Files, K: Sink, A: Sink>(
     audit: &mut A,
     codecs: &Codecs,
 ) -> Result<Status, Stop>
-    ensures judges { Judges (F.content files.old) (form_of (texts words.now)) result (K.taken out.old) (K.taken out.new) (A.taken audit.old) (A.taken audit.new) }
+    ensures judges { Judges (F.content files.old) (form_of (texts words.now)) result (streams (K.taken out.old) (A.taken audit.old)) (streams (K.taken out.new) (A.taken audit.new)) }
     ensures content { F.content files.new ≡ F.content files.old }
-    ensures cause { Gives result (F.faults files.old) (F.faults files.new) (K.write_faults out.old) (K.write_faults out.new) (A.write_faults audit.old) (A.write_faults audit.new) }
+    ensures cause { Gives result (F.faults files.old) (F.faults files.new) (counts (K.write_faults out.old) (A.write_faults audit.old)) (counts (K.write_faults out.new) (A.write_faults audit.new)) }
 {
-    match command_of(words) {
+    match command_of(alloc, words)? {
         None => Ok(Status::Usage),
         Some(Command::Help) => show(out, help().as_bytes()),
         Some(Command::Version) => show(out, version().as_bytes()),
@@ -37,10 +37,13 @@ fn judge<F: Files, K: Sink, A: Sink>(
             let task = Task::Replay { traffic };
             under(alloc, codecs, policy, task, files, out, audit)
         }
-        Some(Command::Translate { policy, pairs, hex }) => {
-            let Some(bytes) = bytes_of(alloc, hex)? else {
-                return Ok(Status::Usage);
-            };
+        Some(
+            Command::Translate {
+                policy,
+                pairs,
+                bytes,
+            },
+        ) => {
             let task = Task::Translate {
                 source: pairs.0,
                 target: pairs.1,
@@ -52,6 +55,26 @@ fn judge<F: Files, K: Sink, A: Sink>(
 }
 
 /// The same with the ending's line.
+fn tell<F: Files, K: Sink, A: Sink>(
+    alloc: Global,
+    words: &[String],
+    files: &mut F,
+    out: &mut K,
+    audit: &mut A,
+    codecs: &Codecs,
+) -> Result<Status, Stop>
+    ensures runs { Runs (F.content files.old) (form_of (texts words.now)) (told_where result) (streams (K.taken out.old) (A.taken audit.old)) (streams (K.taken out.new) (A.taken audit.new)) }
+    ensures told { IfOk result (λ status. IsSome (told_by status)) }
+    ensures content { F.content files.new ≡ F.content files.old }
+    ensures cause { Gives result (F.faults files.old) (F.faults files.new) (counts (K.write_faults out.old) (A.write_faults audit.old)) (counts (K.write_faults out.new) (A.write_faults audit.new)) }
+{
+    let status = judge(alloc, words, files, out, audit, codecs)?;
+    let line = status.line(alloc)?;
+    put_line(out, audit, line.as_bytes())?;
+    Ok(status)
+}
+
+/// The same, and hands on all that the streams took, however it ends.
 fn play<F: Files, K: Sink, A: Sink>(
     alloc: Global,
     words: &[String],
@@ -60,14 +83,16 @@ fn play<F: Files, K: Sink, A: Sink>(
     audit: &mut A,
     codecs: &Codecs,
 ) -> Result<Status, Stop>
-    ensures runs { Runs (F.content files.old) (form_of (texts words.now)) (told_where result) (K.taken out.old) (K.taken out.new) (A.taken audit.old) (A.taken audit.new) }
+    ensures runs { Runs (F.content files.old) (form_of (texts words.now)) (told_where result) (streams (K.taken out.old) (A.taken audit.old)) (streams (K.taken out.new) (A.taken audit.new)) }
     ensures told { IfOk result (λ status. IsSome (told_by status)) }
+    ensures handed { OnOk result ((K.waiting out.new ≡ []) × (A.waiting audit.new ≡ [])) }
     ensures content { F.content files.new ≡ F.content files.old }
-    ensures cause { Gives result (F.faults files.old) (F.faults files.new) (K.write_faults out.old) (K.write_faults out.new) (A.write_faults audit.old) (A.write_faults audit.new) }
+    ensures cause { Gives result (F.faults files.old) (F.faults files.new) (counts (K.write_faults out.old) (A.write_faults audit.old)) (counts (K.write_faults out.new) (A.write_faults audit.new)) }
 {
-    let status = judge(alloc, words, files, out, audit, codecs)?;
-    let line = status.line(alloc)?;
-    put(audit, line.as_bytes())?;
+    let told = tell(alloc, words, files, out, audit, codecs);
+    let handed = hand_on_both(out, audit);
+    let status = told?;
+    handed?;
     Ok(status)
 }
 
@@ -83,12 +108,14 @@ pub fn run<F: Files, K: Sink, A: Sink>(
     codecs: Codecs,
 ) -> Status
     // the status and the writes are those that are due; where the run gave up, a front of the writes was taken
-    ensures runs { Runs (F.content files.old) (form_of (texts words.now)) (told_by result) (K.taken out.old) (K.taken out.new) (A.taken audit.old) (A.taken audit.new) }
+    ensures runs { Runs (F.content files.old) (form_of (texts words.now)) (told_by result) (streams (K.taken out.old) (A.taken audit.old)) (streams (K.taken out.new) (A.taken audit.new)) }
     // it gives up only where a count rose, or for want of memory
-    ensures read { result ≡ Status.ReadFault → Rose (F.faults files.old) (F.faults files.new) }
-    ensures write { result ≡ Status.WriteFault → Rose (K.write_faults out.old) (K.write_faults out.new) ⊎ Rose (A.write_faults audit.old) (A.write_faults audit.new) }
+    ensures reason { HasReason result (F.faults files.old) (F.faults files.new) (counts (K.write_faults out.old) (A.write_faults audit.old)) (counts (K.write_faults out.new) (A.write_faults audit.new)) }
+    // otherwise the streams hold nothing back
+    ensures handed { IfSome (told_by result) (λ _. (K.waiting out.new ≡ []) × (A.waiting audit.new ≡ [])) }
     // no count falls, and no file changes
-    ensures later { (F.faults files.old ≤ F.faults files.new) × (K.write_faults out.old ≤ K.write_faults out.new) × (A.write_faults audit.old ≤ A.write_faults audit.new) }
+    ensures files { F.faults files.old ≤ F.faults files.new }
+    ensures streams { NoneFell (counts (K.write_faults out.old) (A.write_faults audit.old)) (counts (K.write_faults out.new) (A.write_faults audit.new)) }
     ensures content { F.content files.new ≡ F.content files.old }
 {
     match play(alloc, words, files, out, audit, &codecs) {

@@ -1,9 +1,10 @@
 //! A run with the codecs of the program.
-ghost use Rattle.std.specs.Prelude.{◌≡◌, IfOk};
+ghost use Rattle.std.specs.Prelude.{◌≡◌, ◌≤◌, [], IfOk, IfSome, OnErr};
 ghost use Rattle.std.specs.Option.{option_map};
 ghost use Rattle.lnfs_format.specs.Kinds.{reads, writes};
 ghost use Rattle.lnfs_program.specs.Ending.{told_by};
-ghost use Rattle.lnfs_program.specs.Runs.{Runs};
+ghost use Rattle.lnfs_program.specs.Runs.{HasReason, NoneFell, Runs};
+ghost use Rattle.lnfs_program.specs.Streams.{counts, streams};
 ghost use Rattle.lnfs_program.specs.Words.{form_of, texts};
 
 use crate::run::run;
@@ -17,7 +18,7 @@ use std::alloc::{AllocError, Global};
 ///
 /// # Errors
 ///
-/// `AllocError` where there is no memory for the codecs. Nothing was read or written then.
+/// `AllocError` where there is no memory for the codecs. Nothing was read, written or counted then.
 pub fn start<F: Files, K: Sink, A: Sink>(
     alloc: Global,
     words: &[String],
@@ -25,7 +26,13 @@ pub fn start<F: Files, K: Sink, A: Sink>(
     out: &mut K,
     audit: &mut A,
 ) -> Result<Status, AllocError>
-    ensures { IfOk result (λ status. Runs (F.content files.old) (form_of (texts words.now)) (told_by status) (K.taken out.old) (K.taken out.new) (A.taken audit.old) (A.taken audit.new)) }
+    ensures runs { IfOk result (λ status. Runs (F.content files.old) (form_of (texts words.now)) (told_by status) (streams (K.taken out.old) (A.taken audit.old)) (streams (K.taken out.new) (A.taken audit.new))) }
+    ensures reason { IfOk result (λ status. HasReason status (F.faults files.old) (F.faults files.new) (counts (K.write_faults out.old) (A.write_faults audit.old)) (counts (K.write_faults out.new) (A.write_faults audit.new))) }
+    ensures handed { IfOk result (λ status. IfSome (told_by status) (λ _. (K.waiting out.new ≡ []) × (A.waiting audit.new ≡ []))) }
+    ensures files { F.faults files.old ≤ F.faults files.new }
+    ensures streams { NoneFell (counts (K.write_faults out.old) (A.write_faults audit.old)) (counts (K.write_faults out.new) (A.write_faults audit.new)) }
+    ensures content { F.content files.new ≡ F.content files.old }
+    ensures nothing { OnErr result ((files.new ≡ files.old) × (out.new ≡ out.old) × (audit.new ≡ audit.old)) }
 {
     let read = move |kind: &Kind, bytes: &[u8]|
         ensures { IfOk result (λ label. label ≡ reads kind.now bytes.now) }

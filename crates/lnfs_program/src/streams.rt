@@ -1,18 +1,19 @@
 //! Reading a file whole, and writing to a stream.
-ghost use Rattle.std.specs.Prelude.{◌≡◌, ◌≤◌, IfOk, IfErr, IfSome, Some, length};
+ghost use Rattle.std.specs.Prelude.{◌≡◌, ◌≤◌, ◌∷◌, [], OnOk, IfOk, IfErr, IfSome, Some, length};
 ghost use Rattle.lnfs_outside.specs.Causes.{Rose};
 ghost use Rattle.lnfs_outside.specs.Bytes.{Puts};
 ghost use Rattle.lnfs_program.specs.Ending.{told_by};
-ghost use Rattle.lnfs_program.specs.Runs.{Holds, ReadsOnly, held};
-ghost use Rattle.lnfs_program.specs.Writes.{framed};
+ghost use Rattle.lnfs_program.specs.Runs.{Holds, ReadsOnly, WritesOnly, held};
+ghost use Rattle.lnfs_program.specs.Streams.{counts, streams};
+ghost use Rattle.lnfs_program.specs.Writes.{Does, framed, to_audit};
 
 use crate::status::{Status, Stop};
-use lnfs_lists::Octets;
+use lnfs_lists::{Octets, RECORD_LIMIT};
 use lnfs_outside::{Files, Sink, put_all};
 use std::alloc::{AllocError, Global};
 
 /// The length of a piece that is read at once, in bytes.
-const PIECE: usize = 4096;
+const PIECE: usize = 65_536;
 
 /// Writes all of the bytes.
 pub fn put<K: Sink>(sink: &mut K, bytes: &[u8]) -> Result<(), Stop>
@@ -24,6 +25,45 @@ pub fn put<K: Sink>(sink: &mut K, bytes: &[u8]) -> Result<(), Stop>
         Ok(()) => Ok(()),
         Err(_) => Err(Stop::WriteFault),
     }
+}
+
+/// Hands on all that a sink took.
+fn hand_on<K: Sink>(sink: &mut K) -> Result<(), Stop>
+    ensures taken { K.taken sink.new ≡ K.taken sink.old }
+    ensures handed { OnOk result (K.waiting sink.new ≡ []) }
+    ensures later { K.write_faults sink.old ≤ K.write_faults sink.new }
+    ensures excused { IfErr result (λ stop. (stop ≡ Stop.WriteFault) × Rose (K.write_faults sink.old) (K.write_faults sink.new)) }
+{
+    match sink.flush() {
+        Ok(()) => Ok(()),
+        Err(_) => Err(Stop::WriteFault),
+    }
+}
+
+/// Hands on all that the two streams took; the second too where the first fails.
+pub fn hand_on_both<K: Sink, A: Sink>(out: &mut K, audit: &mut A) -> Result<(), Stop>
+    ensures out { K.taken out.new ≡ K.taken out.old }
+    ensures audit { A.taken audit.new ≡ A.taken audit.old }
+    ensures handed { OnOk result ((K.waiting out.new ≡ []) × (A.waiting audit.new ≡ [])) }
+    ensures cause { WritesOnly result (counts (K.write_faults out.old) (A.write_faults audit.old)) (counts (K.write_faults out.new) (A.write_faults audit.new)) }
+{
+    let first = hand_on(out);
+    let second = hand_on(audit);
+    first?;
+    second
+}
+
+/// Writes a line on the audit stream, behind all that the other stream took: on a terminal that
+/// shows both, it doesn't come before the frame of its event. An empty line is none.
+pub fn put_line<K: Sink, A: Sink>(out: &mut K, audit: &mut A, line: &[u8]) -> Result<(), Stop>
+    ensures does { Does result (streams (K.taken out.old) (A.taken audit.old)) (streams (K.taken out.new) (A.taken audit.new)) (to_audit line.now ∷ []) }
+    ensures cause { WritesOnly result (counts (K.write_faults out.old) (A.write_faults audit.old)) (counts (K.write_faults out.new) (A.write_faults audit.new)) }
+{
+    if line.is_empty() {
+        return Ok(());
+    }
+    hand_on(out)?;
+    put(audit, line)
 }
 
 /// Shows a text.
@@ -79,7 +119,7 @@ pub fn read_file<F: Files>(
 
 /// A reply as the one fragment that it is sent in (RFC 5531 section 11); nothing where there is none.
 pub fn frame(alloc: Global, reply: &Option<Octets>) -> Result<Vec<u8>, AllocError>
-    requires { IfSome reply.now (λ bytes. length bytes ≤ 131072) }
+    requires { IfSome reply.now (λ bytes. length bytes ≤ RECORD_LIMIT) }
     ensures { IfOk result (λ bytes. bytes.items ≡ framed reply.now) }
 {
     match reply {

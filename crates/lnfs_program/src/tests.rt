@@ -1,8 +1,10 @@
 //! Runs over objects in memory: what no clause says. The bytes are laid out by hand from RFC 5531,
 //! RFC 4506 and RFC 8881 section 18.35.
+ghost use Rattle.std.specs.Prelude.{None, []};
+
 use crate::start::start;
 use lnfs_lists::{Octets, Text};
-use lnfs_outside::{MemFile, MemFiles, MemSink};
+use lnfs_outside::{CalmFiles, CalmSink, Failed, MemFile, MemFiles, MemSink, Sink};
 use std::alloc::{AllocError, Global};
 
 /// Levels 1 and 2 don't compare, and level 3 is above all.
@@ -123,12 +125,14 @@ pub fn file(alloc: Global, name: &str, content: &[u8]) -> Result<MemFile, AllocE
 /// Which calls are to fail, counted from 1.
 #[derive(Clone, Copy, Drop)]
 pub struct Failing<'a> {
+    pub opens: &'a [u64],
     pub reads: &'a [u64],
     pub outs: &'a [u64],
     pub audits: &'a [u64],
 }
 
 pub const NONE: Failing<'static> = Failing {
+    opens: &[],
     reads: &[],
     outs: &[],
     audits: &[],
@@ -147,7 +151,7 @@ pub fn run_files(
             words.push(String::from_str(alloc, word)?)?;
         }
     }
-    let mut files = MemFiles::new(alloc, files, &[], failing.reads)?;
+    let mut files = MemFiles::new(alloc, files, failing.opens, failing.reads)?;
     let mut out = MemSink::new(alloc, failing.outs)?;
     let mut audit = MemSink::new(alloc, failing.audits)?;
     let status = start(alloc, &words, &mut files, &mut out, &mut audit)?;
@@ -338,5 +342,63 @@ fn calls_that_fail(rt: HostRuntime) -> Result<(), AllocError> {
         assert!(rt; out.bytes() == frames, "out at the {name}");
         assert!(rt; audit.bytes().is_empty(), "audit at the {name}");
     }
+    Ok(())
+}
+
+/// The policy is opened before the recording: of two calls that can't go well, the first is told.
+#[test]
+fn files_are_opened_in_turn(rt: HostRuntime) -> Result<(), AllocError> {
+    let traffic = recording(rt.alloc(), &[])?;
+    let cases: [(&str, &[u64], u8); 6] = [
+        ("replay no t", &[1], 5),
+        ("replay no t", &[2], 9),
+        ("replay q t", &[2], 3),
+        ("replay p no", &[1], 5),
+        ("replay p no", &[2], 5),
+        ("replay p t", &[3], 0),
+    ];
+    for (line, opens, number) in cases {
+        let failing = Failing { opens, ..NONE };
+        let (status, _out, _audit) = run_over(rt.alloc(), line, &traffic, failing)?;
+        assert_eq!(rt; status, number, "status of {line}");
+    }
+    Ok(())
+}
+
+/// Takes everything, and can't hand it on.
+#[derive(Drop)]
+struct Stuck {
+    faults: u64,
+}
+
+impl Sink for Stuck {
+    ghost taken = { λ s. None };
+
+    ghost write_faults = { λ s. s.faults };
+
+    ghost beside_sink = { λ s. (None, 0) };
+
+    ghost waiting = { λ s. [] };
+
+    fn write(&mut self, bytes: &[u8]) -> Result<usize, Failed> {
+        Ok(bytes.len())
+    }
+
+    fn flush(&mut self) -> Result<(), Failed> {
+        self.faults = self.faults.saturating_add(1);
+        Err(Failed)
+    }
+}
+
+#[test]
+fn bytes_that_stay_behind(rt: HostRuntime) -> Result<(), AllocError> {
+    let words = vec![in rt.alloc(); String::from_str(rt.alloc(), "--version")?]?;
+    let mut files = CalmFiles::new(Vec::new(rt.alloc()));
+    let mut calm = CalmSink::new();
+    let mut stuck = Stuck { faults: 0 };
+    let status = start(rt.alloc(), &words, &mut files, &mut stuck, &mut calm)?;
+    assert_eq!(rt; status.number(), 6, "standard output");
+    let status = start(rt.alloc(), &words, &mut files, &mut calm, &mut stuck)?;
+    assert_eq!(rt; status.number(), 6, "the audit stream");
     Ok(())
 }

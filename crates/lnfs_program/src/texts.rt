@@ -7,6 +7,7 @@ ghost use Rattle.lnfs_outside.specs.Causes.{Rose};
 ghost use Rattle.lnfs_program.specs.Due.{no_translation, shown, spelled};
 ghost use Rattle.lnfs_program.specs.Ending.{told_by};
 ghost use Rattle.lnfs_program.specs.Runs.{Plays, IsExcused};
+ghost use Rattle.lnfs_program.specs.Streams.{streams};
 
 use crate::status::{MapCause, Status, Stop};
 use crate::streams::show;
@@ -18,7 +19,7 @@ use std::alloc::Global;
 
 /// Shows the canonical text of a policy.
 pub fn check<K: Sink>(alloc: Global, policy: &Policy, out: &mut K) -> Result<Status, Stop>
-    ensures plays { (audit : Option (List ℕ)) → Plays (shown policy.now.text) result (K.taken out.old) (K.taken out.new) audit audit }
+    ensures plays { (audit : Option (List ℕ)) → Plays (shown policy.now.text) result (streams (K.taken out.old) audit) (streams (K.taken out.new) audit) }
     ensures later { K.write_faults out.old ≤ K.write_faults out.new }
     ensures excused { IfErr result (λ stop. IsExcused stop ⊥ (Rose (K.write_faults out.old) (K.write_faults out.new))) }
 {
@@ -28,7 +29,7 @@ pub fn check<K: Sink>(alloc: Global, policy: &Policy, out: &mut K) -> Result<Sta
 
 /// Shows some bytes in hex.
 fn show_hex<K: Sink>(alloc: Global, bytes: &[u8], out: &mut K) -> Result<Status, Stop>
-    ensures plays { (audit : Option (List ℕ)) → Plays (shown (encode_lower bytes.now ++ 10 ∷ [])) result (K.taken out.old) (K.taken out.new) audit audit }
+    ensures plays { (audit : Option (List ℕ)) → Plays (shown (encode_lower bytes.now ++ 10 ∷ [])) result (streams (K.taken out.old) audit) (streams (K.taken out.new) audit) }
     ensures later { K.write_faults out.old ≤ K.write_faults out.new }
     ensures excused { IfErr result (λ stop. IsExcused stop ⊥ (Rose (K.write_faults out.old) (K.write_faults out.new))) }
 {
@@ -60,7 +61,7 @@ pub fn translate<K: Sink>(
     bytes: &[u8],
     out: &mut K,
 ) -> Result<Status, Stop>
-    ensures plays { (audit : Option (List ℕ)) → Plays (spelled (translated policy.now.formats policy.now.labels source target bytes.now)) result (K.taken out.old) (K.taken out.new) audit audit }
+    ensures plays { (audit : Option (List ℕ)) → Plays (spelled (translated policy.now.formats policy.now.labels source target bytes.now)) result (streams (K.taken out.old) audit) (streams (K.taken out.new) audit) }
     ensures later { K.write_faults out.old ≤ K.write_faults out.new }
     ensures excused { IfErr result (λ stop. IsExcused stop ⊥ (Rose (K.write_faults out.old) (K.write_faults out.new))) }
 {

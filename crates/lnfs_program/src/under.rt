@@ -3,6 +3,7 @@ ghost use Rattle.std.specs.Prelude.{◌≡◌, IfOk, IfErr, OnOk, Some, MatchOpt
 ghost use Rattle.lnfs_program.specs.Ending.{told_by};
 ghost use Rattle.lnfs_program.specs.Refusals.{refusal_of};
 ghost use Rattle.lnfs_program.specs.Runs.{Gives, Judges, Performs};
+ghost use Rattle.lnfs_program.specs.Streams.{counts, streams};
 ghost use Rattle.lnfs_program.specs.Tasks.{task_of};
 ghost use Rattle.lnfs_program.specs.Words.{under, replay};
 
@@ -59,9 +60,9 @@ fn replay_file<F: Files, K: Sink, A: Sink>(
     out: &mut K,
     audit: &mut A,
 ) -> Result<Status, Stop>
-    ensures performs { Performs (F.content files.old) policy (replay traffic.now) result (K.taken out.old) (K.taken out.new) (A.taken audit.old) (A.taken audit.new) }
+    ensures performs { Performs (F.content files.old) policy (replay traffic.now) result (streams (K.taken out.old) (A.taken audit.old)) (streams (K.taken out.new) (A.taken audit.new)) }
     ensures content { F.content files.new ≡ F.content files.old }
-    ensures cause { Gives result (F.faults files.old) (F.faults files.new) (K.write_faults out.old) (K.write_faults out.new) (A.write_faults audit.old) (A.write_faults audit.new) }
+    ensures cause { Gives result (F.faults files.old) (F.faults files.new) (counts (K.write_faults out.old) (A.write_faults audit.old)) (counts (K.write_faults out.new) (A.write_faults audit.new)) }
 {
     match policy.mode() {
         Mode::Enforcing => {}
@@ -83,9 +84,9 @@ fn perform<F: Files, K: Sink, A: Sink>(
     out: &mut K,
     audit: &mut A,
 ) -> Result<Status, Stop>
-    ensures performs { Performs (F.content files.old) policy (task_of task.entry) result (K.taken out.old) (K.taken out.new) (A.taken audit.old) (A.taken audit.new) }
+    ensures performs { Performs (F.content files.old) policy (task_of task.entry) result (streams (K.taken out.old) (A.taken audit.old)) (streams (K.taken out.new) (A.taken audit.new)) }
     ensures content { F.content files.new ≡ F.content files.old }
-    ensures cause { Gives result (F.faults files.old) (F.faults files.new) (K.write_faults out.old) (K.write_faults out.new) (A.write_faults audit.old) (A.write_faults audit.new) }
+    ensures cause { Gives result (F.faults files.old) (F.faults files.new) (counts (K.write_faults out.old) (A.write_faults audit.old)) (counts (K.write_faults out.new) (A.write_faults audit.new)) }
 {
     match task {
         Task::Check => check(alloc, &policy, out),
@@ -108,9 +109,9 @@ pub fn under<F: Files, K: Sink, A: Sink>(
     out: &mut K,
     audit: &mut A,
 ) -> Result<Status, Stop>
-    ensures judges { Judges (F.content files.old) (Some (under name.now (task_of task.entry))) result (K.taken out.old) (K.taken out.new) (A.taken audit.old) (A.taken audit.new) }
+    ensures judges { Judges (F.content files.old) (Some (under name.now (task_of task.entry))) result (streams (K.taken out.old) (A.taken audit.old)) (streams (K.taken out.new) (A.taken audit.new)) }
     ensures content { F.content files.new ≡ F.content files.old }
-    ensures cause { Gives result (F.faults files.old) (F.faults files.new) (K.write_faults out.old) (K.write_faults out.new) (A.write_faults audit.old) (A.write_faults audit.new) }
+    ensures cause { Gives result (F.faults files.old) (F.faults files.new) (counts (K.write_faults out.old) (A.write_faults audit.old)) (counts (K.write_faults out.new) (A.write_faults audit.new)) }
 {
     let Some(text) = read_file(alloc, files, name)? else {
         return no_file(alloc, name);

@@ -1,11 +1,11 @@
 //! The forms of the command line.
-ghost use Rattle.std.specs.Prelude.{◌≡◌, ◌∷◌, [], None, IfOk, MatchOption};
+ghost use Rattle.std.specs.Prelude.{◌≡◌, ◌∷◌, [], IfOk};
+ghost use Rattle.std.specs.Option.{option_map};
 ghost use Rattle.lnfs_program.specs.Runs.{held};
-ghost use Rattle.lnfs_program.specs.Words.{form_of, texts, named, pair_in, bytes_in, help_text, version_text};
+ghost use Rattle.lnfs_program.specs.Words.{form_of, texts, named, pair_in, bytes_in, translation, help_text, version_text};
 
-use hex::FromHexError;
 use lnfs_map::Pair;
-use lnfs_policy::number;
+use lnfs_words::number;
 use std::alloc::{AllocError, Global};
 
 /// The longest word that spells bytes, in digits.
@@ -45,7 +45,7 @@ exit status:\n\
 10 the label has no translation\n";
 
 /// What the words ask for.
-#[derive(Clone, Copy, Debug, Drop)]
+#[derive(Debug, Drop)]
 pub enum Command<'a> {
     Help,
     Version,
@@ -56,59 +56,77 @@ pub enum Command<'a> {
         policy: &'a str,
         traffic: &'a str,
     },
-    /// From the first format to the second. It is none of the command line where `hex` spells no bytes.
+    /// From the first format to the second.
     Translate {
         policy: &'a str,
         pairs: (Pair, Pair),
-        hex: &'a str,
+        bytes: Vec<u8>,
     },
 }
 
 /// What the words ask for; none where they are no form of the command line.
-pub fn command_of<'a>(words: &'a [String]) -> Option<Command<'a>>
-    ensures { MatchOption result (form_of (texts words.now) ≡ None) (λ command. form_of (texts words.now) ≡ named command) }
+pub fn command_of<'a>(alloc: Global, words: &'a [String]) -> Result<Option<Command<'a>>, AllocError>
+    ensures { IfOk result (λ found. option_map named found ≡ form_of (texts words.now)) }
 {
     match words {
-        [word] => option_of(word),
-        [word, policy] if word.as_str() == "check" => Some(Command::Check {
+        [word] => Ok(option_of(word)),
+        [word, policy] if word.as_str() == "check" => Ok(Some(Command::Check {
             policy: policy.as_str(),
-        }),
-        [word, policy, traffic] if word.as_str() == "replay" => Some(Command::Replay {
+        })),
+        [word, policy, traffic] if word.as_str() == "replay" => Ok(Some(Command::Replay {
             policy: policy.as_str(),
             traffic: traffic.as_str(),
-        }),
+        })),
         [word, policy, lfs, pi, hex, to_lfs, to_pi] if word.as_str() == "translate" => {
-            Some(Command::Translate {
-                policy: policy.as_str(),
-                pairs: (pair_of(lfs, pi)?, pair_of(to_lfs, to_pi)?),
-                hex: hex.as_str(),
-            })
+            translation_of(alloc, policy, pair_of(lfs, pi), pair_of(to_lfs, to_pi), hex)
         }
-        _ => None,
+        _ => Ok(None),
     }
+}
+
+/// A translation under the policy of a name, where the words for its formats and its bytes spell some.
+fn translation_of<'a>(
+    alloc: Global,
+    policy: &'a str,
+    source: Option<Pair>,
+    target: Option<Pair>,
+    hex: &str,
+) -> Result<Option<Command<'a>>, AllocError>
+    ensures { IfOk result (λ found. option_map named found ≡ translation policy.now source target (bytes_in hex.now)) }
+{
+    let Some(source) = source else {
+        return Ok(None);
+    };
+    let Some(target) = target else {
+        return Ok(None);
+    };
+    let Some(bytes) = bytes_of(alloc, hex)? else {
+        return Ok(None);
+    };
+    Ok(Some(Command::Translate {
+        policy,
+        pairs: (source, target),
+        bytes,
+    }))
 }
 
 /// The format that two words name.
 fn pair_of(lfs: &str, pi: &str) -> Option<Pair>
     ensures { result ≡ pair_in lfs.now pi.now }
 {
-    let lfs = number(lfs.as_bytes()).ok()?;
-    let pi = number(pi.as_bytes()).ok()?;
+    let lfs = number(lfs.as_bytes())?;
+    let pi = number(pi.as_bytes())?;
     Some(Pair { lfs, pi })
 }
 
 /// The bytes that a word spells in hex, where they are at most 1,024.
-pub fn bytes_of(alloc: Global, hex: &str) -> Result<Option<Vec<u8>>, AllocError>
+fn bytes_of(alloc: Global, hex: &str) -> Result<Option<Vec<u8>>, AllocError>
     ensures { IfOk result (λ bytes. held bytes ≡ bytes_in hex.now) }
 {
     if hex.len() > MAX_HEX {
         return Ok(None);
     }
-    match hex::decode(alloc, hex.as_bytes()) {
-        Ok(bytes) => Ok(Some(bytes)),
-        Err(FromHexError::OutOfMemory) => Err(AllocError),
-        Err(_) => Ok(None),
-    }
+    lnfs_words::bytes_of(alloc, hex.as_bytes())
 }
 
 /// The text of `--help`.
@@ -127,7 +145,7 @@ pub fn version() -> &'static str
 
 /// What a word asks for that stands alone.
 fn option_of<'a>(word: &str) -> Option<Command<'a>>
-    ensures { MatchOption result (form_of (word.now ∷ []) ≡ None) (λ command. form_of (word.now ∷ []) ≡ named command) }
+    ensures { option_map named result ≡ form_of (word.now ∷ []) }
 {
     match word {
         "--help" => Some(Command::Help),

@@ -1,6 +1,6 @@
 -- What is written is read again, whatever further grammar reads beside the table.
 use Rattle.std.proofs.Common.{◌≡◌, ℕ, ◌≤◌, Bool, true, false, eqb, List, [], ◌∷◌, ◌++◌, length, Result, Ok, Err, refl, sym, ap, subst, ◌∙◌, append_assoc, arith, inl}
-use Rattle.std.specs.Prelude.{IfOk, ◌||◌, nat_le}
+use Rattle.std.specs.Prelude.{IfOk, ◌||◌}
 use Rattle.std.specs.Global.{Vec}
 use Rattle.std.specs.List.{flat_map, AllByRecursion}
 use Rattle.std.proofs.lemmas.List.{append-nil}
@@ -8,16 +8,15 @@ use Rattle.std.proofs.lemmas.List.Concat.{flat_map-cons}
 use Rattle.std.proofs.lemmas.List.Elements.{recursion_from_All}
 use Rattle.std.proofs.lemmas.Bool.Decides.{nat_tests}
 use Rattle.lnfs_xdr.specs.Canon.{word, opaque}
-use Rattle.lnfs_xdr.specs.Format.{Spells, If, Outside}
-use Rattle.lnfs_xdr.proofs.Spelled.{Spelled, word_spelled, opaque_spelled, done_spelled, ◌▸◌, last, grouped}
+use Rattle.lnfs_xdr.specs.Format.{Format, Spells, If}
+use Rattle.lnfs_xdr.proofs.Spelled.{Spelled, word_spelled, opaque_spelled, done_spelled, ◌▸◌, last, grouped, on_true}
 use Rattle.lnfs_attrs.specs.Parsing.{Args}
 use Rattle.lnfs_arguments.specs.declared.types.Compound.{Compound}
 use Rattle.lnfs_arguments.specs.declared.types.Op.{Op}
 use Rattle.lnfs_arguments.specs.declared.types.Op.TheVariants as ops
-use Rattle.lnfs_arguments.specs.Numbers.{op_first, op_last, op_illegal, notsupp}
 use Rattle.lnfs_arguments.specs.Grammar.{arguments, table, entry}
 use Rattle.lnfs_arguments.specs.Further.{Further, IsLawful, listed}
-use Rattle.lnfs_arguments.specs.Message.{Message, Next, Tells}
+use Rattle.lnfs_xdr.specs.Message.{Message, Next, Tells}
 use Rattle.lnfs_requests.specs.Texts.{op_text, compound_text}
 use Rattle.lnfs_requests.specs.Fits.{OpFits, CompoundFits}
 use Rattle.lnfs_arguments.specs.Whole.{header, served, is_cut, chosen, with_op, operations, compound}
@@ -25,17 +24,12 @@ use Rattle.lnfs_requests.proofs.Texts.{op_spelled}
 
 -- ---- what is spelled is in the table
 
-nothing_else : (b d : Bool) (e f g : ℕ × ℕ) (op : Op) (bytes : List ℕ) → Spells (If b (If d (Outside e) (Outside f)) (Outside g)) op bytes → ⊥
-nothing_else true true e f g op bytes s = s
-nothing_else true false e f g op bytes s = s
-nothing_else false d e f g op bytes s = s
-
 by_row : (b : Bool) (f h : Args Op) (more : Bool) (op : Op) (bytes : List ℕ) → (Spells h op bytes → more ≡ true) → Spells (If b f h) op bytes → (b || more) ≡ true
 by_row true f h more op bytes later s = refl
 by_row false f h more op bytes later s = later s
 
 is_listed : (rows : List (ℕ × Args Op)) (number : ℕ) (op : Op) (bytes : List ℕ) → Spells (entry rows number) op bytes → listed rows number ≡ true
-is_listed [] number op bytes s = absurd (nothing_else (nat_le op_first number) (nat_le number op_last) (number, notsupp) (number, op_illegal) (number, op_illegal) op bytes s)
+is_listed [] number op bytes s = absurd s
 is_listed ((n, f) ∷ more) number op bytes s = by_row (eqb number n) f (entry more number) (listed more number) op bytes (is_listed more number op bytes) s
 
 unserved_here : (x : Further) → IsLawful x → (number : ℕ) (b : Bool) → x.serves number ≡ b → listed table number ≡ true → b ≡ false
@@ -70,13 +64,17 @@ is_not_cut minor count e le = grind (arith, nat_tests)
 all_served : (minor count : ℕ) → minor ≡ 2 → count ≤ 32 → served minor count ≡ count
 all_served minor count e le = grind (arith, nat_tests)
 
+-- behind minor version 2
+counted : {A : Type 0} (minor : ℕ) → minor ≡ 2 → (f g : Format ⊥ A) (x : A) (bytes : List ℕ) → Spelled f x bytes → Spelled (If (eqb minor 2) f g) x bytes
+counted minor e f g x bytes s = subst (λ (n : ℕ). Spelled (If (eqb n 2) f g) x bytes) (sym e) (on_true s)
+
 pub compound_told : (x : Further) → IsLawful x → (c : Compound) → CompoundFits c → Tells (compound x) c (compound_text c)
 unfolding compound header compound_text
 compound_told x lawful c fits =
     let few : c.count ≤ 32 = omega (arith, fits.count, fits.few) in
     let h : Compound = record { tag = c.tag; minor = c.minor; count = c.count; ops = [] } in
     let front : Spelled header h (opaque c.tag ++ word c.minor ++ word c.count) =
-    grouped (opaque_spelled 1024 c.tag fits.tag (omega (arith, fits.tag)) ▸ word_spelled c.minor (omega (arith, fits.minor)) ▸ last (word_spelled c.count (omega arith)) (done_spelled h)) (simp append_assoc) in
+    grouped (opaque_spelled 1024 c.tag fits.tag (omega (arith, fits.tag)) ▸ word_spelled c.minor (omega (arith, fits.minor)) ▸ counted c.minor fits.minor _ _ h (word c.count) (last (word_spelled c.count (omega arith)) (done_spelled h))) (simp append_assoc) in
     let body : Tells (operations x (is_cut c.minor c.count) (served c.minor c.count) h) c (flat_map op_text c.ops) =
     rw (is_not_cut c.minor c.count fits.minor few, all_served c.minor c.count fits.minor few ∙ fits.count) (ops_told x lawful c.ops h (recursion_from_All OpFits c.ops fits.ops)) in
     inl (h, opaque c.tag ++ word c.minor ++ word c.count, flat_map op_text c.ops, front.is, refl, body)

@@ -1,10 +1,12 @@
 -- The canonical text of arguments is a spelling of them.
-use Rattle.std.proofs.Common.{ℕ, ◌≤◌, Bool, true, false, eqb, List, [], ◌∷◌, length, Option, Some, None, append_assoc, arith}
+use Rattle.std.proofs.Common.{ℕ, ◌≤◌, Bool, true, false, eqb, List, [], ◌∷◌, ◌++◌, length, All, Option, Some, None, append_assoc, arith}
 use Rattle.lnfs_xdr.specs.Format.{Word, Opaque, If, Then}
 use Rattle.lnfs_xdr.specs.Canon.{word, opaque}
+use Rattle.lnfs_xdr.specs.AuthSys.{AuthSys, auth_sys}
+use Rattle.lnfs_xdr.specs.declared.limits.TheConstants.{MACHINE_LIMIT, GROUP_LIMIT}
 use Rattle.lnfs_xdr.proofs.Spelled.{Spelled, word_spelled, long_spelled, flag_spelled, count_spelled, fixed_spelled, opaque_spelled, done_spelled, ◌▸◌, last, grouped, on_true, on_false, array_spelled}
 use Rattle.lnfs_attrs.specs.Parsing.{Args}
-use Rattle.lnfs_attrs.specs.Bitmaps.{IsWord}
+use Rattle.lnfs_attrs.specs.Bitmaps.{IsWord, words_text}
 use Rattle.lnfs_attrs.proofs.Words.{bitmap_spelled}
 use Rattle.lnfs_arguments.specs.declared.types.Sequence.{Sequence}
 use Rattle.lnfs_arguments.specs.declared.types.What.{What}
@@ -21,6 +23,7 @@ use Rattle.lnfs_arguments.specs.declared.types.Op.{Op}
 use Rattle.lnfs_arguments.specs.declared.types.Op.TheVariants as ops
 use Rattle.lnfs_arguments.specs.Numbers.{op_access, op_close, op_commit, op_create, op_getattr, op_getfh, op_link, op_lookup, op_lookupp, op_nverify, op_open, op_putfh, op_putrootfh, op_read, op_readdir, op_readlink, op_remove, op_rename, op_restorefh, op_savefh, op_setattr, op_verify, op_write, op_exchange_id, op_create_session, op_destroy_session, op_sequence, op_destroy_clientid, op_reclaim_complete}
 use Rattle.lnfs_arguments.specs.Grammar.{name, access, what, create, getattr, link, lookup, remove, nverify, verify, setattr, putfh, readdir, rename, close, commit, reading, writing, created, making, claim, opening, implementation, who_made, exchange_id, callback, create_session, making_session, destroy_session, sequence, sequencing, destroy_clientid, reclaim_complete, table, unserved, entry, arguments}
+use Rattle.lnfs_arguments.specs.declared.numbers.TheConstants.{DATA_LIMIT}
 use Rattle.lnfs_requests.specs.Texts.{what_text, making_text, claim_text, implementation_text, callback_text, create_session_text, sequence_text, op_text}
 use Rattle.lnfs_requests.specs.Fits.{WhatFits, MakingFits, ClaimFits, ImplementationFits, CallbackFits, CreateSessionFits, SequenceFits, OpFits}
 use Rattle.lnfs_arguments.proofs.Shared.{tag, attrs_spelled, state_id_spelled, channel_spelled}
@@ -55,11 +58,16 @@ unfolding who_made implementation implementation_text
 who_made_spelled None fits = last (count_spelled 1 0 (omega arith) (omega arith)) (on_true (done_spelled None))
 who_made_spelled (Some i) fits = grouped (count_spelled 1 1 (omega arith) (omega arith) ▸ on_false (last (owner_spelled i.domain fits.0 ▸ owner_spelled i.name fits.1 ▸ long_spelled _ fits.2 ▸ last (word_spelled _ fits.3) (done_spelled i)) (done_spelled (Some i)))) (simp append_assoc)
 
+auth_sys_spelled : (body : AuthSys) → IsWord body.stamp → length body.machine ≤ MACHINE_LIMIT → IsWord body.uid → IsWord body.gid → length body.gids ≤ GROUP_LIMIT → All IsWord body.gids
+    → Spelled {E = ℕ × ℕ} auth_sys body (word body.stamp ++ (opaque body.machine ++ (word body.uid ++ (word body.gid ++ words_text body.gids))))
+unfolding auth_sys
+auth_sys_spelled body stamp machine uid gid few gids = word_spelled _ stamp ▸ opaque_spelled MACHINE_LIMIT body.machine machine (omega (arith, machine)) ▸ word_spelled _ uid ▸ word_spelled _ gid
+    ▸ last (array_spelled GROUP_LIMIT Word word IsWord word_spelled body.gids few (omega arith) gids) (done_spelled body)
+
 callback_spelled : (x : Callback) → CallbackFits x → Spelled callback x (callback_text x)
 unfolding callback callback_text
 callback_spelled Nothing fits = last (tag 0 (omega arith)) (on_true (done_spelled Nothing))
-callback_spelled (Sys stamp machine uid gid gids) fits = grouped (tag 1 (omega arith) ▸ on_false (on_true (word_spelled _ fits.0 ▸ opaque_spelled 255 machine fits.1 (omega (arith, fits.1)) ▸ word_spelled _ fits.2 ▸ word_spelled _ fits.3
-    ▸ last (array_spelled 16 Word word IsWord word_spelled gids fits.4 (omega arith) fits.5) (done_spelled (Sys stamp machine uid gid gids))))) (simp append_assoc)
+callback_spelled (Sys stamp machine uid gid gids) fits = grouped (tag 1 (omega arith) ▸ on_false (on_true (last (auth_sys_spelled (record { stamp = stamp; machine = machine; uid = uid; gid = gid; gids = gids }) fits.0 fits.1 fits.2 fits.3 fits.4 fits.5) (done_spelled (Sys stamp machine uid gid gids))))) (simp append_assoc)
 callback_spelled (Gss service server client) fits = grouped (tag 6 (omega arith) ▸ on_false (on_false (on_true (word_spelled _ fits.0 ▸ owner_spelled server fits.1 ▸ last (owner_spelled client fits.2) (done_spelled (Gss service server client)))))) (simp append_assoc)
 
 create_session_spelled : (x : CreateSession) → CreateSessionFits x → Spelled create_session x (create_session_text x)
@@ -123,7 +131,7 @@ op_spelled ops.RestoreFh fits = last (tag op_restorefh (omega arith)) (row op_re
 op_spelled ops.SaveFh fits = last (tag op_savefh (omega arith)) (row op_savefh (done_spelled ops.SaveFh))
 op_spelled (ops.SetAttr id given) fits = grouped (tag op_setattr (omega arith) ▸ row op_setattr (state_id_spelled id fits.0 ▸ last (attrs_spelled given fits.1) (done_spelled (ops.SetAttr id given)))) (simp append_assoc)
 op_spelled (ops.Verify given) fits = tag op_verify (omega arith) ▸ row op_verify (last (attrs_spelled given fits) (done_spelled (ops.Verify given)))
-op_spelled (ops.Write id offset stable content) fits = grouped (tag op_write (omega arith) ▸ row op_write (state_id_spelled id fits.0 ▸ long_spelled _ fits.1 ▸ word_spelled _ fits.2 ▸ last (opaque_spelled 131072 content fits.3 (omega (arith, fits.3))) (done_spelled (ops.Write id offset stable content)))) (simp append_assoc)
+op_spelled (ops.Write id offset stable content) fits = grouped (tag op_write (omega arith) ▸ row op_write (state_id_spelled id fits.0 ▸ long_spelled _ fits.1 ▸ word_spelled _ fits.2 ▸ last (opaque_spelled DATA_LIMIT content fits.3 (omega (arith, fits.3))) (done_spelled (ops.Write id offset stable content)))) (simp append_assoc)
 op_spelled (ops.ExchangeId verifier owner flags made) fits = grouped (tag op_exchange_id (omega arith) ▸ row op_exchange_id (fixed_spelled 8 verifier fits.0 ▸ owner_spelled owner fits.1 ▸ word_spelled _ fits.2 ▸ tag 0 (omega arith) ▸ on_true (last (who_made_spelled made fits.3) (done_spelled (ops.ExchangeId verifier owner flags made))))) (simp append_assoc)
 op_spelled (ops.CreateSession x) fits = tag op_create_session (omega arith) ▸ row op_create_session (last (create_session_spelled x fits) (done_spelled (ops.CreateSession x)))
 op_spelled (ops.DestroySession session) fits = tag op_destroy_session (omega arith) ▸ row op_destroy_session (last (fixed_spelled 16 session fits) (done_spelled (ops.DestroySession session)))

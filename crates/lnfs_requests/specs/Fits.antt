@@ -15,6 +15,8 @@ use Rattle.lnfs_arguments.specs.declared.types.Implementation.{Implementation}
 use Rattle.lnfs_arguments.specs.declared.types.Compound.{Compound}
 use Rattle.lnfs_arguments.specs.declared.types.Op.{Op}
 use Rattle.lnfs_arguments.specs.declared.types.Op.TheVariants as ops
+use Rattle.lnfs_xdr.specs.declared.limits.TheConstants.{MACHINE_LIMIT, GROUP_LIMIT}
+use Rattle.lnfs_arguments.specs.declared.numbers.TheConstants.{DATA_LIMIT}
 use Rattle.lnfs_arguments.specs.SharedTexts.{IsLong, AttrsFit, StateIdFits, ChannelFits}
 
 abbrev pub WhatFits : What → Type 0
@@ -37,7 +39,7 @@ ImplementationFits (Some i) = (length i.domain ≤ 1024) × (length i.name ≤ 1
 
 abbrev pub CallbackFits : Callback → Type 0
 CallbackFits Nothing = Unit {0}
-CallbackFits (Sys stamp machine uid gid gids) = IsWord stamp × (length machine ≤ 255) × IsWord uid × IsWord gid × (length gids ≤ 16) × All IsWord gids
+CallbackFits (Sys stamp machine uid gid gids) = IsWord stamp × (length machine ≤ MACHINE_LIMIT) × IsWord uid × IsWord gid × (length gids ≤ GROUP_LIMIT) × All IsWord gids
 CallbackFits (Gss service server client) = IsWord service × (length server ≤ 1024) × (length client ≤ 1024)
 
 pub record CreateSessionFits (x : CreateSession) : Type 0 where
@@ -76,7 +78,7 @@ OpFits ops.RestoreFh = Unit {0}
 OpFits ops.SaveFh = Unit {0}
 OpFits (ops.SetAttr id given) = StateIdFits id × AttrsFit given
 OpFits (ops.Verify given) = AttrsFit given
-OpFits (ops.Write id offset stable content) = StateIdFits id × IsLong offset × IsWord stable × (length content ≤ 131072)
+OpFits (ops.Write id offset stable content) = StateIdFits id × IsLong offset × IsWord stable × (length content ≤ DATA_LIMIT)
 OpFits (ops.ExchangeId verifier owner flags made) = (length verifier ≡ 8) × (length owner ≤ 1024) × IsWord flags × ImplementationFits made
 OpFits (ops.CreateSession x) = CreateSessionFits x
 OpFits (ops.DestroySession session) = length session ≡ 16

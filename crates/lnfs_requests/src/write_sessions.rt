@@ -11,6 +11,7 @@ use lnfs_arguments::numbers::{
     OP_EXCHANGE_ID, OP_RECLAIM_COMPLETE, OP_SEQUENCE, RPCSEC_GSS, SP4_NONE,
 };
 use lnfs_arguments::{Callback, CreateSession, Implementation, Op, Sequence, put_channel};
+use lnfs_attrs::put_words;
 use lnfs_lists::Octets;
 use lnfs_xdr::XdrWriter;
 use std::alloc::AllocError;
@@ -53,17 +54,6 @@ pub fn put_exchange_id(
     out.u32(flags)?;
     out.u32(SP4_NONE)?;
     put_implementation(out, implementation)
-}
-
-fn put_words(out: &mut XdrWriter, numbers: &[u32]) -> Result<(), AllocError>
-    requires { length numbers.now < 2 ^ 32 }
-    ensures { OnOk result (out.new ≡ out.old ++ words_text numbers.now) }
-{
-    out.u32(numbers.len() as u32)?;
-    for number in numbers {
-        out.u32(*number)?;
-    }
-    Ok(())
 }
 
 #[tactic(auto, unfolding(crate::specs::Texts::callback_text))]

@@ -1,5 +1,5 @@
 ghost use Rattle.std.specs.Prelude.{◌≡◌, IfOk};
-ghost use Rattle.lnfs_arguments.specs.Message.{Tells};
+ghost use Rattle.lnfs_xdr.specs.Message.{Tells};
 ghost use Rattle.lnfs_arguments.specs.Further.{Further, IsLawful};
 ghost use Rattle.lnfs_arguments.specs.Whole.{compound};
 ghost use Rattle.lnfs_requests.specs.Texts.{compound_text};

@@ -1,6 +1,6 @@
 -- The results of operations, one block each (RFC 8881 section 18), and the table by number.
 use Rattle.std.specs.Prelude.{ℕ, Bool, true, false, List, [], ◌∷◌, ◌==◌, nat_lt, if◌then◌else◌}
-use Rattle.lnfs_xdr.specs.Format.{Word, Long, Boolean, Among, Opaque, Fixed, Outside, Done, ◌>>=◌, when◌then◌else◌, times}
+use Rattle.lnfs_xdr.specs.Format.{Word, Long, Boolean, Among, Opaque, Fixed, Outside, Done, Linked, ◌>>=◌, when◌then◌else◌, times}
 use Rattle.lnfs_attrs.specs.Parsing.{Args}
 use Rattle.lnfs_attrs.specs.Bitmaps.{bitmap}
 use Rattle.lnfs_arguments.specs.Shared.{attrs, state_id, cinfo, channel}
@@ -9,7 +9,6 @@ use Rattle.lnfs_results.specs.declared.types.DirEntry.{DirEntry}
 use Rattle.lnfs_results.specs.declared.types.OpResult.{OpResult}
 use Rattle.lnfs_results.specs.declared.types.OpResult.TheVariants as results
 use Rattle.lnfs_results.specs.declared.types.Results.{Results}
-use Rattle.lnfs_results.specs.Lists.{linked}
 
 -- Bytes whose number the protocol does not bound. No item is read that has more bytes than this.
 abbrev pub longest : ℕ
@@ -63,7 +62,7 @@ rename = do
   target ← cinfo
   Done (results.Rename source target)
 
--- section 18.23; the entries are a list behind flags
+-- section 18.23; the entries are a linked list
 unfoldable pub entry : Args DirEntry
 entry = do
   cookie ← Long
@@ -71,10 +70,10 @@ entry = do
   given ← attrs
   Done (record { cookie = cookie; name = called; attrs = given })
 
-unfoldable pub readdir : ℕ → Args OpResult
-readdir most = do
+unfoldable pub readdir : Args OpResult
+readdir = do
   verifier ← Fixed 8
-  entries ← linked most entry
+  entries ← Linked entry
   eof ← Boolean
   Done (results.ReadDir verifier entries eof)
 
@@ -161,8 +160,8 @@ sequence = do
 
 -- ---- the table: what follows the status 0
 
-abbrev pub table : ℕ → List (ℕ × Args OpResult)
-table most = (op_access, access)
+abbrev pub table : List (ℕ × Args OpResult)
+table = (op_access, access)
     ∷ (op_close, close)
     ∷ (op_commit, commit)
     ∷ (op_create, create)
@@ -176,7 +175,7 @@ table most = (op_access, access)
     ∷ (op_putfh, Done results.PutFh)
     ∷ (op_putrootfh, Done results.PutRootFh)
     ∷ (op_read, reading)
-    ∷ (op_readdir, readdir most)
+    ∷ (op_readdir, readdir)
     ∷ (op_readlink, readlink)
     ∷ (op_remove, remove)
     ∷ (op_rename, rename)
@@ -198,14 +197,14 @@ is_in ((n, f) ∷ more) number = if number == n then true else is_in more number
 
 -- whether an operation of this number can succeed, SETATTR apart
 unfoldable pub is_served : ℕ → Bool
-is_served number = is_in (table 0) number
+is_served number = is_in table number
 
 abbrev pub row : List (ℕ × Args OpResult) → ℕ → Args OpResult
 row [] number = Outside (number, op_illegal)
 row ((n, f) ∷ more) number = when number == n then f else row more number
 
-unfoldable pub fields : ℕ → ℕ → Args OpResult
-fields most number = row (table most) number
+unfoldable pub fields : ℕ → Args OpResult
+fields number = row table number
 
 -- section 18.30: which attributes were set, after any status
 unfoldable pub setattr : Args OpResult
@@ -215,10 +214,10 @@ setattr = do
   Done (results.SetAttr status set)
 
 -- what follows the number of an operation that can succeed
-unfoldable pub served : ℕ → ℕ → Args OpResult
-served most number = do
+unfoldable pub served : ℕ → Args OpResult
+served number = do
   status ← Word
-  when status == 0 then fields most number else Done (results.Failed number status)
+  when status == 0 then fields number else Done (results.Failed number status)
 
 -- and of one that can't
 unfoldable pub unserved : ℕ → Args OpResult
@@ -226,19 +225,19 @@ unserved number = do
   status ← Among (λ n. nat_lt 0 n)
   Done (results.Failed number status)
 
-unfoldable pub op_result : ℕ → Args OpResult
-op_result most = do
+unfoldable pub op_result : Args OpResult
+op_result = do
   number ← Word
   when number == op_setattr then setattr
-      else when is_served number then served most number
+      else when is_served number then served number
       else unserved number
 
--- ---- the whole (section 16.2.2); most is the number of all bytes
+-- ---- the whole (section 16.2.2)
 
-unfoldable pub all_results : ℕ → Args Results
-all_results most = do
+unfoldable pub all_results : Args Results
+all_results = do
   status ← Word
   tag ← Opaque 1024
   count ← Word
-  done ← times count (op_result most)
+  done ← times count op_result
   Done (record { status = status; tag = tag; results = done })

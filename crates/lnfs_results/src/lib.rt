@@ -13,7 +13,7 @@ mod write_dir;
 mod write_fields;
 mod write_whole;
 
-pub use limits::result_bounds;
+pub use limits::{MOST_DATA, READ_HEAD, RESULT_HEAD, result_bound, result_bounds};
 pub use read_whole::read_results;
-pub use types::{DirEntry, NFS4_OK, OpResult, Results};
-pub use write_whole::{append_result, write_results};
+pub use types::{DirEntry, OpResult, Results};
+pub use write_whole::{append_head, append_result, write_results};

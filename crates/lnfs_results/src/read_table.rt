@@ -1,7 +1,8 @@
 //! The table of results by number, for reading.
 ghost use Rattle.std.specs.Prelude.{◌≡◌};
 ghost use Rattle.lnfs_xdr.specs.Reading.{read};
-ghost use Rattle.lnfs_arguments.specs.Parsing.{Parses};
+ghost use Rattle.lnfs_xdr.specs.Cursor.{Parses};
+ghost use Rattle.lnfs_arguments.specs.Parsing.{ParsesInMemory};
 ghost use Rattle.lnfs_results.specs.Grammar.{is_served, fields, served, unserved, op_result};
 
 use crate::read_dir::readdir_of;
@@ -11,7 +12,7 @@ use crate::read_names::{
     setattr_of,
 };
 use crate::read_sessions::{create_session_of, exchange_id_of, sequence_of};
-use crate::types::{NFS4_OK, OpResult};
+use crate::types::OpResult;
 use lnfs_arguments::Halt;
 use lnfs_arguments::numbers::{
     OP_ACCESS, OP_CLOSE, OP_COMMIT, OP_CREATE, OP_CREATE_SESSION, OP_DESTROY_CLIENTID,
@@ -20,7 +21,8 @@ use lnfs_arguments::numbers::{
     OP_RECLAIM_COMPLETE, OP_REMOVE, OP_RENAME, OP_RESTOREFH, OP_SAVEFH, OP_SEQUENCE, OP_SETATTR,
     OP_VERIFY, OP_WRITE,
 };
-use lnfs_xdr::XdrReader;
+use lnfs_arguments::statuses::NFS4_OK;
+use lnfs_xdr::{XdrError, XdrReader};
 use std::alloc::Global;
 
 /// Whether an operation of this number can succeed, SETATTR apart.
@@ -63,41 +65,36 @@ fn serves(number: u32) -> bool
 
 /// What follows the status 0 of the operation of a number.
 #[tactic(auto, unfolding(crate::specs::Grammar::fields))]
-fn fields_of(
-    alloc: Global,
-    reader: &mut XdrReader<'_>,
-    number: u32,
-    most: usize,
-) -> Result<OpResult, Halt>
-    ensures { Parses (λ x. x) result reader.old reader.new (read (fields most number) reader.old.rest) }
+fn fields_of(alloc: Global, reader: &mut XdrReader<'_>, number: u32) -> Result<OpResult, Halt>
+    ensures { ParsesInMemory (λ x. x) result reader.old reader.new (read (fields number) reader.old.rest) }
 {
     match number {
-        OP_ACCESS => access_of(reader),
-        OP_CLOSE => close_of(reader),
-        OP_COMMIT => commit_of(reader),
-        OP_CREATE => create_of(reader),
+        OP_ACCESS => Ok(access_of(reader)?),
+        OP_CLOSE => Ok(close_of(reader)?),
+        OP_COMMIT => Ok(commit_of(reader)?),
+        OP_CREATE => Ok(create_of(reader)?),
         OP_GETATTR => getattr_of(alloc, reader),
         OP_GETFH => getfh_of(alloc, reader),
-        OP_LINK => link_of(reader),
+        OP_LINK => Ok(link_of(reader)?),
         OP_LOOKUP => Ok(OpResult::Lookup),
         OP_LOOKUPP => Ok(OpResult::LookupP),
         OP_NVERIFY => Ok(OpResult::NVerify),
-        OP_OPEN => open_of(reader),
+        OP_OPEN => Ok(open_of(reader)?),
         OP_PUTFH => Ok(OpResult::PutFh),
         OP_PUTROOTFH => Ok(OpResult::PutRootFh),
         OP_READ => read_of(alloc, reader),
-        OP_READDIR => readdir_of(alloc, reader, most),
+        OP_READDIR => readdir_of(alloc, reader),
         OP_READLINK => readlink_of(alloc, reader),
-        OP_REMOVE => remove_of(reader),
-        OP_RENAME => rename_of(reader),
+        OP_REMOVE => Ok(remove_of(reader)?),
+        OP_RENAME => Ok(rename_of(reader)?),
         OP_RESTOREFH => Ok(OpResult::RestoreFh),
         OP_SAVEFH => Ok(OpResult::SaveFh),
         OP_VERIFY => Ok(OpResult::Verify),
-        OP_WRITE => write_of(reader),
+        OP_WRITE => Ok(write_of(reader)?),
         OP_EXCHANGE_ID => exchange_id_of(alloc, reader),
-        OP_CREATE_SESSION => create_session_of(reader),
+        OP_CREATE_SESSION => Ok(create_session_of(reader)?),
         OP_DESTROY_SESSION => Ok(OpResult::DestroySession),
-        OP_SEQUENCE => sequence_of(reader),
+        OP_SEQUENCE => Ok(sequence_of(reader)?),
         OP_DESTROY_CLIENTID => Ok(OpResult::DestroyClientId),
         OP_RECLAIM_COMPLETE => Ok(OpResult::ReclaimComplete),
         // `serves` keeps such a number out.
@@ -110,42 +107,37 @@ fn fields_of(
 
 /// What follows the number of an operation that can succeed.
 #[tactic(auto, unfolding(crate::specs::Grammar::served))]
-fn served_of(
-    alloc: Global,
-    reader: &mut XdrReader<'_>,
-    number: u32,
-    most: usize,
-) -> Result<OpResult, Halt>
-    ensures { Parses (λ x. x) result reader.old reader.new (read (served most number) reader.old.rest) }
+fn served_of(alloc: Global, reader: &mut XdrReader<'_>, number: u32) -> Result<OpResult, Halt>
+    ensures { ParsesInMemory (λ x. x) result reader.old reader.new (read (served number) reader.old.rest) }
 {
     let status = reader.u32()?;
     if status != NFS4_OK {
         return Ok(OpResult::Failed { number, status });
     }
-    fields_of(alloc, reader, number, most)
+    fields_of(alloc, reader, number)
 }
 
 /// What follows the number of another, which is a status other than 0.
 #[tactic(auto, unfolding(crate::specs::Grammar::unserved))]
-fn unserved_of(reader: &mut XdrReader<'_>, number: u32) -> Result<OpResult, Halt>
+fn unserved_of(reader: &mut XdrReader<'_>, number: u32) -> Result<OpResult, XdrError>
     ensures { Parses (λ x. x) result reader.old reader.new (read (unserved number) reader.old.rest) }
 {
     let status = reader.nonzero()?;
     Ok(OpResult::Failed { number, status })
 }
 
-/// One result. A list within it has at most so many elements.
+/// One result.
 #[tactic(auto, unfolding(crate::specs::Grammar::op_result))]
-pub fn result_of(alloc: Global, reader: &mut XdrReader<'_>, most: usize) -> Result<OpResult, Halt>
-    ensures { Parses (λ x. x) result reader.old reader.new (read (op_result most) reader.old.rest) }
+pub fn result_of(alloc: Global, reader: &mut XdrReader<'_>) -> Result<OpResult, Halt>
+    ensures { ParsesInMemory (λ x. x) result reader.old reader.new (read op_result reader.old.rest) }
 {
     let number = reader.u32()?;
     if number == OP_SETATTR {
-        return setattr_of(reader);
+        return Ok(setattr_of(reader)?);
     }
     if serves(number) {
-        served_of(alloc, reader, number, most)
+        served_of(alloc, reader, number)
     } else {
-        unserved_of(reader, number)
+        Ok(unserved_of(reader, number)?)
     }
 }

@@ -1,6 +1,6 @@
 ghost use Rattle.std.specs.Prelude.{◌≡◌};
 ghost use Rattle.lnfs_xdr.specs.Reading.{read};
-ghost use Rattle.lnfs_rpc.specs.Parsing.{Parses};
+ghost use Rattle.lnfs_xdr.specs.Cursor.{Parses};
 ghost use Rattle.lnfs_rpc.specs.Calls.{opening, auth, target, refusal, call_of, seen_auth, IsCallRead};
 ghost use Rattle.lnfs_rpc.specs.Targets.{seen_target};
 

@@ -30,13 +30,8 @@ pub const PROG_MISMATCH: u32 = 2;
 
 pub const PROC_UNAVAIL: u32 = 3;
 
-/// The most bytes in the name of a machine (RFC 5531 appendix A).
-pub const NAME_LIMIT: u32 = 255;
-/// The most groups of an AUTH_SYS credential.
-pub const GROUP_LIMIT: u32 = 16;
-
 /// The most bytes in a record.
-pub const RECORD_LIMIT: usize = 131072;
+pub const RECORD_LIMIT: usize = lnfs_lists::RECORD_LIMIT as usize;
 /// The most fragments of a record.
 pub const FRAGMENT_LIMIT: u32 = 4096;
 /// The bytes of a fragment's head (RFC 5531 section 11).

@@ -1,6 +1,6 @@
 ghost use Rattle.std.specs.Prelude.{◌≡◌, ◌++◌, ◌≤◌, ◌+◌, length, IfOk, OnOk};
 ghost use Rattle.lnfs_xdr.specs.Reading.{read};
-ghost use Rattle.lnfs_rpc.specs.Parsing.{Parses};
+ghost use Rattle.lnfs_xdr.specs.Cursor.{Parses};
 ghost use Rattle.lnfs_rpc.specs.Replies.{head_text, reply_text, reply_head, reply_start, reply_of, seen_head, BodyFits, ResultsFit, IsReplyRead};
 
 use crate::calls::{Auth, auth_of};

@@ -1,6 +1,6 @@
 -- What holds of every COMPOUND that is read: its tag is short, its operations are few, and what is
 -- outside of the profile fails.
-use Rattle.std.proofs.Common.{◌≡◌, ◌≢◌, ◌≤◌, ◌<◌, ◌+◌, ℕ, zero, suc, Bool, true, false, cond, List, [], ◌∷◌, ◌++◌, length, take, drop, Ok, Err, nat_lt, nat_le, refl, sym, ap, ◌∙◌, subst, arith}
+use Rattle.std.proofs.Common.{◌≡◌, ◌≢◌, ◌≤◌, ◌<◌, ◌+◌, ℕ, zero, suc, Bool, true, false, cond, eqb, List, [], ◌∷◌, ◌++◌, length, take, drop, Ok, Err, nat_lt, nat_le, refl, sym, ap, ◌∙◌, subst, arith}
 use Rattle.std.specs.Prelude.{◌==◌, Result}
 use Rattle.std.specs.List.{AllByRecursion}
 use Rattle.std.specs.Int.{w32}
@@ -9,14 +9,14 @@ use Rattle.std.proofs.lemmas.Bool.Decides.{nat_tests}
 use Rattle.std.proofs.lemmas.List.{length-take, length-append}
 use Rattle.lnfs_xdr.specs.declared.error.XdrError.{XdrError}
 use Rattle.lnfs_xdr.specs.declared.error.XdrError.TheVariants.{Short, TooLong}
-use Rattle.lnfs_xdr.specs.Format.{Format, Word, Opaque, Done, Then, padding}
+use Rattle.lnfs_xdr.specs.Format.{Format, Word, Opaque, Done, If, Then, padding}
 use Rattle.lnfs_xdr.specs.Reading.{Read, Stop, Fault, Leaves, read, number_at, count_at, padded_at, opaque_at}
 use Rattle.lnfs_xdr.proofs.Fields.{after_ok, guard_ok, here_ok}
 use Rattle.lnfs_arguments.specs.declared.types.Op.{Op}
 use Rattle.lnfs_arguments.specs.declared.types.Op.TheVariants as ops
 use Rattle.lnfs_arguments.specs.declared.types.Compound.{Compound}
 use Rattle.lnfs_arguments.specs.Grammar.{arguments}
-use Rattle.lnfs_arguments.specs.Message.{Message, Closed, Unread, Next, Measured, parse, decided, cut_at}
+use Rattle.lnfs_xdr.specs.Message.{Message, Closed, Unread, Next, Measured, parse, decided, cut_at}
 use Rattle.lnfs_arguments.specs.Further.{Further}
 use Rattle.lnfs_arguments.specs.Whole.{header, compound, operations, served, is_cut, with_op, ended, chosen}
 
@@ -56,9 +56,16 @@ record Begins (c : Compound) : Type 0 where
   short : length c.tag ≤ 1024
   none : c.ops ≡ []
 
+gives_if : {E A : Type 0} {f g : Format E A} {P : A → Type 0} (b : Bool) → Gives f P → Gives g P → Gives (If b f g) P
+gives_if true first other = record { is = λ bytes x e. first.is bytes x e }
+gives_if false first other = record { is = λ bytes x e. other.is bytes x e }
+
 header_gives : Gives header Begins
 unfolding header
-header_gives = gives_then (λ tag. length tag ≤ 1024) (gives_opaque 1024) (λ tag short. gives_then (λ x. Unit {0}) (gives_any Word) (λ minor _. gives_then (λ x. Unit {0}) (gives_any Word) (λ count _. gives_done (record { tag = tag; minor = minor; count = count; ops = [] }) (record { short = short; none = refl }))))
+header_gives = gives_then (λ tag. length tag ≤ 1024) (gives_opaque 1024) (λ tag short. gives_then (λ x. Unit {0}) (gives_any Word) (λ minor _.
+    gives_if (eqb minor 2)
+    (gives_then (λ x. Unit {0}) (gives_any Word) (λ count _. gives_done (record { tag = tag; minor = minor; count = count; ops = [] }) (record { short = short; none = refl })))
+    (gives_done (record { tag = tag; minor = minor; count = 0; ops = [] }) (record { short = short; none = refl }))))
 
 -- whatever a message tells has the property
 record Tells {B : Type 0} (m : Message B) (P : B → Type 0) : Type 0 where

@@ -16,7 +16,7 @@ use Rattle.lnfs_attrs.specs.Bitmaps.{bitmap_text, trimmed, words_text}
 use Rattle.lnfs_arguments.specs.declared.types.Op.{Op}
 use Rattle.lnfs_arguments.specs.declared.types.Op.TheVariants as ops
 use Rattle.lnfs_arguments.specs.declared.types.Compound.{Compound}
-use Rattle.lnfs_arguments.specs.Message.{parse}
+use Rattle.lnfs_xdr.specs.Message.{parse}
 use Rattle.lnfs_arguments.specs.Whole.{compound}
 use Rattle.lnfs_arguments.specs.Further.{nothing_further}
 use Rattle.lnfs_results.specs.declared.types.OpResult.{OpResult}

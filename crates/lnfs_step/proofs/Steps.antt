@@ -1,7 +1,7 @@
 -- Both laws of erasure for a step, and the purge law for its journals.
 use Rattle.std.specs.Prelude.{◌==◌, if◌then◌else◌}
 use Rattle.std.proofs.Common.{◌≡◌, ℕ, true, false, List, [], ◌∷◌, ◌++◌, Option, Some, None, refl, sym, ap, ◌∙◌, subst}
-use Rattle.lnfs_calipso.specs.Label.{IsLattice}
+use Rattle.lnfs_calipso.specs.Label.{IsPreorderWithBottom}
 use Rattle.lnfs_outside.specs.declared.event.Event.{Event}
 use Rattle.lnfs_policy.specs.Policy.{Policy, dominance}
 use Rattle.lnfs_world.specs.World.{World, empty, erased}
@@ -19,7 +19,7 @@ use Rattle.lnfs_step.specs.Step.{Step, step_of, step}
 use Rattle.lnfs_step.specs.Journal.{world_from, world_after, is_dominated, purged, reply_at, answer, answer_to}
 use Rattle.lnfs_step.proofs.Purging.{state_from, reply_purged, journal_keeps}
 
-module _ (p : Policy) (lattice : IsLattice (dominance p)) where
+module _ (p : Policy) (lattice : IsPreorderWithBottom (dominance p)) where
   of_seen : (l s : ℕ) (r : Request) (a b : World) → level_in r ≡ Some s → dominance p l s ≡ true → Facts (dominance p) a → Facts (dominance p) b → erased (dominance p) l a ≡ erased (dominance p) l b → ((step_of a r).reply ≡ (step_of b r).reply) × (erased (dominance p) l (step_of a r).world ≡ erased (dominance p) l (step_of b r).world)
   of_seen l s Silent a b is above fa fb e = (refl, e)
   of_seen l s (Refused level xid cause) a b is above fa fb e = (refl, e)

@@ -8,7 +8,7 @@ use Rattle.lnfs_rpc.specs.Calls.{OpaqueAuth, CallMessage, call_of}
 use Rattle.lnfs_rpc.specs.Sys.{sys_of}
 use Rattle.lnfs_rpc.specs.Replies.{ReplyHead, accepted, version_mismatch, auth_error}
 use Rattle.lnfs_arguments.specs.declared.types.Compound.{Compound}
-use Rattle.lnfs_arguments.specs.Message.{parse}
+use Rattle.lnfs_xdr.specs.Message.{parse}
 use Rattle.lnfs_arguments.specs.Whole.{compound}
 use Rattle.lnfs_arguments.specs.Further.{nothing_further}
 use Rattle.lnfs_policy.specs.Policy.{Policy, guest_level}

@@ -1,6 +1,5 @@
 -- Operations in order: what ran, and what is ahead.
-use Rattle.std.proofs.Common.{◌≡◌, ◌≤◌, ◌<◌, ◌+◌, ◌-◌, ℕ, zero, suc, List, [], ◌∷◌, ◌++◌, length, drop, get_or, Option, Some, None, refl, sym, ap, ◌∙◌, subst, append_assoc, append-nil, arith}
-use Rattle.std.specs.Prelude.{option_map}
+use Rattle.std.proofs.Common.{◌≡◌, ◌≤◌, ◌<◌, ◌+◌, ◌-◌, ℕ, zero, suc, List, [], ◌∷◌, ◌++◌, length, drop, get_or, Some, None, refl, sym, ap, ◌∙◌, subst, append_assoc, append-nil, arith}
 use Rattle.std.specs.List.{flat_map, slice_get}
 use Rattle.std.proofs.lemmas.List.Concat.{flat_map-cons}
 use Rattle.lnfs_xdr.specs.Canon.{word, opaque}
@@ -12,15 +11,13 @@ use Rattle.lnfs_results.specs.declared.types.OpResult.{OpResult}
 use Rattle.lnfs_results.specs.Numbered.{status_of, status_or_none, status_of_all}
 use Rattle.lnfs_results.specs.Texts.{result_text, results_text}
 use Rattle.lnfs_world.specs.World.{World}
-use Rattle.lnfs_world.specs.Outcome.{Outcome, done_to}
-use Rattle.lnfs_operations.specs.Chain.{Answer, Done, Refused}
+use Rattle.lnfs_world.specs.Outcome.{done_to}
+use Rattle.lnfs_operations.specs.Chain.{Done, Refused}
 use Rattle.lnfs_operations.specs.ExchangeId.{Told}
 use Rattle.lnfs_operations.specs.Table.{told_result, failed, outcome_of}
 use Rattle.lnfs_operations.specs.Compound.{Ran, followed, run_from, results_of}
 use Rattle.lnfs_vault.specs.declared.clients.Refusal.{Refusal}
-use Rattle.lnfs_vault.specs.declared.run.Denial.{Denial}
-use Rattle.lnfs_vault.specs.declared.run.Ended.{Ended}
-use Rattle.lnfs_vault.specs.Runs.{Performs, Ends, seen_denial}
+use Rattle.lnfs_vault.specs.Runs.{Performs, Ends}
 
 -- what is left of a run, after so many operations
 pub record Ahead (start out : List ℕ) (place : ℕ) (total rest : Ran) : Type 0 where

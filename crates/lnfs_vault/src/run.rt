@@ -8,14 +8,15 @@ ghost use Rattle.lnfs_vault.specs.Answers.{seen_answer};
 ghost use Rattle.lnfs_vault.specs.Runs.{Performs, Ends, IsRun};
 
 use crate::clients::{Clients, ExchangeId, Refusal, Told};
-use crate::results::{put_failed, put_told};
+use crate::results::{failed, told_result};
 use lnfs_arguments::numbers::MINOR;
+use lnfs_arguments::statuses::NFS4_OK;
 use lnfs_arguments::{Compound, Op};
 use lnfs_operations::Gate;
 use lnfs_operations::numbers::{NFS4ERR_MINOR_VERS_MISMATCH, NFS4ERR_NOT_ONLY_OP, NFS4ERR_NOTSUPP};
-use lnfs_results::NFS4_OK;
+use lnfs_results::append_result;
 use lnfs_xdr::XdrWriter;
-use std::alloc::AllocError;
+use std::alloc::{AllocError, Global};
 
 /// What was refused: the operation's place in its COMPOUND, from 1, and its number as it was sent;
 /// both 0 where the COMPOUND as a whole was.
@@ -82,6 +83,7 @@ fn outcome_of(
 
 /// Runs an operation and appends its result. Says what refused it, if anything did.
 fn perform(
+    alloc: Global,
     clients: &mut Clients,
     level: u32,
     compound: &Compound,
@@ -92,11 +94,11 @@ fn perform(
 {
     match outcome_of(clients, level, compound, op)? {
         Ok(told) => {
-            put_told(out, level, &told)?;
+            append_result(out, &told_result(alloc, level, &told)?)?;
             Ok(None)
         }
         Err(refusal) => {
-            put_failed(out, op, refusal.status)?;
+            append_result(out, &failed(op, refusal.status))?;
             Ok(Some(refusal))
         }
     }
@@ -104,6 +106,7 @@ fn perform(
 
 /// Runs the operations that were read, and appends their results.
 fn run_all(
+    alloc: Global,
     clients: &mut Clients,
     level: u32,
     compound: &Compound,
@@ -117,7 +120,7 @@ fn run_all(
     while place < ops.len() {
         let op = &ops[place];
         place += 1;
-        if let Some(refusal) = perform(clients, level, compound, op, out)? {
+        if let Some(refusal) = perform(alloc, clients, level, compound, op, out)? {
             return Ok(Ended {
                 status: refusal.status,
                 count: place as u32,
@@ -139,6 +142,7 @@ fn run_all(
 /// Runs a COMPOUND of a level, and appends its results. Another minor version is refused as a whole.
 #[tactic(auto, unfolding(lnfs_operations::specs::Compound::run))]
 pub fn run(
+    alloc: Global,
     clients: &mut Clients,
     level: u32,
     compound: &Compound,
@@ -161,5 +165,5 @@ pub fn run(
             }),
         });
     }
-    run_all(clients, level, compound, out)
+    run_all(alloc, clients, level, compound, out)
 }

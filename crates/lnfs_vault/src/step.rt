@@ -152,7 +152,7 @@ fn compound(
     ensures { IfOk result (Says at clients.new (step_of clients.old (asked level.0 xid compound.now))) }
 {
     let mut out = XdrWriter::new(alloc);
-    let ended = run(clients, level.0, compound, &mut out)?;
+    let ended = run(alloc, clients, level.0, compound, &mut out)?;
     let results = results_of(
         alloc,
         ended.status,

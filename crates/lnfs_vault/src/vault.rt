@@ -125,7 +125,7 @@ impl Vault {
         ensures facts { Facts (dominance self.new.policy) (world_after self.new.policy self.new.journal) }
     {
         purge();
-        self.policy.is_ordered();
+        self.policy.is_preordered();
         if self.stopped {
             return Err(AllocError);
         }

@@ -1,7 +1,7 @@
 -- View and footprint give both laws of erasure, for any operation.
 use Rattle.std.proofs.Common.{◌≡◌, ℕ, Bool, true, false, List, [], ◌∷◌, refl, sym, ◌∙◌, ap, subst}
 use Rattle.std.proofs.lemmas.Bool.{and_parts}
-use Rattle.lnfs_calipso.specs.Label.{IsLattice}
+use Rattle.lnfs_calipso.specs.Label.{IsPreorderWithBottom}
 use Rattle.lnfs_world.specs.World.{World, empty, erased}
 use Rattle.lnfs_world.specs.Change.{Change, apply, apply_all}
 use Rattle.lnfs_world.specs.Facts.{Facts, all_within}
@@ -14,7 +14,7 @@ use Rattle.lnfs_world.proofs.Kept.{keeps}
 pub empty_holds : (dom : ℕ → ℕ → Bool) → Facts dom empty
 empty_holds dom = record { clients_rise = tt; lasts_rise = tt; numbers = tt; rivals = tt }
 
-module _ (dom : ℕ → ℕ → Bool) (lattice : IsLattice dom) where
+module _ (dom : ℕ → ℕ → Bool) (lattice : IsPreorderWithBottom dom) where
   -- who sees less sees it of what is seen
   pub erased_twice : (level s : ℕ) (w : World) → dom level s ≡ true → erased dom s (erased dom level w) ≡ erased dom s w
   erased_twice level s w above = world_same _ _

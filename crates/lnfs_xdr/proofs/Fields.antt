@@ -1,5 +1,5 @@
 -- Each item: what is read is spelled so, what is spelled so is read, and a fault is a lack of any spelling.
-use Rattle.std.proofs.Common.{◌≡◌, ◌⊎◌, ℕ, ◌+◌, ◌^◌, ◌<◌, ◌≤◌, Bool, true, false, cond, ltb, eqb, List, ◌++◌, length, get_or, take, drop, Result, Ok, Err, refl, sym, ap, subst, ◌∙◌, append_assoc, arith, inl, inr}
+use Rattle.std.proofs.Common.{◌≡◌, ◌⊎◌, ℕ, ◌+◌, ◌^◌, ◌<◌, ◌≤◌, Bool, true, false, cond, ltb, eqb, List, [], ◌∷◌, ◌++◌, length, get_or, take, drop, Result, Ok, Err, refl, sym, ap, subst, ◌∙◌, append_assoc, arith, inl, inr}
 use Rattle.std.specs.Int.{Width, w32, w64, byte_len, from_be_bytes, to_be_bytes}
 use Rattle.std.proofs.lemmas.Bool.{cases_lt, ltb-false, le-ltb, eqb-true}
 use Rattle.std.proofs.lemmas.List.{take_at, drop_at, take-append-drop, length-append, length-take, length-drop, get_or-drop, get_or-take, get_or_past}
@@ -25,10 +25,19 @@ IsBytes-take n bytes h i =
 pub IsBytes-back : (front rest bytes : List ℕ) → bytes ≡ front ++ rest → IsBytes bytes → IsBytes rest
 IsBytes-back front rest bytes e h = rw (← drop_at front rest (length front) refl, ← e) (IsBytes-drop (length front) bytes h)
 
+pub no_bytes : (bytes : List ℕ) → length bytes ≤ 0 → bytes ≡ []
+no_bytes [] le = refl
+no_bytes (b ∷ bytes) le = absurd (omega arith)
+
 -- the value of a step that did not stop
 pub after_ok : {D A B : Type 0} (r : Result (A × List ℕ) D) (k : A → List ℕ → Result (B × List ℕ) D) (y : B × List ℕ) → after r k ≡ Ok y → (x : A × List ℕ) × (r ≡ Ok x) × (k x.0 x.1 ≡ Ok y)
 after_ok (Ok x) k y e = (x, refl, e)
 after_ok (Err d) k y e = absurd cc
+
+-- which step of two stopped
+pub after_err : {D A B : Type 0} (r : Result (A × List ℕ) D) (k : A → List ℕ → Result (B × List ℕ) D) (d : D) → after r k ≡ Err d → (r ≡ Err d) ⊎ (x : A × List ℕ) × (r ≡ Ok x) × (k x.0 x.1 ≡ Err d)
+after_err (Ok x) k d e = inr (x, refl, e)
+after_err (Err c) k d e = inl cc
 
 -- which way a test went
 pub chosen : {A : Type 0} (b : Bool) (x y z : A) → cond b x y ≡ z → ((b ≡ true) × (x ≡ z)) ⊎ ((b ≡ false) × (y ≡ z))

@@ -1,10 +1,12 @@
 -- The laws, once for all formats.
-use Rattle.std.proofs.Common.{◌≡◌, ◌⊎◌, ℕ, ◌^◌, true, false, List, [], ◌++◌, Ok, Err, refl, sym, ap, subst, ◌∙◌, append_assoc, inl, inr}
+use Rattle.std.proofs.Common.{◌≡◌, ◌⊎◌, ℕ, ◌<◌, ◌^◌, true, false, List, [], ◌++◌, length, Ok, Err, refl, sym, ap, subst, ◌∙◌, append_assoc, length-append, arith, inl, inr}
 use Rattle.std.specs.Int.{w32, w64, to_be_bytes}
 use Rattle.lnfs_xdr.specs.declared.error.XdrError.{XdrError}
-use Rattle.lnfs_xdr.specs.Format.{Format, Word, Long, Boolean, Count, Among, Opaque, Fixed, Outside, Done, If, Then, Spells, NoneAt, Stuck, Leaving, Raw}
+use Rattle.lnfs_xdr.specs.Format.{Format, Word, Long, Boolean, Count, Among, Opaque, Fixed, Outside, Done, If, Then, Linked, Spells, NoneAt, Stuck, Leaving, Raw}
 use Rattle.lnfs_xdr.specs.Reading.{Stop, Fault, Leaves, Read, here, after, number_at, boolean_at, count_at, among_at, padded_at, opaque_at, read, raw_at}
-use Rattle.lnfs_xdr.proofs.Fields.{IsBytes, IsBytes-back, after_ok, Takes-then, Found, Whole, wide64, number_takes, number_again, word_takes, word_again, boolean_takes, boolean_again, count_takes, count_again, among_takes, among_again, fixed_takes, padded_again, opaque_takes, opaque_again, here_ok, whole, raw_takes, raw_again}
+use Rattle.lnfs_xdr.proofs.Fields.{IsBytes, IsBytes-back, after_err, after_ok, Takes-then, Found, Whole, wide64, number_takes, number_again, word_takes, word_again, boolean_takes, boolean_again, count_takes, count_again, among_takes, among_again, fixed_takes, padded_again, opaque_takes, opaque_again, here_ok, whole, raw_takes, raw_again}
+use Rattle.lnfs_xdr.proofs.Chains.{on, off, chain_found, chain_again}
+use Rattle.lnfs_xdr.proofs.ChainStops.{chain_stuck, chain_leaves, linked_stops, word_stops, element_stops}
 
 -- what is read is spelled at the front
 pub found : {E A : Type 0} (f : Format E A) (bytes : List ℕ) (x : A × List ℕ) → IsBytes bytes → read f bytes ≡ Ok x → Found f bytes x.0 x.1
@@ -31,6 +33,9 @@ found {E} (Then f k) bytes x fits e =
       spelled = (a.0.0, first.front, second.front, first.spelled, second.spelled, refl);
       takes = Takes-then bytes first.front a.0.1 second.front x.1 first.takes second.takes;
     }
+found {E} (Linked f) bytes x fits e =
+    let t = chain_found f (found f) (length bytes) bytes x fits e in
+    record { front = t.front ++ off; spelled = (t.front, t.chains, refl); takes = t.takes }
 
 -- what is spelled at the front is read
 pub again : {E A : Type 0} (f : Format E A) (x : A) (front rest : List ℕ) → Spells f x front → read f (front ++ rest) ≡ Ok (x, rest)
@@ -50,6 +55,10 @@ again (Then f k) x front rest s =
     let group : front ++ rest ≡ s.1 ++ (s.2 ++ rest) = ap (λ (b : List ℕ). b ++ rest) s.5 ∙ append_assoc s.1 s.2 rest in
     let first : read f (front ++ rest) ≡ Ok (s.0, s.2 ++ rest) = ap (read f) group ∙ again f s.0 s.1 (s.2 ++ rest) s.3 in
     ap (λ r. after r (λ a rest. read (k a) rest)) first ∙ again (k s.0) x s.2 rest s.4
+again (Linked f) xs front rest s =
+    let group : front ++ rest ≡ s.0 ++ (off ++ rest) = ap (λ (b : List ℕ). b ++ rest) s.2 ∙ append_assoc s.0 off rest in
+    let enough : length s.0 < length (s.0 ++ (off ++ rest)) = omega (arith, length-append s.0 (off ++ rest), length-append off rest) in
+    ap (read (Linked f)) group ∙ chain_again f (again f) (length (s.0 ++ (off ++ rest))) xs s.0 rest s.1 enough
 
 -- ---- where reading stops
 
@@ -86,11 +95,6 @@ item_faults : {E A : Type 0} (f : Format E A) (bytes stuck : List ℕ) → IsByt
 item_faults f bytes stuck fits (inl w) s = absurd (some_at f bytes w.0 fits w.1 s.0)
 item_faults f bytes stuck fits (inr w) s = (w.0, w.1 ∙ ap (λ (b : List ℕ). Err (Fault w.0 b)) s.1)
 
--- which step of two stopped
-after_err : {E A B : Type 0} (r : Read E A) (k : A → List ℕ → Read E B) (d : Stop E) → after r k ≡ Err d → (r ≡ Err d) ⊎ (x : A × List ℕ) × (r ≡ Ok x) × (k x.0 x.1 ≡ Err d)
-after_err (Ok x) k d e = inr (x, refl, e)
-after_err (Err c) k d e = inl cc
-
 -- a fault is the first item that isn't there
 pub stuck_at : {E A : Type 0} (f : Format E A) (bytes : List ℕ) (c : XdrError) (stuck : List ℕ) → IsBytes bytes → read f bytes ≡ Err (Fault c stuck) → Stuck f bytes stuck
 stuck_at Word bytes c stuck fits e = item_stuck Word bytes c stuck (whole bytes (number_at w32 bytes)) e
@@ -111,6 +115,7 @@ stuck_at (Then f k) bytes c stuck fits e =
       | inr later ↦ let t = found f bytes later.0 fits later.1 in
           inr (later.0.0, t.front, later.0.1, t.spelled, t.takes.parts, stuck_at (k later.0.0) later.0.1 c stuck t.takes.rest_fits later.2)
     ]
+stuck_at (Linked f) bytes c stuck fits e = chain_stuck f (found f) (stuck_at f) (length bytes) bytes c stuck fits (omega arith) e
 
 -- and the first item that isn't there is a fault
 pub faults_at : {E A : Type 0} (f : Format E A) (bytes stuck : List ℕ) → IsBytes bytes → Stuck f bytes stuck → (c : XdrError) × (read f bytes ≡ Err (Fault c stuck))
@@ -135,6 +140,16 @@ faults_at (Then f k) bytes stuck fits s =
           let t = faults_at (k later.0) later.2 stuck rest_fits later.5 in
           (t.0, ap (λ r. after r (λ a rest. read (k a) rest)) first ∙ t.1)
     ]
+faults_at {E} (Linked f) bytes stuck fits s =
+    let back_fits : IsBytes s.2 = IsBytes-back s.1 s.2 bytes s.4 fits in
+    elim s.5 [
+      | inl none ↦
+          let t = item_faults {E = E} Boolean s.2 stuck back_fits (whole s.2 (boolean_at s.2)) none in
+          (t.0, linked_stops f (again f) s.0 s.1 s.2 bytes (Fault t.0 stuck) s.3 s.4 (word_stops (read f) s.2 (Fault t.0 stuck) t.1))
+      | inr more ↦
+          let t = faults_at f more.0 stuck (IsBytes-back on more.0 s.2 more.1 back_fits) more.2 in
+          (t.0, linked_stops f (again f) s.0 s.1 s.2 bytes (Fault t.0 stuck) s.3 s.4 (element_stops (read f) s.2 more.0 (Fault t.0 stuck) more.1 t.1))
+    ]
 
 -- the same of what is left unread
 pub leaves_at : {E A : Type 0} (f : Format E A) (bytes : List ℕ) (status : E) → IsBytes bytes → read f bytes ≡ Err (Leaves status) → Leaving f bytes status
@@ -156,6 +171,7 @@ leaves_at (Then f k) bytes status fits e =
       | inr later ↦ let t = found f bytes later.0 fits later.1 in
           inr (later.0.0, t.front, later.0.1, t.spelled, t.takes.parts, leaves_at (k later.0.0) later.0.1 status t.takes.rest_fits later.2)
     ]
+leaves_at (Linked f) bytes status fits e = chain_leaves f (found f) (leaves_at f) (length bytes) bytes status fits e
 
 pub left_at : {E A : Type 0} (f : Format E A) (bytes : List ℕ) (status : E) → IsBytes bytes → Leaving f bytes status → read f bytes ≡ Err (Leaves status)
 left_at {E} Word bytes status fits s = absurd s
@@ -178,6 +194,10 @@ left_at {E} (Then f k) bytes status fits s =
           let rest_fits : IsBytes later.2 = IsBytes-back later.1 later.2 bytes later.4 fits in
           ap (λ r. after r (λ a rest. read (k a) rest)) first ∙ left_at (k later.0) later.2 status rest_fits later.5
     ]
+left_at {E} (Linked f) bytes status fits s =
+    let back_fits : IsBytes (on ++ s.2) = IsBytes-back s.1 (on ++ s.2) bytes s.4 fits in
+    let there = left_at f s.2 status (IsBytes-back on s.2 (on ++ s.2) refl back_fits) s.5 in
+    linked_stops f (again f) s.0 s.1 (on ++ s.2) bytes (Leaves status) s.3 s.4 (element_stops (read f) (on ++ s.2) s.2 (Leaves status) refl there)
 
 -- no spelling begins another
 pub one_spelling : {E A : Type 0} (f : Format E A) (x y : A) (a b c d : List ℕ) → Spells f x a → Spells f y b → a ++ c ≡ b ++ d → (x ≡ y) × (c ≡ d)
@@ -204,4 +224,7 @@ leaving_longer (Then f k) bytes more e s =
       | inl here ↦ inl (leaving_longer f bytes more e here)
       | inr later ↦ inr (later.0, later.1, later.2 ++ more, later.3, ap (λ (b : List ℕ). b ++ more) later.4 ∙ append_assoc later.1 later.2 more, leaving_longer (k later.0) later.2 more e later.5)
     ]
+leaving_longer (Linked f) bytes more e s =
+    let parts : bytes ++ more ≡ s.1 ++ (on ++ (s.2 ++ more)) = ap (λ (b : List ℕ). b ++ more) s.4 ∙ append_assoc s.1 (on ++ s.2) more ∙ ap (λ (b : List ℕ). s.1 ++ b) (append_assoc on s.2 more) in
+    (s.0, s.1, s.2 ++ more, s.3, parts, leaving_longer f s.2 more e s.5)
 leaving_longer _ bytes more e s = absurd s

@@ -1,8 +1,13 @@
 pub mod Words
 pub mod Fields
+pub mod Chains
+pub mod ChainStops
 pub mod Laws
 pub mod Refusing
 pub mod Accepting
 pub mod Messages
 pub mod Loops
 pub mod Spelled
+pub mod Lengths
+pub mod Linking
+pub mod Sizes

@@ -8,7 +8,11 @@ use Rattle.lnfs_xdr.specs.Reading.{Stop, Read, after, read}
 abbrev pub grown : {E A : Type 0} → List A → Read E (List A) → Read E (List A)
 grown front r = after r (λ xs rest. Ok (front ++ xs, rest))
 
-regroup : {E A : Type 0} (front : List A) (x : A) (r : Read E (List A)) → grown front (after r (λ xs rest. Ok (x ∷ xs, rest))) ≡ grown (front ++ x ∷ []) r
+pub none_before : {E A : Type 0} (r : Read E (List A)) → grown [] r ≡ r
+none_before (Ok p) = refl
+none_before (Err s) = refl
+
+pub regroup : {E A : Type 0} (front : List A) (x : A) (r : Read E (List A)) → grown front (after r (λ xs rest. Ok (x ∷ xs, rest))) ≡ grown (front ++ x ∷ []) r
 regroup front x (Ok p) = ap (λ (xs : List _). Ok (xs, p.1)) (sym (append_assoc front (x ∷ []) p.0))
 regroup front x (Err s) = refl
 

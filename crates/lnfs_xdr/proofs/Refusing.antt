@@ -5,7 +5,7 @@ use Rattle.std.proofs.lemmas.Bool.{cases_lt, lt-ltb, le-ltb, eqb-true, eqb-false
 use Rattle.std.proofs.lemmas.List.{length-drop}
 use Rattle.lnfs_xdr.specs.declared.error.XdrError.TheVariants.{Short, BadBool, TooLong}
 use Rattle.lnfs_xdr.specs.Format.{padding}
-use Rattle.lnfs_xdr.specs.Reading.{number_at, boolean_at, count_at, padded_at, opaque_at}
+use Rattle.lnfs_xdr.specs.Reading.{number_at, boolean_at, count_at, padded_at, opaque_at, raw_at}
 use Rattle.lnfs_xdr.specs.Promises.{Refused, first_word, LacksBytes}
 
 -- a value is no refusal
@@ -34,6 +34,9 @@ number_refused w bytes = guarded (length bytes) (byte_len w) (from_be_bytes w (t
 
 pub fixed_refused : (n : ℕ) (bytes : List ℕ) → Refused (padded_at n bytes) (length bytes < n + padding n) ⊥ ⊥
 fixed_refused n bytes = guarded (length bytes) (n + padding n) (take n bytes, drop (padding n) (drop n bytes))
+
+pub raw_refused : (n : ℕ) (bytes : List ℕ) → Refused (raw_at n bytes) (length bytes < n) ⊥ ⊥
+raw_refused n bytes = guarded (length bytes) n (take n bytes, drop n bytes)
 
 word_missing : (bytes : List ℕ) → length bytes < 4 → number_at w32 bytes ≡ Err Short
 word_missing bytes lt = rw (lt-ltb (length bytes) 4 lt) refl

@@ -1,5 +1,5 @@
 -- The one spelling of an item whose pad bytes are zero (RFC 4506 section 3).
-use Rattle.std.specs.Prelude.{ℕ, Bool, List, [], ◌∷◌, ◌++◌, length, take}
+use Rattle.std.specs.Prelude.{ℕ, Bool, true, false, List, [], ◌∷◌, ◌++◌, length, take}
 use Rattle.std.specs.Int.{w32, w64, to_be_bytes}
 use Rattle.lnfs_xdr.specs.Format.{padding, number_of}
 
@@ -20,3 +20,8 @@ padded v = v ++ take (padding (length v)) zeros
 
 unfoldable pub opaque : List ℕ → List ℕ
 opaque v = word (length v) ++ padded v
+
+-- a list of texts, each behind the word for TRUE
+abbrev pub linked : {A : Type 0} → (A → List ℕ) → List A → List ℕ
+linked text [] = flag false
+linked text (x ∷ xs) = flag true ++ text x ++ linked text xs

@@ -26,6 +26,8 @@ pub data Format (E : Type 0) : Type 0 → Type 1 where
   Done : {A : Type 0} → A → Format E A
   If : {A : Type 0} → Bool → Format E A → Format E A → Format E A
   Then : {A B : Type 0} → Format E A → (A → Format E B) → Format E B
+  -- elements, each behind the word for TRUE, and then the word for FALSE, as the linked list of section 4.19
+  Linked : {A : Type 0} → Format E A → Format E (List A)
 
 infixl 10 ◌>>=◌
 abbrev pub ◌>>=◌ : {E A B : Type 0} → Format E A → (A → Format E B) → Format E B
@@ -43,6 +45,11 @@ number_of false = 0
 abbrev pub padding : ℕ → ℕ
 padding n = (4 - n % 4) % 4
 
+-- elements, each behind the word for TRUE
+abbrev pub Chains : {A : Type 0} → (A → List ℕ → Type 0) → List A → List ℕ → Type 0
+Chains S [] bytes = bytes ≡ []
+Chains S (x ∷ xs) bytes = (front : List ℕ) × (back : List ℕ) × S x front × Chains S xs back × (bytes ≡ to_be_bytes w32 1 ++ (front ++ back))
+
 -- The pad bytes may be any.
 abbrev pub Spells : {E A : Type 0} → Format E A → A → List ℕ → Type 0
 Spells Word n bytes = (n < 2 ^ 32) × (bytes ≡ to_be_bytes w32 n)
@@ -57,6 +64,7 @@ Spells (Outside status) x bytes = ⊥
 Spells (Done y) x bytes = (y ≡ x) × (bytes ≡ [])
 Spells (If b f g) x bytes = MatchBool b (Spells f x bytes) (Spells g x bytes)
 Spells (Then {A} f k) x bytes = (a : A) × (front : List ℕ) × (back : List ℕ) × Spells f a front × Spells (k a) x back × (bytes ≡ front ++ back)
+Spells (Linked f) xs bytes = (front : List ℕ) × Chains (Spells f) xs front × (bytes ≡ front ++ to_be_bytes w32 0)
 
 -- no value of the format stands at the front
 abbrev pub NoneAt : {E A : Type 0} → Format E A → List ℕ → Type 0
@@ -76,6 +84,9 @@ Stuck {E} (Outside status) bytes stuck = ⊥
 Stuck {E} (Done y) bytes stuck = ⊥
 Stuck {E} (If b f g) bytes stuck = MatchBool b (Stuck f bytes stuck) (Stuck g bytes stuck)
 Stuck {E} (Then {A} f k) bytes stuck = Stuck f bytes stuck ⊎ (a : A) × (front : List ℕ) × (back : List ℕ) × Spells f a front × (bytes ≡ front ++ back) × Stuck (k a) back stuck
+Stuck {E} (Linked {A} f) bytes stuck =
+    (xs : List A) × (front : List ℕ) × (back : List ℕ) × Chains (Spells f) xs front × (bytes ≡ front ++ back)
+    × ((NoneAt {E = E} Boolean back × (back ≡ stuck)) ⊎ ((rest : List ℕ) × (back ≡ to_be_bytes w32 1 ++ rest) × Stuck f rest stuck))
 
 -- The items before are there, and then the format leaves what is read here.
 abbrev pub Leaving : {E A : Type 0} → Format E A → List ℕ → E → Type 0
@@ -91,6 +102,7 @@ Leaving (Outside e) bytes status = e ≡ status
 Leaving (Done y) bytes status = ⊥
 Leaving (If b f g) bytes status = MatchBool b (Leaving f bytes status) (Leaving g bytes status)
 Leaving (Then {A} f k) bytes status = Leaving f bytes status ⊎ (a : A) × (front : List ℕ) × (back : List ℕ) × Spells f a front × (bytes ≡ front ++ back) × Leaving (k a) back status
+Leaving (Linked {A} f) bytes status = (xs : List A) × (front : List ℕ) × (rest : List ℕ) × Chains (Spells f) xs front × (bytes ≡ front ++ (to_be_bytes w32 1 ++ rest)) × Leaving f rest status
 
 -- so many of a format, section 4.12
 abbrev pub times : {E A : Type 0} → ℕ → Format E A → Format E (List A)

@@ -4,3 +4,6 @@ pub mod Cursor
 pub mod Canon
 pub mod Promises
 pub mod Message
+pub mod AuthSys
+pub mod Lengths
+pub mod Written

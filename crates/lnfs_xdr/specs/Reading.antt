@@ -1,9 +1,9 @@
 -- Reading from left to right: the value and what is left, or why not.
-use Rattle.std.specs.Prelude.{ℕ, ◌+◌, Bool, true, false, List, length, take, drop, Result, Ok, Err, nat_lt, ◌==◌, if◌then◌else◌}
+use Rattle.std.specs.Prelude.{ℕ, zero, suc, ◌+◌, Bool, true, false, List, [], ◌∷◌, length, take, drop, Result, Ok, Err, nat_lt, ◌==◌, if◌then◌else◌}
 use Rattle.std.specs.Int.{Width, w32, w64, byte_len, from_be_bytes}
 use Rattle.lnfs_xdr.specs.declared.error.XdrError.{XdrError}
 use Rattle.lnfs_xdr.specs.declared.error.XdrError.TheVariants.{Short, BadBool, TooLong}
-use Rattle.lnfs_xdr.specs.Format.{Format, Word, Long, Boolean, Count, Among, Opaque, Fixed, Raw, Outside, Done, If, Then, padding}
+use Rattle.lnfs_xdr.specs.Format.{Format, Word, Long, Boolean, Count, Among, Opaque, Fixed, Raw, Outside, Done, If, Then, Linked, padding}
 
 abbrev pub after : {D A B : Type 0} → Result (A × List ℕ) D → (A → List ℕ → Result (B × List ℕ) D) → Result (B × List ℕ) D
 after (Ok x) k = k x.0 x.1
@@ -51,6 +51,16 @@ abbrev pub here : {E A : Type 0} → List ℕ → Item A → Read E A
 here bytes (Ok x) = Ok x
 here bytes (Err c) = Err (Fault c bytes)
 
+-- an element behind TRUE and those after it, or none behind FALSE
+abbrev pub element : {E A : Type 0} → (List ℕ → Read E A) → (List ℕ → Read E (List A)) → Bool → List ℕ → Read E (List A)
+element first later true bytes = after (first bytes) (λ x rest. after (later rest) (λ xs end. Ok (x ∷ xs, end)))
+element first later false bytes = Ok ([], bytes)
+
+-- Up to FALSE. Of so many bytes there are fewer elements than bytes.
+abbrev pub linked_at : {E A : Type 0} → ℕ → (List ℕ → Read E A) → List ℕ → Read E (List A)
+linked_at zero first bytes = Err (Fault Short bytes)
+linked_at (suc n) first bytes = after (here bytes (boolean_at bytes)) (element first (linked_at n first))
+
 abbrev pub read : {E A : Type 0} → Format E A → List ℕ → Read E A
 read Word bytes = here bytes (number_at w32 bytes)
 read Long bytes = here bytes (number_at w64 bytes)
@@ -64,3 +74,4 @@ read (Outside e) bytes = Err (Leaves e)
 read (Done x) bytes = Ok (x, bytes)
 read (If b f g) bytes = if b then read f bytes else read g bytes
 read (Then f k) bytes = after (read f bytes) (λ a rest. read (k a) rest)
+read (Linked f) bytes = linked_at (length bytes) (read f) bytes

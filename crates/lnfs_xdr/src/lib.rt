@@ -5,6 +5,7 @@
 #![tactic(auto)]
 
 mod error;
+mod limits;
 mod promises;
 mod reader;
 mod slices;
@@ -13,6 +14,7 @@ mod tests;
 mod writer;
 
 pub use error::XdrError;
+pub use limits::{GROUP_LIMIT, MACHINE_LIMIT};
 pub use promises::{canonical, refusals, spellings};
 pub use reader::XdrReader;
 pub use writer::XdrWriter;

@@ -1,9 +1,9 @@
 //! What the calls of a reader and a writer have in common, for any bytes.
 ghost use Rattle.std.specs.Prelude.{◌≢◌, ◌+◌, ◌<◌, ◌≤◌, length};
 ghost use Rattle.std.specs.Int.{w32, w64};
-ghost use Rattle.lnfs_xdr.specs.Format.{Word, Long, Boolean, Count, Fixed, Opaque, Spells, padding};
+ghost use Rattle.lnfs_xdr.specs.Format.{Word, Long, Boolean, Count, Fixed, Opaque, Raw, Spells, padding};
 ghost use Rattle.lnfs_xdr.specs.Canon.{word, long, flag, padded, opaque};
-ghost use Rattle.lnfs_xdr.specs.Reading.{number_at, boolean_at, count_at, padded_at, opaque_at};
+ghost use Rattle.lnfs_xdr.specs.Reading.{number_at, boolean_at, count_at, padded_at, opaque_at, raw_at};
 ghost use Rattle.lnfs_xdr.specs.Promises.{Accepts, Refused, LacksBytes, first_word};
 
 /// When an item is refused, and for which cause.
@@ -18,6 +18,7 @@ pub fn refusals(bytes: &[u8], n: usize, max: u32)
     ensures fixed { Refused (padded_at n bytes.now) (length bytes.now < n + padding n) ⊥ ⊥ }
     ensures opaque { Refused (opaque_at max bytes.now)
         (LacksBytes max bytes.now) ⊥ ((4 ≤ length bytes.now) × (max < first_word bytes.now)) }
+    ensures raw { Refused (raw_at n bytes.now) (length bytes.now < n) ⊥ ⊥ }
 {}
 
 /// An item is read exactly where one of its spellings stands at the front, whatever its pad bytes
@@ -29,6 +30,7 @@ pub fn spellings(bytes: &[u8], n: usize, max: u32)
     ensures count { Accepts (Count max) (count_at max) bytes.now }
     ensures fixed { Accepts (Fixed n) (padded_at n) bytes.now }
     ensures opaque { Accepts (Opaque max) (opaque_at max) bytes.now }
+    ensures raw { Accepts (Raw n) (raw_at n) bytes.now }
 {}
 
 /// What a writer appends is a spelling, so it is read again.

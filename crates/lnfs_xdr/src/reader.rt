@@ -1,10 +1,10 @@
 ghost use Rattle.std.specs.Prelude.{◌≡◌, ◌==◌, nat_lt, ◌+◌, ◌≤◌, length};
 ghost use Rattle.std.specs.Int.{w32, w64};
-ghost use Rattle.lnfs_xdr.specs.Reading.{number_at, boolean_at, count_at, among_at, padded_at, opaque_at};
+ghost use Rattle.lnfs_xdr.specs.Reading.{number_at, boolean_at, count_at, among_at, padded_at, opaque_at, raw_at};
 ghost use Rattle.lnfs_xdr.specs.Cursor.{Gives};
 
 use crate::error::XdrError;
-use crate::slices::{boolean_of, count_of, long_of, opaque_of, padded_of, word_of};
+use crate::slices::{boolean_of, count_of, long_of, opaque_of, padded_of, raw_of, word_of};
 use std::marker::Model;
 
 /// Reads items from the front of bytes. A refusal leaves it where it was. No call takes memory.
@@ -93,6 +93,15 @@ impl<'a> XdrReader<'a> {
         ensures { Gives (λ v. v.now) result self.old self.new (padded_at n self.old.rest) }
     {
         let (value, rest) = padded_of(self.rest, n)?;
+        self.rest = rest;
+        Ok(value)
+    }
+
+    /// So many bytes as they stand, with no pad: no item of XDR. `Short` where fewer are left.
+    pub fn raw(&mut self, n: usize) -> Result<&'a [u8], XdrError>
+        ensures { Gives (λ v. v.now) result self.old self.new (raw_at n self.old.rest) }
+    {
+        let (value, rest) = raw_of(self.rest, n)?;
         self.rest = rest;
         Ok(value)
     }

@@ -2,7 +2,7 @@
 ghost use Rattle.std.specs.Prelude.{◌≡◌, ◌≤◌, length};
 ghost use Rattle.std.specs.Int.{w32, w64};
 ghost use Rattle.lnfs_xdr.specs.Cursor.{Takes};
-ghost use Rattle.lnfs_xdr.specs.Reading.{number_at, boolean_at, count_at, padded_at, opaque_at};
+ghost use Rattle.lnfs_xdr.specs.Reading.{number_at, boolean_at, count_at, padded_at, opaque_at, raw_at};
 
 use crate::error::XdrError;
 use byteorder::{BigEndian, ByteOrder};
@@ -66,6 +66,16 @@ pub fn padded_of(bytes: &[u8], len: usize) -> Result<(&[u8], &[u8]), XdrError>
     let (value, rest) = bytes.split_at(len);
     let (_, rest) = rest.split_at(padding);
     Ok((value, rest))
+}
+
+/// So many bytes as they stand.
+pub fn raw_of(bytes: &[u8], len: usize) -> Result<(&[u8], &[u8]), XdrError>
+    ensures { Takes (λ x. (x.0.now, x.1.now)) result (raw_at len bytes.now) }
+{
+    if bytes.len() < len {
+        return Err(XdrError::Short);
+    }
+    Ok(bytes.split_at(len))
 }
 
 /// A count and so many bytes (RFC 4506 section 4.10).

@@ -57,6 +57,9 @@ fn items_one_after_the_other(rt: HostRuntime) -> Result<(), Fail> {
     out.fixed(&[1, 2, 3])?;
     out.opaque(&[4, 5])?;
     out.u32(3)?;
+    let mark = out.mark();
+    out.u32(4)?;
+    out.truncate(mark);
     let bytes = out.into_bytes();
     let want = [
         1, 2, 3, 4, 5, 6, 7, 8, 9, 10, 11, 12, 0, 0, 0, 1, 1, 2, 3, 0, 0, 0, 0, 2, 4, 5, 0, 0, 0,
@@ -72,7 +75,9 @@ fn items_one_after_the_other(rt: HostRuntime) -> Result<(), Fail> {
     assert_eq!(rt; reader.opaque(2), Ok([4, 5].as_slice()));
     assert_eq!(rt; reader.array_len(2), Err(XdrError::TooLong));
     assert_eq!(rt; (reader.at(), reader.rest().len()), (28, 4));
-    assert_eq!(rt; reader.array_len(3), Ok(3));
+    assert_eq!(rt; reader.raw(5), Err(XdrError::Short));
+    assert_eq!(rt; reader.raw(3), Ok([0, 0, 0].as_slice()));
+    assert_eq!(rt; reader.rest(), [3].as_slice());
     assert_eq!(rt; reader.u32(), Err(XdrError::Short));
     let mut none = XdrWriter::new(rt.alloc());
     none.u32(7)?;

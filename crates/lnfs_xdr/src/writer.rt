@@ -1,4 +1,4 @@
-ghost use Rattle.std.specs.Prelude.{◌≡◌, ◌++◌, ◌<◌, ◌^◌, [], length, OnOk, OnErr, IfOk};
+ghost use Rattle.std.specs.Prelude.{◌≡◌, ◌++◌, ◌<◌, ◌^◌, [], length, take, OnOk, OnErr, IfOk};
 ghost use Rattle.lnfs_xdr.specs.Canon.{word, long, flag, padded, opaque};
 
 use byteorder::{BigEndian, ByteOrder};
@@ -37,6 +37,20 @@ impl XdrWriter {
         Ok(XdrWriter {
             bytes: Vec::with_capacity(alloc, capacity)?,
         })
+    }
+
+    /// How many bytes were written: where `truncate` goes back to.
+    pub fn mark(&self) -> usize
+        ensures { result ≡ length self.now }
+    {
+        self.bytes.len()
+    }
+
+    /// Takes back what was written behind a mark. Takes no memory.
+    pub fn truncate(&mut self, mark: usize)
+        ensures { self.new ≡ take mark self.old }
+    {
+        self.bytes.truncate(mark);
     }
 
     /// An unsigned integer (RFC 4506 section 4.2).
@@ -79,6 +93,15 @@ impl XdrWriter {
         ensures err { OnErr result (self.new ≡ self.old) }
     {
         put_opaque(&mut self.bytes, v)
+    }
+
+    /// Bytes as they are, with no pad: no item of XDR.
+    pub fn raw(&mut self, v: &[u8]) -> Result<(), AllocError>
+        ensures ok { OnOk result (self.new ≡ self.old ++ v.now) }
+        ensures err { OnErr result (self.new ≡ self.old) }
+    {
+        self.bytes.extend_from_slice(v)?;
+        Ok(())
     }
 
     /// All that was written. Takes no memory.

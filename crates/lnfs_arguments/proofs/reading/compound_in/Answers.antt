@@ -12,7 +12,7 @@ returns-in-Err-Outside g c =
     let left = rw c.in-Err-Outside.field-0-is at c.in-Err-Outside.ensures in
     let e = op_outside _ _ _ _ _ _ _ _ _ c.loop-test.true left c.loop.invariant in
     let pushed = rw c.in-Err-Outside.field-0-is at c.in_ok-push-in-Err-Outside.ensures.items in
-    e ∙ ap (λ (l : List Op). Ok (record { tag = c.loop.tag; minor = c.in_ok-minor.minor; count = c.in_ok-count.count; ops = l })) (sym (c.new.ensures ∙ pushed))
+    e ∙ ap (λ (l : List Op). Ok (record { tag = c.loop.tag; minor = c.in_ok-tag.minor; count = c.in_ok-tag.count; ops = l })) (sym (c.new.ensures ∙ pushed))
 
 pub returns-in-Err-Fault : goal.returns-in-Err-Fault
 returns-in-Err-Fault g c =

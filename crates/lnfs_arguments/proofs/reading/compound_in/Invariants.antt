@@ -1,5 +1,5 @@
 use Rattle.std.proofs.Common.{◌≡◌, ◌-◌}
-use Rattle.lnfs_arguments.specs.Message.{parse}
+use Rattle.lnfs_xdr.specs.Message.{parse}
 use Rattle.lnfs_arguments.specs.Whole.{compound, operations}
 use Rattle.lnfs_arguments.proofs.reading.compound_in.Given as goal
 

@@ -1,6 +1,6 @@
 use Rattle.std.proofs.Common.{sym, ap, ◌∙◌, arith}
 use Rattle.lnfs_xdr.specs.Cursor.{Cursor}
-use Rattle.lnfs_arguments.specs.Message.{parse}
+use Rattle.lnfs_xdr.specs.Message.{parse}
 use Rattle.lnfs_arguments.specs.Whole.{compound}
 use Rattle.lnfs_arguments.proofs.Exact.{left_short}
 use Rattle.lnfs_arguments.proofs.reading.compound_of.Goals as goal

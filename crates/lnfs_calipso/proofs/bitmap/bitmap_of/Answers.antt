@@ -4,7 +4,7 @@ use Rattle.std.proofs.lemmas.List.{take_all}
 use Rattle.std.proofs.lemmas.List.Folds.{list_any_more}
 use Rattle.lnfs_calipso.specs.Label.{has_comp}
 use Rattle.lnfs_calipso.specs.Bitmap.{is_marked}
-use Rattle.lnfs_calipso.specs.Members.{compartments-agree}
+use Rattle.lnfs_calipso.proofs.Members.{compartments-agree}
 use Rattle.lnfs_calipso.proofs.Marks.{zeros_of, get_or-zeros, no_members}
 use Rattle.lnfs_calipso.proofs.bitmap.bitmap_of.Goals as goal
 

@@ -1,7 +1,8 @@
 use Rattle.std.proofs.Common.{◌-◌, sym, ◌∙◌, ap, eqb, slice_index_or, ◌%◌, arith}
 use Rattle.std.proofs.lemmas.Nat.Bits.{shr_and_one}
 use Rattle.lnfs_calipso.specs.Bitmap.{is_marked}
-use Rattle.lnfs_calipso.specs.Members.{has_comp-past, has_comp-members}
+use Rattle.lnfs_calipso.specs.Members.{has_comp-members}
+use Rattle.lnfs_calipso.proofs.Members.{has_comp-past}
 use Rattle.lnfs_calipso.proofs.bitmap.has.Goals as goal
 
 pub returns-then-comp-ge-COMPARTMENTS : goal.returns-then-comp-ge-COMPARTMENTS

@@ -1,4 +1,4 @@
-use Rattle.lnfs_calipso.specs.Orders.{dominates-reflexive, dominates-transitive, dominates-antisymmetric}
+use Rattle.lnfs_calipso.proofs.Orders.{dominates-reflexive, dominates-transitive, dominates-antisymmetric}
 use Rattle.lnfs_calipso.proofs.laws.dominance.Goals as goal
 
 pub returns-clause-reflexive : goal.returns-clause-reflexive

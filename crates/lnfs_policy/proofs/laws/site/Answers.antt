@@ -1,6 +1,6 @@
 use Rattle.std.proofs.Common.{◌≡◌, ℕ, List}
 use Rattle.std.specs.Prelude.{Ok}
-use Rattle.lnfs_policy.specs.Line.{Line, version_line, mode_line, level_line, format_line, name_line, parent_line, guest_line, quota_line, dir_line, line_of}
+use Rattle.lnfs_policy.specs.Line.{Line, level_line, format_line, line_of}
 use Rattle.lnfs_policy.specs.Spelled.{HasNumbers}
 use Rattle.lnfs_policy.proofs.Spelled.{line_says}
 use Rattle.lnfs_policy.proofs.Site.{HasBounds, site}

@@ -1,6 +1,6 @@
 use Rattle.std.proofs.Common.{arith, length, ap}
-use Rattle.lnfs_policy.specs.Words.{newline}
-use Rattle.lnfs_policy.proofs.Splits.{length-split}
+use Rattle.lnfs_words.specs.Words.{newline}
+use Rattle.lnfs_words.proofs.Splits.{length-split}
 use Rattle.lnfs_policy.proofs.Same.{same}
 use Rattle.lnfs_policy.proofs.Again.{again}
 use Rattle.lnfs_policy.proofs.Steps.{gone, done, turn, refused, lacking, given}

@@ -6,14 +6,14 @@ use Rattle.lnfs_program.proofs.replay.replay.Goals as goal
 pub returns-in_default-clause-plays : goal.returns-in_default-clause-plays
 returns-in_default-clause-plays g c = plays_none c.args.policy c.args.traffic.now c.in_default.ensures.cases
 
-pub returns-then-taken-rest-clause-plays : goal.returns-then-taken-rest-clause-plays
-returns-then-taken-rest-clause-plays g c =
+pub returns-then-left-eq0-clause-plays : goal.returns-then-left-eq0-clause-plays
+returns-then-left-eq0-clause-plays g c =
     let s = c.in-Some.ensures.cases in
-    let e = c.in_ok-taken.ensures in
-    plays_all c.args.policy c.args.traffic.now s.0 s.1 e.does.done e.taken.0 (grind (arith, nat_tests, c.if-taken-rest.true))
+    let e = c.in_ok-left.ensures in
+    plays_all c.args.policy c.args.traffic.now s.0 s.1 e.does.done e.left.0 (grind (arith, nat_tests, c.if-left-eq0.true))
 
-pub returns-else-taken-rest-clause-plays : goal.returns-else-taken-rest-clause-plays
-returns-else-taken-rest-clause-plays g c =
+pub returns-else-left-eq0-clause-plays : goal.returns-else-left-eq0-clause-plays
+returns-else-left-eq0-clause-plays g c =
     let s = c.in-Some.ensures.cases in
-    let e = c.in_ok-taken.ensures in
-    plays_damaged c.args.policy c.args.traffic.now s.0 s.1 e.does.done e.taken.0 (grind (arith, nat_tests, c.if-taken-rest.false))
+    let e = c.in_ok-left.ensures in
+    plays_damaged c.args.policy c.args.traffic.now s.0 s.1 e.does.done e.left.0 (grind (arith, nat_tests, c.if-left-eq0.false))

@@ -1,4 +1,3 @@
-use Rattle.std.proofs.Common.{rules}
 use Rattle.lnfs_arguments.specs.Further.{nothing_further}
 use Rattle.lnfs_step.proofs.Compounds.{compound_short}
 use Rattle.lnfs_vault.proofs.request.asked_by.Goals as goal

@@ -1,4 +1,4 @@
-use Rattle.std.proofs.Common.{◌≡◌, ◌+◌, length, sym, ap, ◌∙◌, subst, rules, arith}
+use Rattle.std.proofs.Common.{◌+◌, length, sym, ap, subst, arith}
 use Rattle.lnfs_operations.specs.Compound.{run_from}
 use Rattle.lnfs_vault.specs.Runs.{Performs}
 use Rattle.lnfs_operations.specs.Table.{outcome_of}

@@ -1,4 +1,4 @@
-use Rattle.std.proofs.Common.{◌≡◌, ◌≤◌, ◌+◌, ◌-◌, length, drop}
+use Rattle.std.proofs.Common.{◌≤◌, ◌+◌, ◌-◌, length, drop}
 use Rattle.lnfs_operations.specs.Compound.{run_from}
 use Rattle.lnfs_vault.proofs.Running.{Ahead}
 use Rattle.lnfs_vault.proofs.run.run_all.Given as goal

@@ -1,13 +1,8 @@
-use Rattle.std.proofs.Common.{◌≡◌, ◌++◌, Some, refl, sym, ap, ◌∙◌, subst}
-use Rattle.lnfs_xdr.specs.Canon.{word, opaque}
+use Rattle.std.proofs.Common.{◌≡◌, Some, refl, ap, ◌∙◌, subst}
 use Rattle.lnfs_operations.specs.Compound.{run, results_of}
 use Rattle.lnfs_results.specs.Texts.{results_text}
-use Rattle.lnfs_rpc.specs.Replies.{reply_text, seen_head}
 use Rattle.lnfs_step.specs.Step.{line_of}
-use Rattle.lnfs_step.specs.Request.{plainly}
-use Rattle.lnfs_step.specs.declared.numbers.TheConstants.{SUCCESS}
 use Rattle.lnfs_vault.specs.Lines.{IsLineOf}
-use Rattle.lnfs_vault.specs.Runs.{seen_denial}
 use Rattle.std.specs.Prelude.{option_map}
 use Rattle.lnfs_vault.proofs.Running.{results_joined}
 use Rattle.lnfs_vault.proofs.step.compound.Goals as goal

@@ -1,5 +1,5 @@
 use Rattle.std.specs.Int.{w32, w64}
-use Rattle.lnfs_xdr.proofs.Refusing.{number_refused, boolean_refused, count_refused, fixed_refused, opaque_refused}
+use Rattle.lnfs_xdr.proofs.Refusing.{number_refused, boolean_refused, count_refused, fixed_refused, opaque_refused, raw_refused}
 use Rattle.lnfs_xdr.proofs.promises.refusals.Goals as goal
 
 pub returns : goal.returns
@@ -10,4 +10,5 @@ returns c = record {
   count = count_refused c.args.max c.args.bytes.now;
   fixed = fixed_refused c.args.n c.args.bytes.now;
   opaque = opaque_refused c.args.max c.args.bytes.now;
+  raw = raw_refused c.args.n c.args.bytes.now;
 }

@@ -1,7 +1,7 @@
 use Rattle.std.proofs.Common.{arith, refl}
 use Rattle.std.specs.Int.{w32, w64}
-use Rattle.lnfs_xdr.specs.Format.{Word, Long, Boolean, Count, Fixed, Opaque}
-use Rattle.lnfs_xdr.specs.Reading.{number_at, boolean_at, count_at, padded_at, opaque_at}
+use Rattle.lnfs_xdr.specs.Format.{Word, Long, Boolean, Count, Fixed, Opaque, Raw}
+use Rattle.lnfs_xdr.specs.Reading.{number_at, boolean_at, count_at, padded_at, opaque_at, raw_at}
 use Rattle.lnfs_xdr.proofs.Fields.{IsBytes}
 use Rattle.lnfs_xdr.proofs.Accepting.{accepts}
 use Rattle.lnfs_xdr.proofs.promises.spellings.Goals as goal
@@ -17,4 +17,5 @@ returns c =
       count = accepts (Count c.args.max) (count_at c.args.max) bytes fits refl;
       fixed = accepts (Fixed c.args.n) (padded_at c.args.n) bytes fits refl;
       opaque = accepts (Opaque c.args.max) (opaque_at c.args.max) bytes fits refl;
+      raw = accepts (Raw c.args.n) (raw_at c.args.n) bytes fits refl;
     }

@@ -1,6 +1,6 @@
 use Rattle.std.proofs.Common.{◌≡◌, true, false, sym, ap, ◌∙◌, rules}
 use Rattle.std.specs.Prelude.{Some}
-use Rattle.lnfs_policy.specs.Words.{is_empty}
+use Rattle.lnfs_words.specs.Words.{is_empty}
 use Rattle.lnfs_policy.specs.PolicyText.{spells_all}
 use Rattle.lnfs_policy.specs.Reading.{Read, finish, entries_in}
 use Rattle.lnfs_policy.proofs.Full.{full}

@@ -1,0 +1,149 @@
+//! A plain program that answers the recordings of bench/replay as `lnfs replay` does, to compare times with.
+//!
+//! It takes the guests of a policy file, reads a recording whole, keeps every event, and writes the frames of the
+//! replies: to an EXCHANGE_ID that stands alone its result, to any other COMPOUND the refusal of its first operation.
+//! It answers nothing else, checks no more than it must to find its way, and proves nothing.
+
+use std::collections::BTreeMap;
+use std::io::{BufWriter, Read, Write};
+
+struct Event {
+    class: u32,
+    message: Vec<u8>,
+}
+
+struct Client {
+    number: u32,
+    verifier: [u8; 8],
+}
+
+struct Reader<'a>(&'a [u8]);
+
+impl<'a> Reader<'a> {
+    fn take(&mut self, n: usize) -> Option<&'a [u8]> {
+        if n > self.0.len() {
+            return None;
+        }
+        let (front, rest) = self.0.split_at(n);
+        self.0 = rest;
+        Some(front)
+    }
+
+    fn word(&mut self) -> Option<u32> {
+        Some(u32::from_be_bytes(self.take(4)?.try_into().ok()?))
+    }
+
+    fn opaque(&mut self) -> Option<&'a [u8]> {
+        let n = self.word()? as usize;
+        let value = self.take(n)?;
+        self.take(n.wrapping_neg() % 4)?;
+        Some(value)
+    }
+}
+
+/// The guest lines of a policy: class, user or none, level.
+fn guests(policy: &str) -> Vec<(u32, Option<u32>, u32)> {
+    let lines = policy.lines().filter_map(|line| line.strip_prefix("guest "));
+    lines.map(|line| {
+        let words: Vec<&str> = line.split(' ').collect();
+        (words[0].parse().unwrap(), words[1].parse().ok(), words[2].parse().unwrap())
+    }).collect()
+}
+
+fn opaque_to(out: &mut Vec<u8>, bytes: &[u8]) {
+    out.extend((bytes.len() as u32).to_be_bytes());
+    out.extend(bytes);
+    out.resize(out.len().next_multiple_of(4), 0);
+}
+
+#[derive(Default)]
+struct Server {
+    guests: Vec<(u32, Option<u32>, u32)>,
+    clients: BTreeMap<(u32, Vec<u8>), Client>,
+    last: BTreeMap<u32, u32>,
+    journal: Vec<Event>,
+}
+
+impl Server {
+    /// The reply to a record, with its fragment head.
+    fn reply(&mut self, class: u32, message: &[u8], out: &mut Vec<u8>) -> Option<()> {
+        let mut call = Reader(message);
+        let xid = call.word()?;
+        call.take(16)?;
+        if call.word()? != 1 || call.word()? != 1 {
+            return None;
+        }
+        let mut body = Reader(call.opaque()?);
+        body.word()?;
+        body.opaque()?;
+        let uid = body.word()?;
+        call.word()?;
+        call.opaque()?;
+        let tag = call.opaque()?;
+        call.word()?;
+        let count = call.word()?;
+        let number = call.word()?;
+        let level = self.guests.iter().find(|g| g.0 == class && g.1.is_none_or(|it| it == uid))?.2;
+        out.clear();
+        out.extend([0; 4]);
+        for word in [xid, 1, 0, 0, 0, 0] {
+            out.extend(word.to_be_bytes());
+        }
+        if number == 42 && count == 1 {
+            let verifier: [u8; 8] = call.take(8)?.try_into().ok()?;
+            let owner = call.opaque()?;
+            let client = self.exchange(level, owner, verifier);
+            out.extend(0u32.to_be_bytes());
+            opaque_to(out, tag);
+            for word in [1, 42, 0, level, client, 1, 0x10000, 0, 0, 0] {
+                out.extend(u32::to_be_bytes(word));
+            }
+            opaque_to(out, b"labelled-nfs");
+            opaque_to(out, b"labelled-nfs");
+            out.extend(0u32.to_be_bytes());
+        } else {
+            out.extend(10004u32.to_be_bytes());
+            opaque_to(out, tag);
+            for word in [1, number, 10004] {
+                out.extend(u32::to_be_bytes(word));
+            }
+        }
+        let head = 0x8000_0000 | (out.len() - 4) as u32;
+        out[..4].copy_from_slice(&head.to_be_bytes());
+        Some(())
+    }
+
+    /// The number of the pending record that stands afterwards.
+    fn exchange(&mut self, level: u32, owner: &[u8], verifier: [u8; 8]) -> u32 {
+        let last = self.last.entry(level).or_insert(0);
+        *last += 1;
+        let client = Client { number: *last, verifier };
+        let old = self.clients.insert((level, owner.to_vec()), client);
+        debug_assert!(old.is_none_or(|it| it.number < *last && it.verifier.len() == 8));
+        *last
+    }
+}
+
+fn main() -> std::io::Result<()> {
+    let args: Vec<String> = std::env::args().collect();
+    let mut server = Server { guests: guests(&std::fs::read_to_string(&args[1])?), ..Server::default() };
+    let mut recording = Vec::new();
+    std::fs::File::open(&args[2])?.read_to_end(&mut recording)?;
+    let mut events = Reader(&recording);
+    let mut out = BufWriter::with_capacity(65536, std::io::stdout().lock());
+    let mut frame = Vec::new();
+    events.take(8);
+    while let Some(class) = events.word() {
+        events.take(16);
+        let length = events.word().unwrap() as usize;
+        let message = events.take(length).unwrap().to_vec();
+        if server.reply(class, &message, &mut frame).is_some() {
+            out.write_all(&frame)?;
+        }
+        server.journal.push(Event { class, message });
+    }
+    let sum: u64 = server.journal.iter().map(|it| u64::from(it.class) + it.message.len() as u64).sum();
+    out.flush()?;
+    eprintln!("{} events, {sum}", server.journal.len());
+    Ok(())
+}

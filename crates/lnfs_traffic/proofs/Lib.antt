@@ -1,0 +1,4 @@
+-- Lemmas.
+pub mod Cutting
+pub mod Fronts
+pub mod Whole

@@ -1,0 +1,5 @@
+-- Recordings of traffic.
+pub mod Recording
+pub mod Parts
+pub mod Texts
+pub mod Answers

@@ -1,0 +1,6 @@
+-- What a writer leaves that gives up.
+use Rattle.std.specs.Prelude.{◌≡◌, ℕ, List, length, take}
+
+-- The new bytes begin with the old ones.
+abbrev pub Extends : List ℕ → List ℕ → Type 0
+Extends old new = take (length old) new ≡ old
