@@ -1,67 +1,143 @@
 -- What EXCHANGE_ID looks at, and what it changes.
-use Rattle.std.proofs.Common.{◌≡◌, ℕ, ◌+◌, Bool, true, false, ◌&&◌, not, List, [], ◌∷◌, ◌++◌, Option, Some, None, refl, sym, ap, ◌∙◌, arith}
-use Rattle.std.specs.Prelude.{◌==◌}
+use Rattle.std.proofs.Common.{◌≡◌, ℕ, ◌+◌, Bool, true, false, ◌&&◌, not, List, [], ◌∷◌, ◌++◌, Option, Some, None, refl, ap, subst, ◌∙◌, arith}
+use Rattle.std.specs.Prelude.{◌==◌, nat_lt}
 use Rattle.std.specs.List.{find, list_any}
-use Rattle.std.specs.Option.{option_map}
 use Rattle.std.proofs.lemmas.Bool.Decides.{nat_tests}
 use Rattle.lnfs_calipso.specs.Label.{IsPreorderWithBottom}
-use Rattle.lnfs_world.specs.declared.Client.{Client}
-use Rattle.lnfs_world.specs.declared.Last.{Last}
 use Rattle.lnfs_world.specs.Rows.{kept}
-use Rattle.lnfs_world.specs.World.{World, erased, last_or, last_of}
-use Rattle.lnfs_world.specs.Change.{SetClient, DropClient, SetLast, apply}
-use Rattle.lnfs_world.specs.Facts.{Facts, all_within, are_rivals}
-use Rattle.lnfs_world.proofs.Rows.{find-kept, count-kept, any_none, none_any, all_weaker}
-use Rattle.lnfs_world.proofs.Kept.{last_of-inserted}
-use Rattle.lnfs_operations.specs.ExchangeId.{Arguments, exchange_id, is_confirmed, is_pending, others_of, dropped}
+use Rattle.lnfs_world.specs.World.{Client, Session, World, same_id, client_at, session_at, last_of}
+use Rattle.lnfs_world.specs.Erased.{erased}
+use Rattle.lnfs_world.specs.Change.{AddClient, DropClient, apply, apply_all, is_session_of}
+use Rattle.lnfs_world.specs.Facts.{Facts, are_rivals, has_confirmed, is_confirmed}
+use Rattle.lnfs_world.specs.Within.{all_within}
+use Rattle.lnfs_world.specs.Outcome.{Place, Outcome, Stands, IsFootprint, is_session_for, is_place}
+use Rattle.lnfs_world.proofs.Rows.{count-kept, all_none, none_any, all_anyway, all_weaker, all_find}
+use Rattle.lnfs_world.proofs.Keys.{id_same}
+use Rattle.lnfs_world.proofs.Within.{IsNew}
+use Rattle.lnfs_world.proofs.KeptClients.{client_absent, confirmed_stay, confirmed_left, drop_client}
+use Rattle.lnfs_world.proofs.Views.{row_at-seen, last_of-seen, found_by_id, found_left}
+use Rattle.lnfs_world.proofs.Places.{place_stays}
+use Rattle.lnfs_arguments.specs.declared.statuses.TheConstants.{NFS4ERR_INVAL, NFS4ERR_NOSPC}
+use Rattle.lnfs_operations.specs.declared.Gate.{Gate}
+use Rattle.lnfs_operations.specs.declared.Gate.TheVariants as gates
+use Rattle.lnfs_operations.specs.declared.numbers.TheConstants.{EXCHGID4_FLAG_CONFIRMED_R, EXCHGID4_FLAG_UPD_CONFIRMED_REC_A, CLIENTS_OF_A_LEVEL, LAST_NUMBER}
+use Rattle.lnfs_operations.specs.Chain.{Answer, refuse, done, demand, where_there}
+use Rattle.lnfs_operations.specs.ExchangeId.{Arguments, Told, has_flag, exchange_id, new_client, is_confirmed_as, is_pending, others_of, dropped}
+use Rattle.lnfs_operations.proofs.Chains.{unchanged_footprint}
 use Rattle.lnfs_operations.proofs.Owners.{none_found, none_pending, rival_pending}
 
-same_option : {X : Type 0} (o : Option X) → option_map (λ x. x) o ≡ o
-same_option None = refl
-same_option (Some x) = refl
+-- ---- what it looks at
 
 module _ (dom : ℕ → ℕ → Bool) (lattice : IsPreorderWithBottom dom) (s : ℕ) where
-  -- a look-up among the subject's own rows
-  own_client : (q : Client → Bool) → ((c : Client) → q c ≡ true → c.level ≡ s) → (clients : List Client) → find q (kept (λ c. dom s c.level) (λ c. c) clients) ≡ find q clients
-  own_client q own clients = find-kept _ _ q (λ c e. ap (dom s) (own c e) ∙ lattice.reflexive s) (λ c. refl) clients ∙ same_option (find q clients)
+  own_level : (n : ℕ) → n == s ≡ true → dom s n ≡ true
+  own_level n is = grind (arith, nat_tests, lattice.reflexive s)
 
-  pub last_of-seen : (lasts : List Last) → last_of s (kept (λ l. dom s l.level) (λ l. l) lasts) ≡ last_of s lasts
-  last_of-seen lasts =
-      let e = find-kept (λ l. dom s l.level) (λ (l : Last). l) (λ l. l.level == s) (λ l e. grind (arith, nat_tests, lattice.reflexive s)) (λ l. refl) lasts ∙ same_option (find (λ l. l.level == s) lasts) in
-      ap (λ (o : Option Last). last_or s o) e
+  confirmed_seen : (owner verifier : List ℕ) (clients : List Client) → find (is_confirmed_as s owner verifier) (kept (λ c. dom s c.id.level) (λ c. c) clients) ≡ find (is_confirmed_as s owner verifier) clients
+  confirmed_seen owner verifier clients = row_at-seen dom s (λ c. c.id) (is_confirmed_as s owner verifier) (λ c e. own_level c.id.level (grind arith)) clients
 
-  confirmed_seen : (owner verifier : List ℕ) (clients : List Client) → find (is_confirmed s owner verifier) (kept (λ c. dom s c.level) (λ c. c) clients) ≡ find (is_confirmed s owner verifier) clients
-  confirmed_seen owner verifier clients = own_client (is_confirmed s owner verifier) (λ c e. grind (arith, nat_tests)) clients
+  pending_seen : (owner : List ℕ) (clients : List Client) → find (is_pending s owner) (kept (λ c. dom s c.id.level) (λ c. c) clients) ≡ find (is_pending s owner) clients
+  pending_seen owner clients = row_at-seen dom s (λ c. c.id) (is_pending s owner) (λ c e. own_level c.id.level (grind arith)) clients
 
-  pending_seen : (owner : List ℕ) (clients : List Client) → find (is_pending s owner) (kept (λ c. dom s c.level) (λ c. c) clients) ≡ find (is_pending s owner) clients
-  pending_seen owner clients = own_client (is_pending s owner) (λ c e. grind (arith, nat_tests)) clients
+  others_seen : (owner : List ℕ) (clients : List Client) → others_of s owner (kept (λ c. dom s c.id.level) (λ c. c) clients) ≡ others_of s owner clients
+  others_seen owner clients = count-kept _ _ _ (λ c e. own_level c.id.level (grind arith)) (λ c. refl) clients
 
-  others_seen : (owner : List ℕ) (clients : List Client) → others_of s owner (kept (λ c. dom s c.level) (λ c. c) clients) ≡ others_of s owner clients
-  others_seen owner clients = count-kept _ _ _ (λ c e. grind (arith, nat_tests, lattice.reflexive s)) (λ c. refl) clients
+pub exchange_id_seen : (dom : ℕ → ℕ → Bool) → IsPreorderWithBottom dom → (args : Arguments) (p : Place) (w : World) → exchange_id args p (erased dom p.subject w) ≡ exchange_id args p w
+exchange_id_seen dom lattice args p w = rw (confirmed_seen dom lattice p.subject args.owner args.verifier w.clients, others_seen dom lattice p.subject args.owner w.clients, last_of-seen dom p.subject p.subject (lattice.reflexive p.subject) w.lasts.clients, pending_seen dom lattice p.subject args.owner w.clients) refl
 
-  -- the outcome is that on what the subject sees
-  seen : (args : Arguments) (w : World) → exchange_id args s (erased dom s w) ≡ exchange_id args s w
-  seen args w = rw (confirmed_seen args.owner args.verifier w.clients, others_seen args.owner w.clients, last_of-seen w.lasts, pending_seen args.owner w.clients) refl
+-- ---- what it changes
 
-  pub view : (args : Arguments) (a b : World) → Facts dom a → Facts dom b → erased dom s a ≡ erased dom s b → exchange_id args s a ≡ exchange_id args s b
-  view args a b fa fb e = sym (seen args a) ∙ ap (exchange_id args s) e ∙ seen args b
+-- a new record under the next number, where no pending record of the owner is left
+add_within : (dom : ℕ → ℕ → Bool) (s : ℕ) (args : Arguments) (w : World) → list_any (is_pending s args.owner) w.clients ≡ false → all_within dom s w (AddClient (new_client (record { level = s; number = last_of s w.lasts.clients + 1 }) args) ∷ []) ≡ true
+add_within dom s args w none =
+    let row : Client = new_client (record { level = s; number = last_of s w.lasts.clients + 1 }) args in
+    let alone : list_any (are_rivals row) w.clients ≡ false = all_none _ w.clients (all_weaker _ _ (λ c h. grind (arith, nat_tests, rival_pending s args.owner row c refl refl refl)) w.clients (none_any _ w.clients none)) in
+    grind (arith, nat_tests)
 
-  -- the two rows that are set, where no pending record of the owner is left
-  sets_within : (owner verifier : List ℕ) (w : World) → list_any (is_pending s owner) w.clients ≡ false → all_within dom s w (SetLast (record { level = s; clients = (last_of s w.lasts).clients + 1 }) ∷ SetClient (record { level = s; number = (last_of s w.lasts).clients + 1; owner = owner; verifier = verifier; confirmed = false; sequence = 1 }) ∷ []) ≡ true
-  sets_within owner verifier w none =
-      let row : Client = record { level = s; number = (last_of s w.lasts).clients + 1; owner = owner; verifier = verifier; confirmed = false; sequence = 1 } in
-      let alone : list_any (λ c. are_rivals row c && not (c.number == row.number)) w.clients ≡ false =
-      any_none _ w.clients (all_weaker _ _ (λ c h. grind (arith, nat_tests, rival_pending s owner row c refl refl refl)) w.clients (none_any _ w.clients none)) in
-      let last = last_of-inserted (record { level = s; clients = (last_of s w.lasts).clients + 1 }) w.lasts s in
-      grind (arith, nat_tests)
+made_within : (dom : ℕ → ℕ → Bool) (s : ℕ) (args : Arguments) (w : World) (o : Option Client) → Facts dom w → find (is_pending s args.owner) w.clients ≡ o → all_within dom s w (dropped o ++ AddClient (new_client (record { level = s; number = last_of s w.lasts.clients + 1 }) args) ∷ []) ≡ true
+made_within dom s args w None facts found = add_within dom s args w (none_found _ w.clients found)
+made_within dom s args w (Some c) facts found =
+    let rest = add_within dom s args (apply (DropClient c.id) w) (none_pending s args.owner w.clients c facts.clients.rivals found) in
+    let pending = (all_find (λ c. Unit {0}) (is_pending s args.owner) w.clients c (all_anyway _ (λ c. tt) w.clients) found).1 in
+    let own : c.id.level == s ≡ true = grind (arith, pending) in
+    grind (arith, own, rest)
 
-  made_within : (owner verifier : List ℕ) (w : World) (o : Option Client) → Facts dom w → find (is_pending s owner) w.clients ≡ o → all_within dom s w (dropped s o ++ SetLast (record { level = s; clients = (last_of s w.lasts).clients + 1 }) ∷ SetClient (record { level = s; number = (last_of s w.lasts).clients + 1; owner = owner; verifier = verifier; confirmed = false; sequence = 1 }) ∷ []) ≡ true
-  made_within owner verifier w None facts found = sets_within owner verifier w (none_found _ w.clients found)
-  made_within owner verifier w (Some c) facts found =
-      let rest = sets_within owner verifier (apply (DropClient s c.number) w) (none_pending s owner w.clients c facts.rivals found) in
-      grind (arith, nat_tests, rest)
+-- ---- the place
 
-  pub footprint : (args : Arguments) (w : World) → Facts dom w → all_within dom s w (exchange_id args s w).changes ≡ true
-  footprint args w facts =
-      let made = made_within args.owner args.verifier w (find (is_pending s args.owner) w.clients) facts refl in
-      grind (arith, made)
+-- A new record leaves clients and sessions.
+place_added : (dom : ℕ → ℕ → Bool) (p : Place) (w : World) (row : Client) → Facts dom w → IsNew p.subject w.lasts.clients row.id → is_place dom w p ≡ true → is_place dom (apply (AddClient row) w) p ≡ true
+place_added dom p w row facts new is =
+    let absent = client_absent p.subject w.clients w.lasts.clients facts.clients row.id new in
+    let stay = confirmed_stay row w.clients (grind (arith, absent)) in
+    place_stays dom p.subject w (apply (AddClient row) w) (λ number. stay p.subject number) (λ client number there held. held) p.client p.session p.current p.saved is
+
+-- Where a record that isn't confirmed goes, confirmed ones and their sessions stay.
+module _ (dom : ℕ → ℕ → Bool) (w : World) (c : Client) (found : client_at w.clients c.id ≡ Some c) (pending : c.confirmed ≡ false) where
+  other_client : (s number : ℕ) → has_confirmed w.clients s number ≡ true → (s == c.id.level && number == c.id.number) ≡ false
+  other_client s number there = at (s == c.id.level && number == c.id.number) refl
+    where
+      at : (b : Bool) → (s == c.id.level && number == c.id.number) ≡ b → (s == c.id.level && number == c.id.number) ≡ false
+      at true is =
+          let same : record { level = s; number = number } ≡ c.id = id_same (record { level = s; number = number }) c.id is in
+          let it : is_confirmed (client_at w.clients c.id) ≡ true = subst (λ i. is_confirmed (client_at w.clients i) ≡ true) same there in
+          absurd (grind (arith, found, pending, it))
+      at false is = is
+
+  session_stays : (s client number : ℕ) → has_confirmed w.clients s client ≡ true → is_session_for (Some client) (session_at w.sessions (record { level = s; number = number })) ≡ true → is_session_for (Some client) (session_at (apply (DropClient c.id) w).sessions (record { level = s; number = number })) ≡ true
+  session_stays s client number there is = at (session_at w.sessions (record { level = s; number = number })) refl is
+    where
+      at : (o : Option Session) → session_at w.sessions (record { level = s; number = number }) ≡ o → is_session_for (Some client) o ≡ true → is_session_for (Some client) (session_at (apply (DropClient c.id) w).sessions (record { level = s; number = number })) ≡ true
+      at None here is = absurd (grind arith)
+      at (Some x) here is =
+          let known = (all_find (λ x. Unit {0}) (λ x. same_id (record { level = s; number = number }) x.id) w.sessions x (all_anyway _ (λ x. tt) w.sessions) here).1 in
+          let others = other_client s client there in
+          let stays : not (is_session_of c.id x) ≡ true = grind (arith, nat_tests, known, is, others) in
+          ap (is_session_for (Some client)) (found_left (λ x. same_id (record { level = s; number = number }) x.id) (λ x. not (is_session_of c.id x)) w.sessions x here stays) ∙ is
+
+  place_dropped : (p : Place) → is_place dom w p ≡ true → is_place dom (apply (DropClient c.id) w) p ≡ true
+  place_dropped p is = place_stays dom p.subject w (apply (DropClient c.id) w) (λ number there. confirmed_left c.id w.clients p.subject number (other_client p.subject number there) there) (session_stays p.subject) p.client p.session p.current p.saved is
+
+place_made : (dom : ℕ → ℕ → Bool) (args : Arguments) (p : Place) (w : World) (o : Option Client) → Facts dom w → is_place dom w p ≡ true → find (is_pending p.subject args.owner) w.clients ≡ o → is_place dom (apply_all (dropped o ++ AddClient (new_client (record { level = p.subject; number = last_of p.subject w.lasts.clients + 1 }) args) ∷ []) w) p ≡ true
+place_made dom args p w None facts is found = place_added dom p w (new_client (record { level = p.subject; number = last_of p.subject w.lasts.clients + 1 }) args) facts (record { own = refl; above = omega arith }) is
+place_made dom args p w (Some c) facts is found =
+    let pending = (all_find (λ c. Unit {0}) (is_pending p.subject args.owner) w.clients c (all_anyway _ (λ c. tt) w.clients) found).1 in
+    let there = found_by_id (λ c. c.id) (is_pending p.subject args.owner) w.clients c facts.clients.rise found in
+    let unconfirmed : c.confirmed ≡ false = grind (arith, pending) in
+    let after = place_dropped dom w c there unconfirmed p is in
+    let row : Client = new_client (record { level = p.subject; number = last_of p.subject w.lasts.clients + 1 }) args in
+    let absent = client_absent p.subject (apply (DropClient c.id) w).clients w.lasts.clients (drop_client w.clients w.lasts.clients c.id facts.clients) row.id (record { own = refl; above = omega arith }) in
+    let stay = confirmed_stay row (apply (DropClient c.id) w).clients (grind (arith, absent)) in
+    place_stays dom p.subject (apply (DropClient c.id) w) (apply (AddClient row) (apply (DropClient c.id) w)) (λ number. stay p.subject number) (λ client number there held. held) p.client p.session p.current p.saved after
+
+-- what holds of each end of the chain holds of the outcome
+ends : (P : Outcome (Answer Told) → Type 0) (p : Place) (told_flag update_flag : Bool) (o : Option Client) (room number : Bool) (made : Outcome (Answer Told)) →
+    ((gate : Gate) (status : ℕ) → P (refuse p gate status)) → ((t : Told) → P (done p t [])) → P made →
+    P (demand told_flag (refuse p gates.Session NFS4ERR_INVAL) (demand update_flag (refuse p gates.Session NFS4ERR_INVAL) (where_there o (λ c. done p (record { number = c.id.number; sequence = c.sequence; confirmed = c.confirmed }) []) (demand room (refuse p gates.Session NFS4ERR_NOSPC) (demand number (refuse p gates.Session NFS4ERR_NOSPC) made)))))
+ends P p false update o room number made refused told is = refused gates.Session NFS4ERR_INVAL
+ends P p true false o room number made refused told is = refused gates.Session NFS4ERR_INVAL
+ends P p true true (Some c) room number made refused told is = told (record { number = c.id.number; sequence = c.sequence; confirmed = c.confirmed })
+ends P p true true None false number made refused told is = refused gates.Session NFS4ERR_NOSPC
+ends P p true true None true false made refused told is = refused gates.Session NFS4ERR_NOSPC
+ends P p true true None true true made refused told is = is
+
+pub exchange_id_footprint : (dom : ℕ → ℕ → Bool) (args : Arguments) (p : Place) (w : World) → Stands dom p w → IsFootprint dom p w (exchange_id args p w)
+exchange_id_footprint dom args p w stands =
+    let number = last_of p.subject w.lasts.clients + 1 in
+    let made : Outcome (Answer Told) = done p (record { number = number; sequence = 1; confirmed = false }) (dropped (find (is_pending p.subject args.owner) w.clients) ++ AddClient (new_client (record { level = p.subject; number = number }) args) ∷ []) in
+    ends (IsFootprint dom p w) p (not (has_flag args.flags EXCHGID4_FLAG_CONFIRMED_R)) (not (has_flag args.flags EXCHGID4_FLAG_UPD_CONFIRMED_REC_A)) (find (is_confirmed_as p.subject args.owner args.verifier) w.clients)
+    (nat_lt (others_of p.subject args.owner w.clients) CLIENTS_OF_A_LEVEL) (nat_lt (last_of p.subject w.lasts.clients) LAST_NUMBER) made
+    (λ gate status. unchanged_footprint dom p w stands (refuse p gate status).answer)
+    (λ t. unchanged_footprint dom p w stands (done p t []).answer)
+    (record {
+      within = made_within dom p.subject args w (find (is_pending p.subject args.owner) w.clients) stands.facts refl;
+      place = place_made dom args p w (find (is_pending p.subject args.owner) w.clients) stands.facts stands.place refl;
+      subject = refl;
+    })
+
+-- it leaves the place
+pub exchange_id_stays : (args : Arguments) (p : Place) (w : World) → (exchange_id args p w).place ≡ p
+exchange_id_stays args p w =
+    let number = last_of p.subject w.lasts.clients + 1 in
+    let made : Outcome (Answer Told) = done p (record { number = number; sequence = 1; confirmed = false }) (dropped (find (is_pending p.subject args.owner) w.clients) ++ AddClient (new_client (record { level = p.subject; number = number }) args) ∷ []) in
+    ends (λ o. o.place ≡ p) p (not (has_flag args.flags EXCHGID4_FLAG_CONFIRMED_R)) (not (has_flag args.flags EXCHGID4_FLAG_UPD_CONFIRMED_REC_A)) (find (is_confirmed_as p.subject args.owner args.verifier) w.clients)
+    (nat_lt (others_of p.subject args.owner w.clients) CLIENTS_OF_A_LEVEL) (nat_lt (last_of p.subject w.lasts.clients) LAST_NUMBER) made
+    (λ gate status. refl) (λ t. refl) refl

@@ -2,40 +2,32 @@
 use Rattle.std.proofs.Common.{◌≡◌, ℕ, Bool, true, false, not, List, [], ◌∷◌, Some, None, refl, sym, ap, arith}
 use Rattle.std.specs.Prelude.{filter}
 use Rattle.std.specs.List.{find, list_any, AllByRecursion}
+use Rattle.std.specs.Str.{bytes_eq}
 use Rattle.std.proofs.lemmas.Bool.Decides.{nat_tests}
-use Rattle.lnfs_world.specs.declared.Client.{Client}
-use Rattle.lnfs_world.specs.World.{is_client}
-use Rattle.lnfs_world.specs.Facts.{same_bytes, are_rivals, NoRivals}
+use Rattle.lnfs_world.specs.Rows.{Apart}
+use Rattle.lnfs_world.specs.World.{Client, same_id}
+use Rattle.lnfs_world.specs.Facts.{are_rivals}
+use Rattle.lnfs_world.proofs.Keys.{bytes_same, bytes_itself}
 use Rattle.lnfs_operations.specs.ExchangeId.{is_pending}
-
-pub same_bytes-is : (a b : List ℕ) → same_bytes a b ≡ true → a ≡ b
-same_bytes-is [] [] e = refl
-same_bytes-is [] (y ∷ ys) e = absurd (cc)
-same_bytes-is (x ∷ xs) [] e = absurd (cc)
-same_bytes-is (x ∷ xs) (y ∷ ys) e = grind (arith, nat_tests, same_bytes-is xs ys)
-
-pub same_bytes-self : (a : List ℕ) → same_bytes a a ≡ true
-same_bytes-self [] = refl
-same_bytes-self (x ∷ xs) = grind (arith, nat_tests, same_bytes-self xs)
 
 -- two pending records of one owner are rivals
 pending_rivals : (s : ℕ) (owner : List ℕ) (a b : Client) → is_pending s owner a ≡ true → is_pending s owner b ≡ true → are_rivals a b ≡ true
 pending_rivals s owner a b p q =
-    let x : a.owner ≡ owner = same_bytes-is a.owner owner (grind (arith, nat_tests)) in
-    let y : b.owner ≡ owner = same_bytes-is b.owner owner (grind (arith, nat_tests)) in
-    let same : same_bytes a.owner b.owner ≡ true = rw (x, y) (same_bytes-self owner) in
+    let x : a.owner ≡ owner = bytes_same a.owner owner (grind (arith, nat_tests)) in
+    let y : b.owner ≡ owner = bytes_same b.owner owner (grind (arith, nat_tests)) in
+    let same : bytes_eq a.owner b.owner ≡ true = rw (x, y) (bytes_itself owner) in
     grind (arith, nat_tests)
 
 -- the rivals of a pending record of the owner are pending records of it
-pub rival_pending : (s : ℕ) (owner : List ℕ) (a b : Client) → a.level ≡ s → a.owner ≡ owner → a.confirmed ≡ false → are_rivals a b ≡ true → is_pending s owner b ≡ true
+pub rival_pending : (s : ℕ) (owner : List ℕ) (a b : Client) → a.id.level ≡ s → a.owner ≡ owner → a.confirmed ≡ false → are_rivals a b ≡ true → is_pending s owner b ≡ true
 rival_pending s owner a b level name pending r =
-    let x : a.owner ≡ b.owner = same_bytes-is a.owner b.owner (grind (arith, nat_tests)) in
-    let same : same_bytes b.owner owner ≡ true = rw (sym x, name) (same_bytes-self owner) in
+    let x : a.owner ≡ b.owner = bytes_same a.owner b.owner (grind (arith, nat_tests)) in
+    let same : bytes_eq b.owner owner ≡ true = rw (sym x, name) (bytes_itself owner) in
     grind (arith, nat_tests)
 
-none_of : (s : ℕ) (owner : List ℕ) (number : ℕ) (c : Client) (cs : List Client) → is_pending s owner c ≡ true → AllByRecursion (λ d. are_rivals c d ≡ false) cs → list_any (is_pending s owner) (filter (λ d. not (is_client s number d)) cs) ≡ false
-none_of s owner number c [] is apart = refl
-none_of s owner number c (d ∷ ds) is apart = grind (arith, nat_tests, none_of s owner number c ds is apart.1, pending_rivals s owner c d is, apart.0)
+none_of : (s : ℕ) (owner : List ℕ) (gone c : Client) (cs : List Client) → is_pending s owner c ≡ true → AllByRecursion (λ d. are_rivals c d ≡ false) cs → list_any (is_pending s owner) (filter (λ d. not (same_id gone.id d.id)) cs) ≡ false
+none_of s owner gone c [] is apart = refl
+none_of s owner gone c (d ∷ ds) is apart = grind (arith, nat_tests, none_of s owner gone c ds is apart.1, pending_rivals s owner c d is, apart.0)
 
 -- no row passes where none is found
 pub none_found : {X : Type 0} (q : X → Bool) (xs : List X) → find q xs ≡ None → list_any q xs ≡ false
@@ -43,13 +35,13 @@ none_found q [] e = refl
 none_found q (x ∷ xs) e = grind (arith, none_found q xs)
 
 -- where the owner's pending record goes, none stays
-pub none_pending : (s : ℕ) (owner : List ℕ) (cs : List Client) (c : Client) → NoRivals cs → find (is_pending s owner) cs ≡ Some c → list_any (is_pending s owner) (filter (λ d. not (is_client s c.number d)) cs) ≡ false
+pub none_pending : (s : ℕ) (owner : List ℕ) (cs : List Client) (c : Client) → Apart are_rivals cs → find (is_pending s owner) cs ≡ Some c → list_any (is_pending s owner) (filter (λ d. not (same_id c.id d.id)) cs) ≡ false
 none_pending s owner [] c none found = refl
 none_pending s owner (d ∷ ds) c none found = at (is_pending s owner d) refl (none_pending s owner ds c none.1)
   where
-    at : (b : Bool) → is_pending s owner d ≡ b → (find (is_pending s owner) ds ≡ Some c → list_any (is_pending s owner) (filter (λ x. not (is_client s c.number x)) ds) ≡ false) → list_any (is_pending s owner) (filter (λ x. not (is_client s c.number x)) (d ∷ ds)) ≡ false
+    at : (b : Bool) → is_pending s owner d ≡ b → (find (is_pending s owner) ds ≡ Some c → list_any (is_pending s owner) (filter (λ x. not (same_id c.id x.id)) ds) ≡ false) → list_any (is_pending s owner) (filter (λ x. not (same_id c.id x.id)) (d ∷ ds)) ≡ false
     at true is rest =
         let same : d ≡ c = grind (arith, is) in
-        let number : d.number ≡ c.number = ap (λ (x : Client). x.number) same in
-        grind (arith, nat_tests, none_of s owner c.number d ds is none.0)
+        let id : d.id ≡ c.id = ap (λ (x : Client). x.id) same in
+        grind (arith, nat_tests, none_of s owner c d ds is none.0)
     at false is rest = grind (arith, nat_tests, rest)

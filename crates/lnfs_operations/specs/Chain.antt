@@ -1,20 +1,26 @@
 -- Operations as chains of tests: one line a test, in order, each with what a failure answers.
 use Rattle.std.specs.Prelude.{ℕ, Bool, cond, List, [], Option, Some, None}
 use Rattle.lnfs_world.specs.Change.{Change}
-use Rattle.lnfs_world.specs.Outcome.{Outcome}
+use Rattle.lnfs_world.specs.Outcome.{Place, Outcome}
 use Rattle.lnfs_operations.specs.declared.Gate.{Gate}
 
--- what an operation answers: its result, or which kind of test failed with which status
+-- which kind of test failed, with which status
+pub record Refusal : Type 0 where
+  pub gate : Gate
+  pub status : ℕ
+
+-- what an operation answers: its result, or a refusal
 pub data Answer (R : Type 0) : Type 0 where
   Done : R → Answer R
-  Refused : (gate : Gate) (status : ℕ) → Answer R
+  Refused : Refusal → Answer R
 
--- a refusal changes nothing
-abbrev pub refuse : {R : Type 0} → Gate → ℕ → Outcome (Answer R)
-refuse gate status = record { answer = Refused gate status; changes = [] }
+-- a refusal leaves the place and changes nothing
+abbrev pub refuse : {R : Type 0} → Place → Gate → ℕ → Outcome (Answer R)
+refuse p gate status = record { answer = Refused (record { gate = gate; status = status }); place = p; changes = [] }
 
-abbrev pub done : {R : Type 0} → R → List Change → Outcome (Answer R)
-done result changes = record { answer = Done result; changes = changes }
+-- a success that leaves the place
+abbrev pub done : {R : Type 0} → Place → R → List Change → Outcome (Answer R)
+done p result changes = record { answer = Done result; place = p; changes = changes }
 
 -- the next test, or a refusal
 abbrev pub demand : {A : Type 0} → Bool → Outcome A → Outcome A → Outcome A

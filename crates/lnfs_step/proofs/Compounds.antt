@@ -1,8 +1,7 @@
 -- What holds of every COMPOUND that is read: its tag is short, its operations are few, and what is
 -- outside of the profile fails.
-use Rattle.std.proofs.Common.{◌≡◌, ◌≢◌, ◌≤◌, ◌<◌, ◌+◌, ℕ, zero, suc, Bool, true, false, cond, eqb, List, [], ◌∷◌, ◌++◌, length, take, drop, Ok, Err, nat_lt, nat_le, refl, sym, ap, ◌∙◌, subst, arith}
+use Rattle.std.proofs.Common.{◌≡◌, ◌≤◌, ◌+◌, ℕ, zero, suc, Bool, true, false, cond, eqb, List, [], ◌∷◌, length, take, drop, Ok, Err, nat_lt, nat_le, refl, ap, subst, arith}
 use Rattle.std.specs.Prelude.{◌==◌, Result}
-use Rattle.std.specs.List.{AllByRecursion}
 use Rattle.std.specs.Int.{w32}
 use Rattle.std.proofs.lemmas.Bool.{ltb-false}
 use Rattle.std.proofs.lemmas.Bool.Decides.{nat_tests}
@@ -10,7 +9,7 @@ use Rattle.std.proofs.lemmas.List.{length-take, length-append}
 use Rattle.lnfs_xdr.specs.declared.error.XdrError.{XdrError}
 use Rattle.lnfs_xdr.specs.declared.error.XdrError.TheVariants.{Short, TooLong}
 use Rattle.lnfs_xdr.specs.Format.{Format, Word, Opaque, Done, If, Then, padding}
-use Rattle.lnfs_xdr.specs.Reading.{Read, Stop, Fault, Leaves, read, number_at, count_at, padded_at, opaque_at}
+use Rattle.lnfs_xdr.specs.Reading.{Read, Fault, Leaves, read, number_at, count_at, padded_at, opaque_at}
 use Rattle.lnfs_xdr.proofs.Fields.{after_ok, guard_ok, here_ok}
 use Rattle.lnfs_arguments.specs.declared.types.Op.{Op}
 use Rattle.lnfs_arguments.specs.declared.types.Op.TheVariants as ops

@@ -1,4 +1,6 @@
+pub mod FirstWorlds
+pub mod Requests
 pub mod Purging
-pub mod Steps
 pub mod Compounds
 pub mod Lengths
+pub mod Steps

@@ -1,92 +1,116 @@
--- Both laws of erasure for a step, and the purge law for its journals.
+-- Both laws of erasure for a step, and the purge law for its journals, with further operations that are
+-- lawful.
 use Rattle.std.specs.Prelude.{◌==◌, if◌then◌else◌}
 use Rattle.std.proofs.Common.{◌≡◌, ℕ, true, false, List, [], ◌∷◌, ◌++◌, Option, Some, None, refl, sym, ap, ◌∙◌, subst}
 use Rattle.lnfs_calipso.specs.Label.{IsPreorderWithBottom}
 use Rattle.lnfs_outside.specs.declared.event.Event.{Event}
+use Rattle.lnfs_outside.specs.declared.event.Moment.{Moment}
 use Rattle.lnfs_policy.specs.Policy.{Policy, dominance}
-use Rattle.lnfs_world.specs.World.{World, empty, erased}
-use Rattle.lnfs_world.specs.Facts.{Facts}
-use Rattle.lnfs_world.proofs.Laws.{empty_holds}
+use Rattle.lnfs_world.specs.Outcome.{begins_at}
+use Rattle.lnfs_world.specs.Both.{Both, both_seen, BothStand}
+use Rattle.lnfs_arguments.specs.declared.statuses.TheConstants.{NFS4ERR_MINOR_VERS_MISMATCH}
+use Rattle.lnfs_arguments.specs.Further.{nothing_further}
 use Rattle.lnfs_results.specs.declared.types.OpResult.{OpResult}
 use Rattle.lnfs_results.specs.Numbered.{status_of_all}
 use Rattle.lnfs_results.specs.Texts.{results_text}
-use Rattle.lnfs_operations.specs.declared.numbers.TheConstants.{NFS4ERR_MINOR_VERS_MISMATCH}
+use Rattle.lnfs_operations.specs.Extra.{Extra, AreLawful}
+use Rattle.lnfs_operations.specs.Compound.{deed_in}
+use Rattle.lnfs_operations.proofs.Tables.{deeds_lawful}
 use Rattle.lnfs_operations.proofs.Runs.{run_alike, run_stays, run_keeps}
 use Rattle.lnfs_rpc.specs.Replies.{reply_text}
 use Rattle.lnfs_step.specs.declared.numbers.TheConstants.{SUCCESS}
-use Rattle.lnfs_step.specs.Request.{Request, Silent, Refused, Nothing, Asked, request_of, level_in, level_of, plainly}
-use Rattle.lnfs_step.specs.Step.{Step, step_of, step}
-use Rattle.lnfs_step.specs.Journal.{world_from, world_after, is_dominated, purged, reply_at, answer, answer_to}
-use Rattle.lnfs_step.proofs.Purging.{state_from, reply_purged, journal_keeps}
+use Rattle.lnfs_step.specs.Request.{Request, Silent, Refused, Nothing, Asked, request_with, level_in, level_of, plainly}
+use Rattle.lnfs_step.specs.Step.{site_of, step_of, step_with}
+use Rattle.lnfs_step.specs.Journal.{Holds, seen_at, first_state, state_from, state_after, is_dominated, purged, reply_with, answer_with, answer_to}
+use Rattle.lnfs_step.proofs.FirstWorlds.{first_facts}
+use Rattle.lnfs_step.proofs.Requests.{same_level}
+use Rattle.lnfs_step.proofs.Purging.{state_from as from_state, reply_purged, journal_keeps}
 
-module _ (p : Policy) (lattice : IsPreorderWithBottom (dominance p)) where
-  of_seen : (l s : ℕ) (r : Request) (a b : World) → level_in r ≡ Some s → dominance p l s ≡ true → Facts (dominance p) a → Facts (dominance p) b → erased (dominance p) l a ≡ erased (dominance p) l b → ((step_of a r).reply ≡ (step_of b r).reply) × (erased (dominance p) l (step_of a r).world ≡ erased (dominance p) l (step_of b r).world)
-  of_seen l s Silent a b is above fa fb e = (refl, e)
-  of_seen l s (Refused level xid cause) a b is above fa fb e = (refl, e)
-  of_seen l s (Nothing xid) a b is above fa fb e = (refl, e)
-  of_seen l s (Asked level xid c) a b is above fa fb e =
+module _ (X : Extra) (owed : AreLawful X) (p : Policy) (lattice : IsPreorderWithBottom (dominance p)) where
+  -- what has to stand before a COMPOUND's first operation
+  begins : (level : ℕ) (moment : Moment) (b : Both X.Row) → Holds X p b → BothStand X.Fact (dominance p) (begins_at level moment) b
+  begins level moment b holds = record { world = record { facts = holds.facts; place = refl }; own = holds.own }
+
+  -- ---- a request
+
+  of_seen : (l s : ℕ) (moment : Moment) (r : Request) (a b : Both X.Row) → level_in r ≡ Some s → dominance p l s ≡ true → Holds X p a → Holds X p b → seen_at X p l a ≡ seen_at X p l b → ((step_of X p moment a r).reply ≡ (step_of X p moment b r).reply) × (seen_at X p l (step_of X p moment a r).state ≡ seen_at X p l (step_of X p moment b r).state)
+  of_seen l s moment Silent a b is above ha hb e = (refl, e)
+  of_seen l s moment (Refused level xid cause) a b is above ha hb e = (refl, e)
+  of_seen l s moment (Nothing xid) a b is above ha hb e = (refl, e)
+  of_seen l s moment (Asked level xid c) a b is above ha hb e =
       let same : level ≡ s = cc in
-      let r = run_alike (dominance p) lattice c l level a b (ap (dominance p l) same ∙ above) fa fb e in
+      let r = run_alike (dominance p) (both_seen X.level_of (dominance p)) (BothStand X.Fact (dominance p)) (deed_in X (site_of p) c) (deeds_lawful X owed (site_of p) lattice c) l c (begins_at level moment) a b (ap (dominance p l) same ∙ above) (begins level moment a ha) (begins level moment b hb) e in
       (ap (λ (rs : List OpResult). Some (reply_text xid (plainly SUCCESS) (results_text (record { status = if c.minor == 2 then status_of_all rs else NFS4ERR_MINOR_VERS_MISMATCH; tag = c.tag; results = rs })))) r.results, r.seen)
 
-  of_unseen : (l : ℕ) (r : Request) (w : World) → is_dominated (dominance p) l (level_in r) ≡ false → Facts (dominance p) w → erased (dominance p) l (step_of w r).world ≡ erased (dominance p) l w
-  of_unseen l Silent w apart facts = refl
-  of_unseen l (Refused level xid cause) w apart facts = refl
-  of_unseen l (Nothing xid) w apart facts = refl
-  of_unseen l (Asked level xid c) w apart facts = run_stays (dominance p) lattice c l level w apart facts
+  of_unseen : (l : ℕ) (moment : Moment) (r : Request) (a : Both X.Row) → is_dominated (dominance p) l (level_in r) ≡ false → Holds X p a → seen_at X p l (step_of X p moment a r).state ≡ seen_at X p l a
+  of_unseen l moment Silent a apart holds = refl
+  of_unseen l moment (Refused level xid cause) a apart holds = refl
+  of_unseen l moment (Nothing xid) a apart holds = refl
+  of_unseen l moment (Asked level xid c) a apart holds = run_stays (dominance p) (both_seen X.level_of (dominance p)) (BothStand X.Fact (dominance p)) (deed_in X (site_of p) c) (deeds_lawful X owed (site_of p) lattice c) l c (begins_at level moment) a apart (begins level moment a holds)
 
-  of_keeps : (r : Request) (w : World) → Facts (dominance p) w → Facts (dominance p) (step_of w r).world
-  of_keeps Silent w facts = facts
-  of_keeps (Refused level xid cause) w facts = facts
-  of_keeps (Nothing xid) w facts = facts
-  of_keeps (Asked level xid c) w facts = run_keeps (dominance p) lattice c level w facts
+  of_keeps : (moment : Moment) (r : Request) (a : Both X.Row) → Holds X p a → Holds X p (step_of X p moment a r).state
+  of_keeps moment Silent a holds = holds
+  of_keeps moment (Refused level xid cause) a holds = holds
+  of_keeps moment (Nothing xid) a holds = holds
+  of_keeps moment (Asked level xid c) a holds =
+      run_keeps (dominance p) (both_seen X.level_of (dominance p)) (BothStand X.Fact (dominance p)) (deed_in X (site_of p) c) (deeds_lawful X owed (site_of p) lattice c) (Holds X p) (λ q b stands. record { facts = stands.world.facts; own = stands.own }) c (begins_at level moment) a (begins level moment a holds)
 
-  -- a request without a level has one reply in all worlds
-  of_none : (r : Request) (a b : World) → level_in r ≡ None → (step_of a r).reply ≡ (step_of b r).reply
-  of_none Silent a b is = refl
-  of_none (Refused level xid cause) a b is = refl
-  of_none (Nothing xid) a b is = refl
-  of_none (Asked level xid c) a b is = cc
+  -- a request without a level has one reply in all states
+  of_none : (moment : Moment) (r : Request) (a b : Both X.Row) → level_in r ≡ None → (step_of X p moment a r).reply ≡ (step_of X p moment b r).reply
+  of_none moment Silent a b is = refl
+  of_none moment (Refused level xid cause) a b is = refl
+  of_none moment (Nothing xid) a b is = refl
+  of_none moment (Asked level xid c) a b is = cc
 
-  pub seen : (l s : ℕ) (event : Event) (a b : World) → level_of p event.class event.message ≡ Some s → dominance p l s ≡ true → Facts (dominance p) a → Facts (dominance p) b → erased (dominance p) l a ≡ erased (dominance p) l b → ((step p a event).reply ≡ (step p b event).reply) × (erased (dominance p) l (step p a event).world ≡ erased (dominance p) l (step p b event).world)
-  unfolding step
-  seen l s event a b is above fa fb e = of_seen l s (request_of p event.class event.message) a b is above fa fb e
+  -- ---- an event
 
-  pub unseen : (l : ℕ) (event : Event) (w : World) → is_dominated (dominance p) l (level_of p event.class event.message) ≡ false → Facts (dominance p) w → erased (dominance p) l (step p w event).world ≡ erased (dominance p) l w
-  unfolding step
-  unseen l event w apart facts = of_unseen l (request_of p event.class event.message) w apart facts
+  level_is : (event : Event) → level_in (request_with X.grammar p event.class event.message) ≡ level_of p event.class event.message
+  level_is event = same_level X.grammar nothing_further p event.class event.message
 
-  pub keeps : (event : Event) (w : World) → Facts (dominance p) w → Facts (dominance p) (step p w event).world
-  unfolding step
-  keeps event w facts = of_keeps (request_of p event.class event.message) w facts
+  pub seen : (l s : ℕ) (event : Event) (a b : Both X.Row) → level_of p event.class event.message ≡ Some s → dominance p l s ≡ true → Holds X p a → Holds X p b → seen_at X p l a ≡ seen_at X p l b → ((step_with X p a event).reply ≡ (step_with X p b event).reply) × (seen_at X p l (step_with X p a event).state ≡ seen_at X p l (step_with X p b event).state)
+  unfolding step_with
+  seen l s event a b is above ha hb e = of_seen l s event.moment (request_with X.grammar p event.class event.message) a b (level_is event ∙ is) above ha hb e
 
-  none : (event : Event) (a b : World) → level_of p event.class event.message ≡ None → (step p a event).reply ≡ (step p b event).reply
-  unfolding step
-  none event a b is = of_none (request_of p event.class event.message) a b is
+  pub unseen : (l : ℕ) (event : Event) (a : Both X.Row) → is_dominated (dominance p) l (level_of p event.class event.message) ≡ false → Holds X p a → seen_at X p l (step_with X p a event).state ≡ seen_at X p l a
+  unfolding step_with
+  unseen l event a apart holds = of_unseen l event.moment (request_with X.grammar p event.class event.message) a (ap (is_dominated (dominance p) l) (level_is event) ∙ apart) holds
 
-  from_state : (w : World) (journal : List Event) → world_from p w journal ≡ state_from (λ w event. (step p w event).world) w journal
-  unfolding world_from
-  from_state w [] = refl
-  from_state w (event ∷ journal) = from_state (step p w event).world journal
+  pub keeps : (event : Event) (a : Both X.Row) → Holds X p a → Holds X p (step_with X p a event).state
+  unfolding step_with
+  keeps event a holds = of_keeps event.moment (request_with X.grammar p event.class event.message) a holds
 
-  pub facts_after : (journal : List Event) → Facts (dominance p) (world_after p journal)
-  facts_after journal = subst (Facts (dominance p)) (sym (from_state empty journal))
-      (journal_keeps (erased (dominance p)) (Facts (dominance p)) (dominance p) lattice.reflexive (λ event. level_of p event.class event.message) (λ w event. (step p w event).world) (λ w event. (step p w event).reply) (λ l s event a b. seen l s event a b) (λ l event w. unseen l event w) (λ event w. keeps event w) journal empty (empty_holds (dominance p)))
+  none : (event : Event) (a b : Both X.Row) → level_of p event.class event.message ≡ None → (step_with X p a event).reply ≡ (step_with X p b event).reply
+  unfolding step_with
+  none event a b is = of_none event.moment (request_with X.grammar p event.class event.message) a b (level_is event ∙ is)
 
-  reply_to : (journal : List Event) (event : Event) (o : Option ℕ) → level_of p event.class event.message ≡ o → (step p (world_after p journal) event).reply ≡ answer_to p journal event o
-  unfolding reply_at purged
-  reply_to journal event None is = none event (world_after p journal) (world_after p []) is
+  -- ---- a journal
+
+  pub first_holds : Holds X p (first_state X p)
+  first_holds = record { facts = first_facts p lattice; own = owed.begins (first_state X p).world }
+
+  as_fold : (b : Both X.Row) (journal : List Event) → state_from X p b journal ≡ from_state (λ a event. (step_with X p a event).state) b journal
+  unfolding state_from
+  as_fold b [] = refl
+  as_fold b (event ∷ journal) = as_fold (step_with X p b event).state journal
+
+  pub holds_after : (journal : List Event) → Holds X p (state_after X p journal)
+  holds_after journal = subst (Holds X p) (sym (as_fold (first_state X p) journal))
+      (journal_keeps (seen_at X p) (Holds X p) (dominance p) lattice.reflexive (λ event. level_of p event.class event.message) (λ a event. (step_with X p a event).state) (λ a event. (step_with X p a event).reply) (λ l s event a b. seen l s event a b) (λ l event a. unseen l event a) (λ event a. keeps event a) journal (first_state X p) first_holds)
+
+  reply_to : (journal : List Event) (event : Event) (o : Option ℕ) → level_of p event.class event.message ≡ o → (step_with X p (state_after X p journal) event).reply ≡ answer_to X p journal event o
+  unfolding reply_with purged
+  reply_to journal event None is = none event (state_after X p journal) (state_after X p []) is
   reply_to journal event (Some s) is =
-      ap (λ w. (step p w event).reply) (from_state empty journal)
-      ∙ reply_purged (erased (dominance p)) (Facts (dominance p)) (dominance p) lattice.reflexive (λ event. level_of p event.class event.message) (λ w event. (step p w event).world) (λ w event. (step p w event).reply) (λ l s event a b. seen l s event a b) (λ l event w. unseen l event w) (λ event w. keeps event w) empty (empty_holds (dominance p)) journal event s is
-      ∙ ap (λ w. (step p w event).reply) (sym (from_state empty (purged p journal s)))
+      ap (λ a. (step_with X p a event).reply) (as_fold (first_state X p) journal)
+      ∙ reply_purged (seen_at X p) (Holds X p) (dominance p) lattice.reflexive (λ event. level_of p event.class event.message) (λ a event. (step_with X p a event).state) (λ a event. (step_with X p a event).reply) (λ l s event a b. seen l s event a b) (λ l event a. unseen l event a) (λ event a. keeps event a) (first_state X p) first_holds journal event s is
+      ∙ ap (λ a. (step_with X p a event).reply) (sym (as_fold (first_state X p) (purged p journal s)))
 
-  pub reply_is_answer : (journal : List Event) (event : Event) → (step p (world_after p journal) event).reply ≡ answer p journal event
-  unfolding answer
+  pub reply_is_answer : (journal : List Event) (event : Event) → reply_with X p journal event ≡ answer_with X p journal event
+  unfolding reply_with answer_with
   reply_is_answer journal event = reply_to journal event (level_of p event.class event.message) refl
 
 -- one more event
-pub world_from-append : (p : Policy) (w : World) (journal : List Event) (event : Event) → world_from p w (journal ++ event ∷ []) ≡ (step p (world_from p w journal) event).world
-unfolding world_from
-world_from-append p w [] event = refl
-world_from-append p w (e ∷ journal) event = world_from-append p (step p w e).world journal event
+pub state_from-append : (X : Extra) (p : Policy) (b : Both X.Row) (journal : List Event) (event : Event) → state_from X p b (journal ++ event ∷ []) ≡ (step_with X p (state_from X p b journal) event).state
+unfolding state_from
+state_from-append X p b [] event = refl
+state_from-append X p b (e ∷ journal) event = state_from-append X p (step_with X p b e).state journal event

@@ -1,20 +1,39 @@
--- Journals: the world after one, one purged for a level, and the answer on it.
+-- Journals: the state after one, one purged for a level, and the answer on it.
 use Rattle.std.specs.Prelude.{ℕ, ◌+◌, Bool, false, List, [], ◌∷◌, ◌++◌, length, Option, Some, None, filter}
 use Rattle.std.specs.Fmt.{decimal}
 use Rattle.lnfs_outside.specs.declared.event.Event.{Event}
 use Rattle.lnfs_policy.specs.Policy.{Policy, dominance}
-use Rattle.lnfs_world.specs.World.{World, empty}
+use Rattle.lnfs_world.specs.World.{World}
+use Rattle.lnfs_world.specs.Facts.{Facts}
+use Rattle.lnfs_world.specs.Both.{Both, both, both_seen}
+use Rattle.lnfs_operations.specs.Extra.{Extra, no_extra}
 use Rattle.lnfs_step.specs.Request.{level_of}
-use Rattle.lnfs_step.specs.Step.{Line, step}
+use Rattle.lnfs_step.specs.First.{first_world}
+use Rattle.lnfs_step.specs.Step.{Line, step_with}
 
--- events in order, from a world on
-unfoldable pub world_from : Policy → World → List Event → World
-world_from p w [] = w
-world_from p w (event ∷ journal) = world_from p (step p w event).world journal
+-- ---- with further operations
 
--- the world after a journal
-abbrev pub world_after : Policy → List Event → World
-world_after p journal = world_from p empty journal
+-- what holds of every state that is kept
+pub record Holds (X : Extra) (p : Policy) (b : Both X.Row) : Type 0 where
+  pub facts : Facts (dominance p) b.world
+  pub own : X.Fact b.world b.own
+
+-- what a level sees of a state
+abbrev pub seen_at : (X : Extra) → Policy → ℕ → Both X.Row → Both X.Row
+seen_at X p level b = both_seen X.level_of (dominance p) level b
+
+-- before all events there are no rows of further operations
+abbrev pub first_state : (X : Extra) → Policy → Both X.Row
+first_state X p = both (first_world p) []
+
+-- events in order, from a state on
+unfoldable pub state_from : (X : Extra) → Policy → Both X.Row → List Event → Both X.Row
+state_from X p b [] = b
+state_from X p b (event ∷ journal) = state_from X p (step_with X p b event).state journal
+
+-- the world and the further rows after a journal
+abbrev pub state_after : (X : Extra) → Policy → List Event → Both X.Row
+state_after X p journal = state_from X p (first_state X p) journal
 
 -- a level that dominates the event's, if it has one
 abbrev pub is_dominated : (ℕ → ℕ → Bool) → ℕ → Option ℕ → Bool
@@ -29,20 +48,35 @@ unfoldable pub purged : Policy → List Event → ℕ → List Event
 purged p journal s = filter (is_for p s) journal
 
 -- the reply and the line that an event gets after a journal
-unfoldable pub reply_at : Policy → List Event → Event → Option (List ℕ)
-reply_at p journal event = (step p (world_after p journal) event).reply
+unfoldable pub reply_with : (X : Extra) → Policy → List Event → Event → Option (List ℕ)
+reply_with X p journal event = (step_with X p (state_after X p journal) event).reply
 
-unfoldable pub line_at : Policy → List Event → Event → Option Line
-line_at p journal event = (step p (world_after p journal) event).line
+unfoldable pub line_with : (X : Extra) → Policy → List Event → Event → Option Line
+line_with X p journal event = (step_with X p (state_after X p journal) event).line
 
-abbrev pub answer_to : Policy → List Event → Event → Option ℕ → Option (List ℕ)
-answer_to p journal event None = reply_at p [] event
-answer_to p journal event (Some s) = reply_at p (purged p journal s) event
+abbrev pub answer_to : (X : Extra) → Policy → List Event → Event → Option ℕ → Option (List ℕ)
+answer_to X p journal event None = reply_with X p [] event
+answer_to X p journal event (Some s) = reply_with X p (purged p journal s) event
 
 -- The reply that the requester would get with every event outside its dominance purged. One without a
 -- level has the reply of the first world.
-unfoldable pub answer : Policy → List Event → Event → Option (List ℕ)
-answer p journal event = answer_to p journal event (level_of p event.class event.message)
+unfoldable pub answer_with : (X : Extra) → Policy → List Event → Event → Option (List ℕ)
+answer_with X p journal event = answer_to X p journal event (level_of p event.class event.message)
+
+-- ---- with the operations of the table alone
+
+-- the world after a journal
+abbrev pub world_after : Policy → List Event → World
+world_after p journal = (state_after no_extra p journal).world
+
+abbrev pub reply_at : Policy → List Event → Event → Option (List ℕ)
+reply_at = reply_with no_extra
+
+abbrev pub line_at : Policy → List Event → Event → Option Line
+line_at = line_with no_extra
+
+abbrev pub answer : Policy → List Event → Event → Option (List ℕ)
+answer = answer_with no_extra
 
 abbrev pub line_text : ℕ → Line → List ℕ
 line_text event line = decimal event ++ 32 ∷ decimal line.place ++ 32 ∷ decimal line.number ++ 32 ∷ line.gate ++ 32 ∷ decimal line.status ++ 10 ∷ []

@@ -1,3 +1,5 @@
+pub mod First
 pub mod Request
 pub mod Step
 pub mod Journal
+pub mod Example

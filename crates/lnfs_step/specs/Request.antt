@@ -1,5 +1,5 @@
 -- What a record asks, and of which level: a matter of its bytes, its class and the policy alone.
-use Rattle.std.specs.Prelude.{ℕ, ◌==◌, cond, List, [], ◌∷◌, ◌++◌, Option, Some, None, Result, Ok, Err, option_map}
+use Rattle.std.specs.Prelude.{ℕ, ◌==◌, cond, List, [], ◌∷◌, ◌++◌, Option, Some, None, Result, Ok, Err}
 use Rattle.lnfs_xdr.specs.Canon.{word}
 use Rattle.lnfs_rpc.specs.declared.authsys.Sys.{Sys}
 use Rattle.lnfs_rpc.specs.declared.calls.CallError.{CallError}
@@ -10,9 +10,9 @@ use Rattle.lnfs_rpc.specs.Replies.{ReplyHead, accepted, version_mismatch, auth_e
 use Rattle.lnfs_arguments.specs.declared.types.Compound.{Compound}
 use Rattle.lnfs_xdr.specs.Message.{parse}
 use Rattle.lnfs_arguments.specs.Whole.{compound}
-use Rattle.lnfs_arguments.specs.Further.{nothing_further}
+use Rattle.lnfs_arguments.specs.Further.{Further, nothing_further}
 use Rattle.lnfs_policy.specs.Policy.{Policy, guest_level}
-use Rattle.lnfs_step.specs.declared.numbers.TheConstants.{PROC_NULL, AUTH_NONE, AUTH_SYS, AUTH_BADCRED, AUTH_TOOWEAK, SUCCESS, PROG_MISMATCH, GARBAGE_ARGS, NFS_VERSION}
+use Rattle.lnfs_step.specs.declared.numbers.TheConstants.{PROC_NULL, AUTH_NONE, AUTH_SYS, AUTH_BADCRED, AUTH_TOOWEAK, PROG_MISMATCH, GARBAGE_ARGS, NFS_VERSION}
 
 -- what refuses a call as a whole
 pub data Cause : Type 0 where
@@ -61,26 +61,31 @@ asked_as level xid (Ok c) = Asked level xid c
 asked_as level xid (Err stuck) = Refused (Some level) xid (called GARBAGE_ARGS)
 
 -- The caller is judged before the arguments.
-abbrev pub asked_by : Option ℕ → (xid : ℕ) → List ℕ → Request
-asked_by None xid args = Refused None xid (caller AUTH_TOOWEAK)
-asked_by (Some level) xid args = asked_as level xid (parse (compound nothing_further) args)
+abbrev pub asked_by : Further → Option ℕ → (xid : ℕ) → List ℕ → Request
+asked_by g None xid args = Refused None xid (caller AUTH_TOOWEAK)
+asked_by g (Some level) xid args = asked_as level xid (parse (compound g) args)
 
-abbrev pub asked_in : Policy → (class : ℕ) → CallMessage → Result (Option ℕ) Cause → Request
-asked_in p class call (Err cause) = Refused None call.xid cause
-asked_in p class call (Ok user) =
-    cond (call.procedure == PROC_NULL) (null_call call.xid call.arguments) (asked_by (guest_level p class user) call.xid call.arguments)
+abbrev pub asked_in : Further → Policy → (class : ℕ) → CallMessage → Result (Option ℕ) Cause → Request
+asked_in g p class call (Err cause) = Refused None call.xid cause
+asked_in g p class call (Ok user) =
+    cond (call.procedure == PROC_NULL) (null_call call.xid call.arguments) (asked_by g (guest_level p class user) call.xid call.arguments)
 
 -- ---- the record
 
-abbrev pub asked_of : Policy → (class : ℕ) → Result CallMessage CallError → Request
-asked_of p class (Err NotACall) = Silent
-asked_of p class (Err (BadHeader xid)) = Refused None xid (caller AUTH_BADCRED)
-asked_of p class (Err (BadVersion xid)) = Refused None xid version
-asked_of p class (Err (BadProgram xid stat)) = Refused None xid (called stat)
-asked_of p class (Ok call) = asked_in p class call (user_of call.credential)
+abbrev pub asked_of : Further → Policy → (class : ℕ) → Result CallMessage CallError → Request
+asked_of g p class (Err NotACall) = Silent
+asked_of g p class (Err (BadHeader xid)) = Refused None xid (caller AUTH_BADCRED)
+asked_of g p class (Err (BadVersion xid)) = Refused None xid version
+asked_of g p class (Err (BadProgram xid stat)) = Refused None xid (called stat)
+asked_of g p class (Ok call) = asked_in g p class call (user_of call.credential)
 
-unfoldable pub request_of : Policy → (class : ℕ) → List ℕ → Request
-request_of p class bytes = asked_of p class (call_of bytes)
+-- where further operations are read too
+unfoldable pub request_with : Further → Policy → (class : ℕ) → List ℕ → Request
+request_with g p class bytes = asked_of g p class (call_of bytes)
+
+-- with the operations of the table alone
+abbrev pub request_of : Policy → (class : ℕ) → List ℕ → Request
+request_of p class bytes = request_with nothing_further p class bytes
 
 abbrev pub level_in : Request → Option ℕ
 level_in Silent = None
@@ -88,7 +93,7 @@ level_in (Refused level xid cause) = level
 level_in (Nothing xid) = None
 level_in (Asked level xid c) = Some level
 
--- the level of an event, by its class and its record
+-- The level of an event, by its class and its record, whatever further operations are read.
 abbrev pub level_of : Policy → (class : ℕ) → List ℕ → Option ℕ
 level_of p class bytes = level_in (request_of p class bytes)
 

@@ -1,17 +1,23 @@
--- The step that an event makes: the world afterwards, the reply if one is due, and the audit line if
+-- The step that an event makes: the world and the rows of further operations afterwards, the reply if one is due, and the audit line if
 -- something was refused.
-use Rattle.std.specs.Prelude.{ℕ, List, [], Option, Some, None, codes, option_map}
+use Rattle.std.specs.Prelude.{ℕ, List, [], length, Option, Some, None, codes, option_map}
 use Rattle.lnfs_outside.specs.declared.event.Event.{Event}
+use Rattle.lnfs_outside.specs.declared.event.Moment.{Moment}
 use Rattle.lnfs_rpc.specs.Replies.{reply_text}
 use Rattle.lnfs_arguments.specs.declared.types.Compound.{Compound}
 use Rattle.lnfs_results.specs.Texts.{results_text}
-use Rattle.lnfs_policy.specs.Policy.{Policy}
-use Rattle.lnfs_world.specs.World.{World}
+use Rattle.lnfs_policy.specs.Policy.{Policy, dominance, limit_of}
+use Rattle.lnfs_world.specs.Outcome.{Site, begins_at}
+use Rattle.lnfs_world.specs.Both.{Both}
+use Rattle.lnfs_operations.specs.declared.Rule.{Rule}
+use Rattle.lnfs_operations.specs.declared.Rule.TheVariants as rules
 use Rattle.lnfs_operations.specs.declared.Gate.{Gate}
-use Rattle.lnfs_operations.specs.declared.Gate.TheVariants.{Session, Outside}
-use Rattle.lnfs_operations.specs.Compound.{Denial, Ran, run as run_of, results_of}
+use Rattle.lnfs_operations.specs.declared.Gate.TheVariants.{Session, Room, Argument, Outside, Namespace, Monitor, Open, Quota}
+use Rattle.lnfs_operations.specs.Extra.{Extra}
+use Rattle.lnfs_operations.specs.Compound.{Denial, Ran, deed_in, run as run_of, results_of}
 use Rattle.lnfs_step.specs.declared.numbers.TheConstants.{SUCCESS}
-use Rattle.lnfs_step.specs.Request.{Cause, caller, called, version, Request, Silent, Refused, Nothing, Asked, request_of, plainly, head_of, results_in}
+use Rattle.lnfs_step.specs.First.{is_limited}
+use Rattle.lnfs_step.specs.Request.{Cause, caller, called, version, Request, Silent, Refused, Nothing, Asked, request_with, plainly, head_of, results_in}
 
 -- An audit line without its event's place: the operation's place in its COMPOUND, from 1, and its
 -- number, the gate that refused, and the status. A refusal of the call as a whole has place and
@@ -22,10 +28,27 @@ pub record Line : Type 0 where
   pub gate : List ℕ
   pub status : ℕ
 
--- the letter of a gate
+abbrev pub rule_name : Rule → List ℕ
+rule_name rules.M1 = codes "M1"
+rule_name rules.M2 = codes "M2"
+rule_name rules.M3 = codes "M3"
+rule_name rules.M4 = codes "M4"
+rule_name rules.M5 = codes "M5"
+rule_name rules.M6 = codes "M6"
+rule_name rules.M7 = codes "M7"
+rule_name rules.M8 = codes "M8"
+rule_name rules.M9 = codes "M9"
+
+-- the letter of a gate, or the name of the rule of labels
 abbrev pub letter : Gate → List ℕ
 letter Session = codes "S"
+letter Room = codes "R"
+letter Argument = codes "A"
 letter Outside = codes "X"
+letter Namespace = codes "N"
+letter (Monitor rule) = rule_name rule
+letter Open = codes "O"
+letter Quota = codes "Q"
 
 abbrev pub whole_call : List ℕ → ℕ → Line
 whole_call gate status = record { place = 0; number = 0; gate = gate; status = status }
@@ -39,23 +62,33 @@ line_of_cause version = whole_call (codes "V") 0
 abbrev pub line_of : Denial → Line
 line_of d = record { place = d.place; number = d.number; gate = letter d.gate; status = d.status }
 
-pub record Step : Type 0 where
-  pub world : World
+abbrev pub site_of : Policy → Site
+site_of p = record {
+  dom = dominance p;
+  levels = length p.labels;
+  limited = is_limited p.mode;
+  nodes = λ level. (limit_of p level).nodes;
+  bytes = λ level. (limit_of p level).bytes;
+}
+
+pub record Step (S : Type 0) : Type 0 where
+  pub state : S
   pub reply : Option (List ℕ)
   pub line : Option Line
 
-abbrev pub answered : (xid : ℕ) → Compound → Ran → Step
+abbrev pub answered : {S : Type 0} → (xid : ℕ) → Compound → Ran S → Step S
 answered xid c r = record {
-  world = r.world;
+  state = r.state;
   reply = Some (reply_text xid (plainly SUCCESS) (results_text (results_of c r)));
   line = option_map line_of r.denial;
 }
 
-abbrev pub step_of : World → Request → Step
-step_of w Silent = record { world = w; reply = None; line = None }
-step_of w (Refused level xid cause) = record { world = w; reply = Some (reply_text xid (head_of cause) (results_in cause)); line = Some (line_of_cause cause) }
-step_of w (Nothing xid) = record { world = w; reply = Some (reply_text xid (plainly SUCCESS) []); line = None }
-step_of w (Asked level xid c) = answered xid c (run_of c level w)
+abbrev pub step_of : (X : Extra) → Policy → Moment → Both X.Row → Request → Step (Both X.Row)
+step_of X p moment b Silent = record { state = b; reply = None; line = None }
+step_of X p moment b (Refused level xid cause) = record { state = b; reply = Some (reply_text xid (head_of cause) (results_in cause)); line = Some (line_of_cause cause) }
+step_of X p moment b (Nothing xid) = record { state = b; reply = Some (reply_text xid (plainly SUCCESS) []); line = None }
+step_of X p moment b (Asked level xid c) = answered xid c (run_of (deed_in X (site_of p) c) c (begins_at level moment) b)
 
-unfoldable pub step : Policy → World → Event → Step
-step p w event = step_of w (request_of p event.class event.message)
+-- the step with further operations
+unfoldable pub step_with : (X : Extra) → Policy → Both X.Row → Event → Step (Both X.Row)
+step_with X p b event = step_of X p event.moment b (request_with X.grammar p event.class event.message)

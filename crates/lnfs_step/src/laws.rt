@@ -1,35 +1,50 @@
-//! The laws over events and journals, as contracts of a function that does nothing.
-ghost use Rattle.std.specs.Prelude.{◌≡◌, ◌≤◌, ℕ, List, Some, true, false, length, IfSome};
+//! The laws over events and journals, as contracts of functions that do nothing.
+ghost use Rattle.std.specs.Prelude.{◌≡◌, ◌≤◌, ℕ, List, Some, true, false, length, IfSome, []};
 ghost use Rattle.lnfs_calipso.specs.Label.{IsPreorderWithBottom};
+ghost use Rattle.lnfs_lists.specs.declared.limits.TheConstants.{RECORD_LIMIT};
 ghost use Rattle.lnfs_outside.specs.declared.event.Event.{Event};
 ghost use Rattle.lnfs_policy.specs.Policy.{Policy, dominance};
-ghost use Rattle.lnfs_world.specs.World.{World, erased};
+ghost use Rattle.lnfs_world.specs.World.{World};
 ghost use Rattle.lnfs_world.specs.Facts.{Facts};
+ghost use Rattle.lnfs_world.specs.Both.{Both, both};
+ghost use Rattle.lnfs_operations.specs.Extra.{no_extra};
+ghost use Rattle.lnfs_step.specs.First.{first_world};
 ghost use Rattle.lnfs_step.specs.Request.{level_of};
-ghost use Rattle.lnfs_step.specs.Step.{step};
-ghost use Rattle.lnfs_step.specs.Journal.{is_dominated, world_after, answer};
+ghost use Rattle.lnfs_step.specs.Step.{step_with};
+ghost use Rattle.lnfs_step.specs.Journal.{Holds, seen_at, is_dominated, state_after, world_after, reply_at, reply_with, answer, answer_with};
 
-/// Each reply is the one that its requester would get with every event outside its dominance purged
-/// from the journal.
-pub fn purge()
+use crate::extra::ExtraRows;
+
+/// With further operations: each reply is the one that its requester would get with every event
+/// outside its dominance purged from the journal.
+pub fn purge_with<X: ExtraRows>()
     ensures replies { (p : Policy) → IsPreorderWithBottom (dominance p) → (journal : List Event) (event : Event) →
-        (step p (world_after p journal) event).reply ≡ answer p journal event }
+        reply_with X.extra p journal event ≡ answer_with X.extra p journal event }
     // For a level that dominates the event's, the reply and what that level sees afterwards are
     // determined by the event and by what it saw before.
-    ensures seen { (p : Policy) → IsPreorderWithBottom (dominance p) → (level s : ℕ) (event : Event) (a b : World) →
+    ensures seen { (p : Policy) → IsPreorderWithBottom (dominance p) → (level s : ℕ) (event : Event) (a b : Both X.extra.Row) →
         level_of p event.class event.message ≡ Some s → dominance p level s ≡ true →
-        Facts (dominance p) a → Facts (dominance p) b →
-        erased (dominance p) level a ≡ erased (dominance p) level b →
-        ((step p a event).reply ≡ (step p b event).reply)
-        × (erased (dominance p) level (step p a event).world ≡ erased (dominance p) level (step p b event).world) }
+        Holds X.extra p a → Holds X.extra p b → seen_at X.extra p level a ≡ seen_at X.extra p level b →
+        ((step_with X.extra p a event).reply ≡ (step_with X.extra p b event).reply)
+        × (seen_at X.extra p level (step_with X.extra p a event).state ≡ seen_at X.extra p level (step_with X.extra p b event).state) }
     // For any other level, what it sees stays.
-    ensures unseen { (p : Policy) → IsPreorderWithBottom (dominance p) → (level : ℕ) (event : Event) (w : World) →
-        is_dominated (dominance p) level (level_of p event.class event.message) ≡ false →
-        Facts (dominance p) w →
-        erased (dominance p) level (step p w event).world ≡ erased (dominance p) level w }
+    ensures unseen { (p : Policy) → IsPreorderWithBottom (dominance p) → (level : ℕ) (event : Event) (a : Both X.extra.Row) →
+        is_dominated (dominance p) level (level_of p event.class event.message) ≡ false → Holds X.extra p a →
+        seen_at X.extra p level (step_with X.extra p a event).state ≡ seen_at X.extra p level a }
+    ensures facts { (p : Policy) → IsPreorderWithBottom (dominance p) → (journal : List Event) →
+        Holds X.extra p (state_after X.extra p journal) }
+{}
+
+/// With the operations of the table alone: each reply is the one that its requester would get with
+/// every event outside its dominance purged from the journal.
+pub fn purge()
+    ensures replies { (p : Policy) → IsPreorderWithBottom (dominance p) → (journal : List Event) (event : Event) →
+        reply_at p journal event ≡ answer p journal event }
+    // The first world has the facts, and so has every world after a journal.
+    ensures first { (p : Policy) → IsPreorderWithBottom (dominance p) → Facts (dominance p) (first_world p) }
     ensures facts { (p : Policy) → IsPreorderWithBottom (dominance p) → (journal : List Event) →
         Facts (dominance p) (world_after p journal) }
     // A reply is a record that a fragment holds.
     ensures short { (p : Policy) (w : World) (event : Event) →
-        IfSome (step p w event).reply (λ reply. length reply ≤ 131072) }
+        IfSome (step_with no_extra p (both w []) event).reply (λ reply. length reply ≤ RECORD_LIMIT) }
 {}

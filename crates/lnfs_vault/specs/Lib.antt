@@ -1,3 +1,5 @@
+pub mod Listed
+pub mod Standing
 pub mod Places
 pub mod Answers
 pub mod Requests

@@ -1,19 +1,20 @@
 -- What the code's values of a step stand for.
 use Rattle.std.specs.Prelude.{◌≡◌, ℕ}
 use Rattle.lnfs_world.specs.World.{World}
+use Rattle.lnfs_world.specs.Both.{Both}
 use Rattle.lnfs_step.specs.Step.{Step}
 use Rattle.lnfs_vault.specs.Lines.{IsLineOf}
 use Rattle.lnfs_vault.specs.declared.step.Said.{Said}
 use Rattle.lnfs_vault.specs.declared.vault.Served.{Served}
 
 -- what was said, and what stands then, are those of a step; the line bears the event's place
-pub record Says (event : ℕ) (world : World) (s : Step) (said : Said) : Type 0 where
-  pub stands : world ≡ s.world
+pub record Says (event : ℕ) (world : World) (s : Step (Both ⊥)) (said : Said) : Type 0 where
+  pub stands : world ≡ s.state.world
   pub reply : said.reply ≡ s.reply
   pub line : IsLineOf event s.line said.line
 
-pub record SaysServed (event : ℕ) (world : World) (s : Step) (served : Served) : Type 0 where
-  pub stands : world ≡ s.world
+pub record SaysServed (event : ℕ) (world : World) (s : Step (Both ⊥)) (served : Served) : Type 0 where
+  pub stands : world ≡ s.state.world
   pub reply : served.reply ≡ s.reply
   pub line : IsLineOf event s.line served.line
   pub place : served.at ≡ event

@@ -1,18 +1,20 @@
 //! The clients of all levels, and EXCHANGE_ID on them.
-ghost use Rattle.std.specs.Prelude.{◌≡◌, ◌==◌, ◌&&◌, not, ℕ, List, IfOk, OnErr, count_by, find, filter, option_map};
-ghost use Rattle.lnfs_world.specs.World.{World, empty, last_of, is_client};
-ghost use Rattle.lnfs_world.specs.Outcome.{done_to};
-ghost use Rattle.lnfs_operations.specs.ExchangeId.{exchange_id, has_flag, is_confirmed, is_pending, others_of};
+ghost use Rattle.std.specs.Prelude.{◌≡◌, ◌==◌, ◌&&◌, not, ℕ, List, IfOk, OnErr, count_by, find, filter, map, option_map};
+ghost use Rattle.lnfs_outside.specs.declared.event.Moment.{Moment};
+ghost use Rattle.lnfs_world.specs.World.{Id, World, last_of, same_id};
+ghost use Rattle.lnfs_world.specs.Outcome.{done_to, begins_at};
+ghost use Rattle.lnfs_operations.specs.ExchangeId.{exchange_id, has_flag, is_confirmed_as, is_pending, others_of};
 ghost use Rattle.lnfs_vault.specs.Answers.{seen_answer, arguments_of, told_of, told_as, without};
+ghost use Rattle.lnfs_vault.specs.Listed.{client_of, last_of as last_id};
+ghost use Rattle.lnfs_vault.specs.Standing.{no_clients, standing};
 
-use crate::rows::put;
+use crate::rows::{Client, Last, put};
+use lnfs_arguments::statuses::{NFS4ERR_INVAL, NFS4ERR_NOSPC};
 use lnfs_lists::Octets;
 use lnfs_operations::Gate;
 use lnfs_operations::numbers::{
     CLIENTS_OF_A_LEVEL, EXCHGID4_FLAG_CONFIRMED_R, EXCHGID4_FLAG_UPD_CONFIRMED_REC_A, LAST_NUMBER,
-    NFS4ERR_INVAL, NFS4ERR_NOSPC,
 };
-use lnfs_world::{Client, Last};
 use std::alloc::{AllocError, Global};
 use std::marker::Model;
 
@@ -46,7 +48,7 @@ fn has_flag(flags: u32, flag: u32) -> bool
 }
 
 fn is_confirmed(client: &Client, level: u32, args: &ExchangeId<'_>) -> bool
-    ensures { result ≡ is_confirmed level args.now.owner.now args.now.verifier client.now }
+    ensures { result ≡ is_confirmed_as level args.now.owner.now args.now.verifier (client_of client.now) }
 {
     client.level == level
         && client.owner.as_slice() == args.owner
@@ -55,20 +57,20 @@ fn is_confirmed(client: &Client, level: u32, args: &ExchangeId<'_>) -> bool
 }
 
 fn is_pending(client: &Client, level: u32, owner: &[u8]) -> bool
-    ensures { result ≡ is_pending level owner.now client.now }
+    ensures { result ≡ is_pending level owner.now (client_of client.now) }
 {
     client.level == level && client.owner.as_slice() == owner && !client.confirmed
 }
 
 fn is_client(client: &Client, level: u32, number: u32) -> bool
-    ensures { result ≡ is_client level number client.now }
+    ensures { result ≡ same_id (record { level = level; number = number }) (client_of client.now).id }
 {
-    client.level == level && client.number == number
+    level == client.level && number == client.number
 }
 
 /// How many records of the level stay where the owner's pending one goes.
 fn others_of(clients: &[Client], level: u32, owner: &[u8]) -> usize
-    ensures { result ≡ others_of level owner.now clients.now }
+    ensures { result ≡ others_of level owner.now (map client_of clients.now) }
 {
     clients
         .iter()
@@ -82,19 +84,18 @@ fn find_last(lasts: &[Last], level: u32) -> Option<Last>
     lasts.iter().copied().find(|last| last.level == level)
 }
 
-/// The last numbers of a level: before the first is given, 0.
-fn last_of(lasts: &[Last], level: u32) -> Last
-    ensures { result ≡ last_of level lasts.now }
+/// The last number of a client of a level: before the first is given, 0.
+fn last_of(lasts: &[Last], level: u32) -> u32
+    ensures { result ≡ last_of level (map last_id lasts.now) }
 {
     match find_last(lasts, level) {
-        Some(last) => last,
-        None => Last { level, clients: 0 },
+        Some(last) => last.number,
+        None => 0,
     }
 }
 
-/// What is told of the confirmed record of a level, an owner and its verifier, if there is one.
-fn find_confirmed(clients: &[Client], level: u32, args: &ExchangeId<'_>) -> Option<Told>
-    ensures { option_map told_of result ≡ option_map told_as (find (is_confirmed level args.now.owner.now args.now.verifier) clients.now) }
+fn confirmed_row(clients: &[Client], level: u32, args: &ExchangeId<'_>) -> Option<Told>
+    ensures { option_map told_of result ≡ option_map (λ c. told_as (client_of c)) (find (λ c. is_confirmed_as level args.now.owner.now args.now.verifier (client_of c)) clients.now) }
 {
     clients
         .iter()
@@ -106,9 +107,15 @@ fn find_confirmed(clients: &[Client], level: u32, args: &ExchangeId<'_>) -> Opti
         })
 }
 
-/// The number of the owner's record that isn't confirmed, if there is one.
-fn find_pending(clients: &[Client], level: u32, owner: &[u8]) -> Option<u32>
-    ensures { result ≡ option_map (λ c. c.number) (find (is_pending level owner.now) clients.now) }
+/// What is told of the confirmed record of a level, an owner and its verifier, if there is one.
+fn find_confirmed(clients: &[Client], level: u32, args: &ExchangeId<'_>) -> Option<Told>
+    ensures { option_map told_of result ≡ option_map told_as (find (is_confirmed_as level args.now.owner.now args.now.verifier) (map client_of clients.now)) }
+{
+    confirmed_row(clients, level, args)
+}
+
+fn pending_row(clients: &[Client], level: u32, owner: &[u8]) -> Option<u32>
+    ensures { result ≡ option_map (λ c. c.number) (find (λ c. is_pending level owner.now (client_of c)) clients.now) }
 {
     clients
         .iter()
@@ -116,14 +123,21 @@ fn find_pending(clients: &[Client], level: u32, owner: &[u8]) -> Option<u32>
         .map(|client| client.number)
 }
 
+/// The number of the owner's record that isn't confirmed, if there is one.
+fn find_pending(clients: &[Client], level: u32, owner: &[u8]) -> Option<u32>
+    ensures { result ≡ option_map (λ c. c.id.number) (find (is_pending level owner.now) (map client_of clients.now)) }
+{
+    pending_row(clients, level, owner)
+}
+
 fn drop_client(clients: &mut Vec<Client>, level: u32, number: u32)
-    ensures { clients.new.items ≡ filter (λ c. not (is_client level number c)) clients.old.items }
+    ensures { map client_of clients.new.items ≡ filter (λ c. not (same_id (record { level = level; number = number }) c.id)) (map client_of clients.old.items) }
 {
     clients.retain(|client| !is_client(client, level, number));
 }
 
 fn drop_pending(clients: &mut Vec<Client>, level: u32, pending: Option<u32>)
-    ensures { clients.new.items ≡ without level pending clients.old.items }
+    ensures { map client_of clients.new.items ≡ without level pending (map client_of clients.old.items) }
 {
     if let Some(number) = pending {
         drop_client(clients, level, number);
@@ -139,17 +153,19 @@ pub struct Clients {
 }
 
 impl Model for Clients {
-    ghost use Rattle.lnfs_world.specs.World.{World};
+    ghost use Rattle.std.specs.Prelude.{map};
+    ghost use Rattle.lnfs_vault.specs.Standing.{ClientLists};
+    ghost use Rattle.lnfs_vault.specs.Listed.{client_of, last_of};
 
-    ghost Value = { World };
+    ghost Value = { ClientLists };
 
-    ghost view = { λ c. record { clients = c.rows.items; lasts = c.lasts.items } };
+    ghost view = { λ c. record { clients = map client_of c.rows.items; lasts = map last_of c.lasts.items } };
 }
 
 impl Clients {
     /// No client, and no number given yet. Takes no memory.
     pub fn new(alloc: Global) -> Clients
-        ensures { result ≡ empty }
+        ensures { result ≡ no_clients }
     {
         Clients {
             alloc,
@@ -164,8 +180,10 @@ impl Clients {
         level: u32,
         args: &ExchangeId<'_>,
     ) -> Result<Result<Told, Refusal>, AllocError>
-        ensures answer { IfOk result (λ answer. seen_answer answer ≡ (exchange_id (arguments_of args.now) level self.old).answer) }
-        ensures world { IfOk result (λ answer. self.new ≡ done_to self.old (exchange_id (arguments_of args.now) level self.old)) }
+        ensures answer { IfOk result (λ answer. (moment : Moment) (rest : World) →
+            seen_answer answer ≡ (exchange_id (arguments_of args.now) (begins_at level moment) (standing rest self.old)).answer) }
+        ensures world { IfOk result (λ answer. (moment : Moment) (rest : World) →
+            standing rest self.new ≡ done_to (standing rest self.old) (exchange_id (arguments_of args.now) (begins_at level moment) (standing rest self.old))) }
         // A refusal changes nothing.
         ensures refused { IfOk result (λ answer. OnErr answer (self.new ≡ self.old)) }
     {
@@ -181,11 +199,11 @@ impl Clients {
             return Ok(Err(refused(NFS4ERR_NOSPC)));
         }
         let last = last_of(&self.lasts, level);
-        if last.clients == LAST_NUMBER {
+        if last >= LAST_NUMBER {
             return Ok(Err(refused(NFS4ERR_NOSPC)));
         }
         let told = Told {
-            number: last.clients + 1,
+            number: last + 1,
             sequence: 1,
             confirmed: false,
         };
@@ -203,7 +221,7 @@ impl Clients {
             &mut self.lasts,
             Last {
                 level,
-                clients: told.number,
+                number: told.number,
             },
         )?;
         put(&mut self.rows, client)?;

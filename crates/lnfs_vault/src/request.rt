@@ -2,6 +2,7 @@
 ghost use Rattle.std.specs.Prelude.{◌≡◌, ℕ, Err, IfOk, option_map};
 ghost use Rattle.lnfs_rpc.specs.Calls.{seen_auth, seen_call};
 ghost use Rattle.lnfs_policy.specs.Policy.{Policy};
+ghost use Rattle.lnfs_arguments.specs.Further.{nothing_further};
 ghost use Rattle.lnfs_step.specs.Request.{user_of, null_call, asked_by, asked_in, asked_of, request_of};
 ghost use Rattle.lnfs_vault.specs.Requests.{seen_user, seen_asked, IsShortly};
 
@@ -81,7 +82,7 @@ fn null_call(xid: u32, args: &[u8]) -> Asked
 
 /// A COMPOUND of a caller whose level is known, or isn't.
 fn asked_by(alloc: Global, level: Option<Level>, xid: u32, args: &[u8]) -> Result<Asked, AllocError>
-    ensures asked { IfOk result (λ asked. seen_asked asked ≡ asked_by (option_map (λ l. l.0) level) xid args.now) }
+    ensures asked { IfOk result (λ asked. seen_asked asked ≡ asked_by nothing_further (option_map (λ l. l.0) level) xid args.now) }
     ensures short { IfOk result IsShortly }
 {
     let Some(level) = level else {
@@ -113,7 +114,7 @@ fn asked_in(
     class: u32,
     call: &Call<'_>,
 ) -> Result<Asked, AllocError>
-    ensures asked { IfOk result (λ asked. seen_asked asked ≡ asked_in policy.now class (seen_call call.now) (user_of (seen_auth call.now.cred))) }
+    ensures asked { IfOk result (λ asked. seen_asked asked ≡ asked_in nothing_further policy.now class (seen_call call.now) (user_of (seen_auth call.now.cred))) }
     ensures short { IfOk result IsShortly }
 {
     let user = match user_of(&call.cred) {
@@ -134,7 +135,7 @@ fn asked_in(
 
 /// The refusal of a record that is no call that is served.
 fn refused(error: CallError) -> Asked
-    ensures asked { (policy : Policy) (class : ℕ) → seen_asked result ≡ asked_of policy class (Err error) }
+    ensures asked { (policy : Policy) (class : ℕ) → seen_asked result ≡ asked_of nothing_further policy class (Err error) }
     ensures short { IsShortly result }
 {
     let (xid, cause) = match error {
@@ -151,7 +152,7 @@ fn refused(error: CallError) -> Asked
 }
 
 /// What a record of a class asks under a policy.
-#[tactic(auto, unfolding(lnfs_step::specs::Request::request_of))]
+#[tactic(auto, unfolding(lnfs_step::specs::Request::request_with))]
 pub fn request_of(
     alloc: Global,
     policy: &Policy,

@@ -1,13 +1,37 @@
 //! Rows in the order of their keys.
 ghost use Rattle.std.specs.Prelude.{◌≡◌, ◌≤◌, ◌<◌, length, OnOk, OnErr, not};
 ghost use Rattle.std.specs.declared.cmp.Ordering.{Ordering as Order};
-ghost use Rattle.lnfs_world.specs.World.{client_order, last_order};
 ghost use Rattle.lnfs_world.specs.Rows.{inserted};
+ghost use Rattle.lnfs_vault.specs.Listed.{client_order_of, last_order_of};
 ghost use Rattle.lnfs_vault.specs.Places.{IsPlace};
 
-use lnfs_world::{Client, Last};
+use lnfs_lists::Octets;
 use std::alloc::AllocError;
 use std::cmp::Ordering;
+
+/// A client's record (RFC 8881 section 18.35.4), as far as it is served.
+#[derive(Debug, Drop)]
+pub struct Client {
+    /// The level that asked for it, which is the upper half of the client id.
+    pub level: u32,
+    /// The lower half of the client id: a number of that level, never given twice.
+    pub number: u32,
+    /// The client owner's opaque name.
+    pub owner: Octets,
+    /// The client owner's verifier, which tells one boot of the client from the next.
+    pub verifier: [u8; 8],
+    /// Whether a CREATE_SESSION has confirmed it.
+    pub confirmed: bool,
+    /// The sequence that its next CREATE_SESSION has to bring.
+    pub sequence: u32,
+}
+
+/// The last number of a client that a level was given.
+#[derive(Clone, Copy, Debug, PartialEq, Eq)]
+pub struct Last {
+    pub level: u32,
+    pub number: u32,
+}
 
 /// A row with a key.
 pub trait Keyed {
@@ -19,7 +43,7 @@ pub trait Keyed {
 }
 
 impl Keyed for Client {
-    ghost order = { client_order };
+    ghost order = { client_order_of };
 
     fn order_to(&self, other: &Self) -> Ordering {
         self.level
@@ -29,7 +53,7 @@ impl Keyed for Client {
 }
 
 impl Keyed for Last {
-    ghost order = { last_order };
+    ghost order = { last_order_of };
 
     fn order_to(&self, other: &Self) -> Ordering {
         self.level.cmp(&other.level)

@@ -1,19 +1,25 @@
 //! A COMPOUND on the clients: its operations in order, up to the first that fails (RFC 8881 section
 //! 16.2.3).
-ghost use Rattle.std.specs.Prelude.{◌≡◌, ◌≤◌, length, IfOk, OnErr};
-ghost use Rattle.lnfs_world.specs.Outcome.{done_to};
-ghost use Rattle.lnfs_operations.specs.Table.{outcome_of, told_result, answer_as};
-ghost use Rattle.lnfs_operations.specs.Compound.{run_from, run};
+ghost use Rattle.std.specs.Prelude.{◌≡◌, ◌≤◌, length, IfOk, OnErr, []};
+ghost use Rattle.lnfs_outside.specs.declared.event.Moment.{Moment};
+ghost use Rattle.lnfs_world.specs.World.{World};
+ghost use Rattle.lnfs_world.specs.Outcome.{Site, begins_at, done_to};
+ghost use Rattle.lnfs_world.specs.Both.{both};
+ghost use Rattle.lnfs_operations.specs.Extra.{no_extra};
+ghost use Rattle.lnfs_operations.specs.Table.{told_by, told_result};
+ghost use Rattle.lnfs_operations.specs.Compound.{deed_in, run_from, run};
 ghost use Rattle.lnfs_vault.specs.Answers.{seen_answer};
+ghost use Rattle.lnfs_vault.specs.Standing.{standing};
 ghost use Rattle.lnfs_vault.specs.Runs.{Performs, Ends, IsRun};
 
 use crate::clients::{Clients, ExchangeId, Refusal, Told};
 use crate::results::{failed, told_result};
 use lnfs_arguments::numbers::MINOR;
-use lnfs_arguments::statuses::NFS4_OK;
+use lnfs_arguments::statuses::{
+    NFS4_OK, NFS4ERR_MINOR_VERS_MISMATCH, NFS4ERR_NOT_ONLY_OP, NFS4ERR_NOTSUPP,
+};
 use lnfs_arguments::{Compound, Op};
 use lnfs_operations::Gate;
-use lnfs_operations::numbers::{NFS4ERR_MINOR_VERS_MISMATCH, NFS4ERR_NOT_ONLY_OP, NFS4ERR_NOTSUPP};
 use lnfs_results::append_result;
 use lnfs_xdr::XdrWriter;
 use std::alloc::{AllocError, Global};
@@ -44,9 +50,10 @@ fn outcome_of(
     compound: &Compound,
     op: &Op,
 ) -> Result<Result<Told, Refusal>, AllocError>
-    ensures answer { IfOk result (λ answer. answer_as (told_result level) (seen_answer answer) ≡ (outcome_of compound.now op.now level clients.old).answer) }
-    ensures world { IfOk result (λ answer. clients.new ≡ done_to clients.old (outcome_of compound.now op.now level clients.old)) }
-    ensures refused { IfOk result (λ answer. OnErr answer (clients.new ≡ clients.old)) }
+    ensures answer { IfOk result (λ answer. (moment : Moment) (rest : World) →
+        seen_answer answer ≡ (told_by compound.now op.now (begins_at level moment) (standing rest clients.old)).answer) }
+    ensures world { IfOk result (λ answer. (moment : Moment) (rest : World) →
+        standing rest clients.new ≡ done_to (standing rest clients.old) (told_by compound.now op.now (begins_at level moment) (standing rest clients.old))) }
 {
     match op {
         Op::ExchangeId {
@@ -90,7 +97,8 @@ fn perform(
     op: &Op,
     out: &mut XdrWriter,
 ) -> Result<Option<Refusal>, AllocError>
-    ensures { IfOk result (Performs level op.now (outcome_of compound.now op.now level clients.old) out.old out.new clients.old clients.new) }
+    ensures { IfOk result (λ refusal. (moment : Moment) (rest : World) →
+        Performs level op.now (told_by compound.now op.now (begins_at level moment) (standing rest clients.old)) out.old out.new (standing rest clients.old) (standing rest clients.new) refusal) }
 {
     match outcome_of(clients, level, compound, op)? {
         Ok(told) => {
@@ -113,7 +121,8 @@ fn run_all(
     out: &mut XdrWriter,
 ) -> Result<Ended, AllocError>
     requires { length compound.now.ops ≤ 32 }
-    ensures { IfOk result (Ends out.old out.new clients.new (run_from compound.now 1 compound.now.ops level clients.old)) }
+    ensures { IfOk result (λ ended. (site : Site) (moment : Moment) (rest : World) →
+        Ends out.old out.new (standing rest clients.new) (run_from (deed_in no_extra site compound.now) 1 compound.now.ops (begins_at level moment) (both (standing rest clients.old) [])) ended) }
 {
     let ops = compound.ops.as_slice();
     let mut place = 0;
@@ -149,7 +158,8 @@ pub fn run(
     out: &mut XdrWriter,
 ) -> Result<Ended, AllocError>
     requires { length compound.now.ops ≤ 32 }
-    ensures { IfOk result (IsRun compound.now out.old out.new clients.new (run compound.now level clients.old)) }
+    ensures { IfOk result (λ ended. (site : Site) (moment : Moment) (rest : World) →
+        IsRun compound.now out.old out.new (standing rest clients.new) (run (deed_in no_extra site compound.now) compound.now (begins_at level moment) (both (standing rest clients.old) [])) ended) }
 {
     if compound.minor != MINOR {
         return Ok(Ended {

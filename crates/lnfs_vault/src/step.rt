@@ -1,13 +1,18 @@
 //! The step that an event makes: its reply and its audit line.
 ghost use Rattle.std.specs.Prelude.{◌≡◌, ◌≤◌, [], Some, None, length, IfOk, option_map};
+ghost use Rattle.lnfs_outside.specs.declared.event.Moment.{Moment};
 ghost use Rattle.lnfs_rpc.specs.Replies.{reply_text, seen_head};
+ghost use Rattle.lnfs_world.specs.World.{World};
+ghost use Rattle.lnfs_world.specs.Both.{both};
+ghost use Rattle.lnfs_operations.specs.Extra.{no_extra};
 ghost use Rattle.lnfs_step.specs.Request.{head_of, results_in, plainly, Asked as asked};
-ghost use Rattle.lnfs_step.specs.Step.{step, step_of, letter, line_of_cause, line_of};
+ghost use Rattle.lnfs_step.specs.Step.{step_with, step_of, rule_name, letter, line_of_cause, line_of};
 ghost use Rattle.lnfs_step.specs.declared.numbers.TheConstants.{SUCCESS};
 ghost use Rattle.lnfs_vault.specs.Lines.{IsLineOf};
 ghost use Rattle.lnfs_vault.specs.Requests.{seen_cause};
 ghost use Rattle.lnfs_vault.specs.Runs.{seen_denial};
 ghost use Rattle.lnfs_vault.specs.Says.{Says};
+ghost use Rattle.lnfs_vault.specs.Standing.{standing};
 
 use crate::audit::AuditLine;
 use crate::clients::Clients;
@@ -17,7 +22,7 @@ use crate::run::{Denial, run};
 use lnfs_arguments::Compound;
 use lnfs_calipso::Level;
 use lnfs_lists::Octets;
-use lnfs_operations::Gate;
+use lnfs_operations::{Gate, Rule};
 use lnfs_outside::Event;
 use lnfs_policy::Policy;
 use lnfs_rpc::{Auth, Head, write_reply};
@@ -113,12 +118,34 @@ fn nothing(alloc: Global, xid: u32) -> Result<Said, AllocError>
     })
 }
 
-fn letter(gate: Gate) -> &'static [u8; 1]
+fn rule_name(rule: Rule) -> &'static [u8]
+    ensures { result.now ≡ rule_name rule }
+{
+    match rule {
+        Rule::M1 => b"M1",
+        Rule::M2 => b"M2",
+        Rule::M3 => b"M3",
+        Rule::M4 => b"M4",
+        Rule::M5 => b"M5",
+        Rule::M6 => b"M6",
+        Rule::M7 => b"M7",
+        Rule::M8 => b"M8",
+        Rule::M9 => b"M9",
+    }
+}
+
+fn letter(gate: Gate) -> &'static [u8]
     ensures { result.now ≡ letter gate }
 {
     match gate {
         Gate::Session => b"S",
+        Gate::Room => b"R",
+        Gate::Argument => b"A",
         Gate::Outside => b"X",
+        Gate::Namespace => b"N",
+        Gate::Monitor(rule) => rule_name(rule),
+        Gate::Open => b"O",
+        Gate::Quota => b"Q",
     }
 }
 
@@ -141,6 +168,7 @@ fn line_of(alloc: Global, at: u64, denial: &Option<Denial>) -> Result<Option<Aud
 /// Runs a COMPOUND, and answers it.
 fn compound(
     alloc: Global,
+    policy: &Policy,
     clients: &mut Clients,
     at: u64,
     level: Level,
@@ -149,7 +177,8 @@ fn compound(
 ) -> Result<Said, AllocError>
     requires tag { length compound.now.tag ≤ 1024 }
     requires few { length compound.now.ops ≤ 32 }
-    ensures { IfOk result (Says at clients.new (step_of clients.old (asked level.0 xid compound.now))) }
+    ensures { IfOk result (λ said. (moment : Moment) (rest : World) →
+        Says at (standing rest clients.new) (step_of no_extra policy.now moment (both (standing rest clients.old) []) (asked level.0 xid compound.now)) said) }
 {
     let mut out = XdrWriter::new(alloc);
     let ended = run(alloc, clients, level.0, compound, &mut out)?;
@@ -169,7 +198,7 @@ fn compound(
 }
 
 /// Makes the step of an event.
-#[tactic(auto, unfolding(lnfs_step::specs::Step::step))]
+#[tactic(auto, unfolding(lnfs_step::specs::Step::step_with))]
 pub fn say(
     alloc: Global,
     policy: &Policy,
@@ -177,7 +206,8 @@ pub fn say(
     at: u64,
     event: &Event,
 ) -> Result<Said, AllocError>
-    ensures { IfOk result (Says at clients.new (step policy.now clients.old event.now)) }
+    ensures { IfOk result (λ said. (rest : World) →
+        Says at (standing rest clients.new) (step_with no_extra policy.now (both (standing rest clients.old) []) event.now) said) }
 {
     match request_of(alloc, policy, event.class, event.message.as_slice())? {
         Asked::Silent => Ok(Said {
@@ -190,6 +220,6 @@ pub fn say(
             level,
             xid,
             compound: asked,
-        } => compound(alloc, clients, at, level, xid, &asked),
+        } => compound(alloc, policy, clients, at, level, xid, &asked),
     }
 }

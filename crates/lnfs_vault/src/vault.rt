@@ -1,12 +1,17 @@
 //! The vault.
 ghost use Rattle.std.specs.Prelude.{◌≡◌, ◌+◌, ◌≤◌, [], ◌∷◌, ◌++◌, true, false, length, IfOk, IfSome, OnOk, OnErr, IsErr};
+ghost use Rattle.lnfs_lists.specs.declared.limits.TheConstants.{RECORD_LIMIT};
 ghost use Rattle.lnfs_outside.specs.Moments.{Fits};
 ghost use Rattle.lnfs_policy.specs.Policy.{dominance};
 ghost use Rattle.lnfs_world.specs.Facts.{Facts};
-ghost use Rattle.lnfs_step.specs.Step.{step};
+ghost use Rattle.lnfs_world.specs.World.{World};
+ghost use Rattle.lnfs_world.specs.Both.{both};
+ghost use Rattle.lnfs_operations.specs.Extra.{no_extra};
+ghost use Rattle.lnfs_step.specs.Step.{step_with};
 ghost use Rattle.lnfs_step.specs.Journal.{world_after, reply_at, line_at, answer};
 ghost use Rattle.lnfs_vault.specs.Lines.{IsLineOf};
 ghost use Rattle.lnfs_vault.specs.Says.{SaysServed};
+ghost use Rattle.lnfs_vault.specs.Standing.{standing};
 
 use crate::audit::AuditLine;
 use crate::clients::Clients;
@@ -37,7 +42,8 @@ fn attempt(
     journal: &mut Vec<Event>,
     event: Event,
 ) -> Result<Served, AllocError>
-    ensures says { IfOk result (λ served. SaysServed (length journal.old.items + 1) clients.new (step policy.now clients.old event) served) }
+    ensures says { IfOk result (λ served. (rest : World) →
+        SaysServed (length journal.old.items + 1) (standing rest clients.new) (step_with no_extra policy.now (both (standing rest clients.old) []) event) served) }
     ensures ok { OnOk result (journal.new.items ≡ journal.old.items ++ event ∷ []) }
     ensures err { OnErr result (journal.new.items ≡ journal.old.items) }
 {
@@ -68,12 +74,14 @@ impl Model for Vault {
 
     ghost Value = { Kept };
 
+    ghost use Rattle.lnfs_step.specs.First.{first_world};
     ghost use Rattle.lnfs_step.specs.Journal.{world_after};
+    ghost use Rattle.lnfs_vault.specs.Standing.{standing};
 
     ghost view = { λ v. record { policy = v.policy; journal = v.journal.items; stopped = v.stopped } };
 
     // what stands is the world after the journal
-    ghost invariant = { λ v. v.stopped ≡ false → v.clients ≡ world_after v.policy v.journal.items };
+    ghost invariant = { λ v. v.stopped ≡ false → standing (first_world v.policy) v.clients ≡ world_after v.policy v.journal.items };
 }
 
 impl Vault {
@@ -116,7 +124,7 @@ impl Vault {
         // The reply is the one that its requester would get with every event outside its dominance
         // purged from the journal.
         ensures answer { IfOk result (λ served. served.reply ≡ answer self.old.policy self.old.journal event) }
-        ensures short { IfOk result (λ served. IfSome served.reply (λ reply. length reply ≤ 131072)) }
+        ensures short { IfOk result (λ served. IfSome served.reply (λ reply. length reply ≤ RECORD_LIMIT)) }
         ensures at { IfOk result (λ served. served.at ≡ length self.old.journal + 1) }
         ensures kept { OnOk result (self.new ≡ record self.old { journal = self.old.journal ++ event ∷ [] }) }
         ensures stops { OnErr result (self.new ≡ record self.old { stopped = true }) }

@@ -1,72 +1,150 @@
 -- A change by a subject keeps the facts.
-use Rattle.std.proofs.Common.{◌≡◌, ℕ, Bool, true, false, ◌&&◌, not, List, [], ◌∷◌, refl, sym, ◌∙◌, ap, arith}
-use Rattle.std.specs.Prelude.{filter, nat_le, cond, ◌==◌}
-use Rattle.std.specs.List.{AllByRecursion}
-use Rattle.std.specs.Ordering.{match_ordering}
-use Rattle.std.proofs.lemmas.Bool.Decides.{nat_tests}
-use Rattle.std.specs.declared.cmp.Ordering.{Ordering}
-use Rattle.std.specs.declared.cmp.Ordering.TheVariants.{Less, Equal, Greater}
-use Rattle.lnfs_world.specs.declared.Client.{Client}
-use Rattle.lnfs_world.specs.declared.Last.{Last}
-use Rattle.lnfs_world.specs.Rows.{inserted, Rising}
-use Rattle.lnfs_world.specs.World.{World, client_order, last_order, last_of}
-use Rattle.lnfs_world.specs.Change.{Change, SetClient, DropClient, SetLast, apply}
-use Rattle.lnfs_world.specs.Facts.{Facts, is_within, are_rivals, NoRivals}
-use Rattle.lnfs_world.proofs.Rows.{all_weaker, all_filter, none_any}
-use Rattle.lnfs_world.proofs.Sorted.{all_inserted, find-inserted, rising_filter, rising_inserted}
-use Rattle.lnfs_world.proofs.Keys.{client_before, client_turned, client_tied, last_before, last_turned, last_tied, last_level, last_same, rivals-swap, rivals_apart}
+use Rattle.std.proofs.Common.{◌≡◌, ℕ, Bool, true, not, ◌||◌, List, ◌∙◌, ap, arith}
+use Rattle.std.specs.Prelude.{filter, is_some}
+use Rattle.lnfs_calipso.specs.Label.{IsPreorderWithBottom}
+use Rattle.lnfs_world.specs.Rows.{inserted}
+use Rattle.lnfs_world.specs.World.{Id, Client, World, client_order, node_order, same_id, client_at, label_at}
+use Rattle.lnfs_world.specs.Change.{Change, AddClient, SetClient, DropClient, AddSession, SetSession, DropSession, AddContext, DropContext, Make, Touch, Relabel, Link, Unlink, Drop, Move, AddOpen, SetOpen, EndOpen, apply, touched, relabelled}
+use Rattle.lnfs_world.specs.Facts.{Facts, ClientFacts, is_confirmed}
+use Rattle.lnfs_world.proofs.Within.{IsWithin}
+use Rattle.lnfs_world.proofs.Keys.{id_turned}
+use Rattle.lnfs_world.proofs.Nodes.{label_at-touched, label_at-relabelled, label_at-made, label_at-dropped}
+use Rattle.lnfs_world.proofs.KeptClients.{client_absent, add_client, set_client, drop_client, confirmed_stay, sessions_stay, sessions_left, add_session, set_session, drop_session, add_context, drop_context}
+use Rattle.lnfs_world.proofs.KeptNodes.{touch_node, relabel_node, make_node, link_node, unlink_node, drop_node, move_node}
+use Rattle.lnfs_world.proofs.KeptOpens.{opens_stay, opens_left, opens_of_others, opens_of_other_nodes, add_open, set_open}
 
-pub last_of-inserted : (row : Last) (lasts : List Last) (k : ℕ) → last_of k (inserted last_order row lasts) ≡ cond (row.level == k) row (last_of k lasts)
-last_of-inserted row lasts k = grind (arith, nat_tests, find-inserted last_order (λ l. l.level == k) row (λ x e. ap (λ (n : ℕ). n == k) (sym (last_level row x e))) (λ x e f. last_same row x (grind (arith, nat_tests))) lasts)
-
-less_apart : (a b : Client) → client_order a b ≡ Less → client_order a b ≡ Equal → false ≡ true
-less_apart a b lt e = cc
-
-greater_apart : (a b : Client) → client_order a b ≡ Greater → client_order a b ≡ Equal → false ≡ true
-greater_apart a b gt e = cc
-
--- A row that is set has no rival of another number, so none.
-pub rivals_inserted : (r : Client) (xs : List Client) → Rising client_order xs → AllByRecursion (λ x. (are_rivals r x && not (x.number == r.number)) ≡ false) xs → NoRivals xs → NoRivals (inserted client_order r xs)
-rivals_inserted r [] rising apart none = (tt, tt)
-rivals_inserted r (x ∷ xs) rising apart none = at (client_order r x) refl (rivals_inserted r xs rising.1 apart.1 none.1)
-  where
-    at : (o : Ordering) → client_order r x ≡ o → NoRivals (inserted client_order r xs) → NoRivals (match_ordering o (r ∷ x ∷ xs) (r ∷ xs) (x ∷ inserted client_order r xs))
-    at Less is rest = ((rivals_apart r x apart.0 (less_apart r x is), behind xs rising.0 apart.1), none)
-      where
-        behind : (ys : List Client) → AllByRecursion (λ y. client_order x y ≡ Less) ys → AllByRecursion (λ y. (are_rivals r y && not (y.number == r.number)) ≡ false) ys → AllByRecursion (λ y. are_rivals r y ≡ false) ys
-        behind [] lt none = tt
-        behind (y ∷ ys) lt none = (rivals_apart r y none.0 (less_apart r y (client_before r x y is lt.0)), behind ys lt.1 none.1)
-    at Equal is rest = (behind xs rising.0 apart.1, none.1)
-      where
-        behind : (ys : List Client) → AllByRecursion (λ y. client_order x y ≡ Less) ys → AllByRecursion (λ y. (are_rivals r y && not (y.number == r.number)) ≡ false) ys → AllByRecursion (λ y. are_rivals r y ≡ false) ys
-        behind [] lt none = tt
-        behind (y ∷ ys) lt none = (rivals_apart r y none.0 (less_apart r y (sym (client_tied r x y is) ∙ lt.0)), behind ys lt.1 none.1)
-    at Greater is rest = (all_inserted client_order (λ y. are_rivals x y ≡ false) r xs (rivals-swap x r ∙ rivals_apart r x apart.0 (greater_apart r x is)) none.0, rest)
-
-rivals_filter : (q : Client → Bool) (xs : List Client) → NoRivals xs → NoRivals (filter q xs)
-rivals_filter q [] none = tt
-rivals_filter q (x ∷ xs) none = elim (q x) as (λ b. NoRivals (cond b (x ∷ filter q xs) (filter q xs))) [ true ↦ (all_weaker _ _ (λ y both. both.1) _ (all_filter _ q xs none.0), rivals_filter q xs none.1) | false ↦ rivals_filter q xs none.1 ]
-
-module _ (dom : ℕ → ℕ → Bool) (s : ℕ) where
-  pub keeps : (c : Change) (w : World) → Facts dom w → is_within dom s w c ≡ true → Facts dom (apply c w)
-  keeps (SetClient row) w facts within =
-      let own : row.level ≡ s = grind (arith, nat_tests) in
-      let below : nat_le row.number (last_of s w.lasts).clients ≡ true = grind (arith, nat_tests) in
+module _ (dom : ℕ → ℕ → Bool) (lattice : IsPreorderWithBottom dom) (s : ℕ) where
+  -- a record that is set, where a confirmed one stays so
+  keeps_client : (row : Client) (w : World) (lasts : List Id) → Facts dom w → (row.confirmed || not (is_confirmed (client_at w.clients row.id))) ≡ true → ClientFacts (inserted client_order row w.clients) lasts → Facts dom (record w { clients = inserted client_order row w.clients; lasts = record w.lasts { clients = lasts } })
+  keeps_client row w lasts facts stays clients =
+      let stay = confirmed_stay row w.clients stays in
       record {
-        clients_rise = rising_inserted client_order client_turned client_before client_tied row w.clients facts.clients_rise;
-        lasts_rise = facts.lasts_rise;
-        numbers = all_inserted client_order _ row w.clients (ap (λ (l : ℕ). nat_le row.number (last_of l w.lasts).clients) own ∙ below) facts.numbers;
-        rivals = rivals_inserted row w.clients facts.clients_rise (none_any _ w.clients (grind (arith, nat_tests))) facts.rivals;
+        clients = clients;
+        sessions = sessions_stay w.clients (inserted client_order row w.clients) w.sessions w.lasts.sessions stay facts.sessions;
+        contexts = facts.contexts;
+        nodes = facts.nodes;
+        opens = opens_stay dom w.clients (inserted client_order row w.clients) (label_at w.nodes) (label_at w.nodes) w.opens w.lasts.opens stay (λ i is. is) facts.opens;
       }
-  keeps (DropClient level number) w facts within = record {
-    clients_rise = rising_filter client_order _ w.clients facts.clients_rise;
-    lasts_rise = facts.lasts_rise;
-    numbers = all_weaker _ _ (λ c both. both.1) _ (all_filter _ _ w.clients facts.numbers);
-    rivals = rivals_filter _ w.clients facts.rivals;
+
+  pub keeps : (c : Change) (w : World) → Facts dom w → IsWithin dom s w c → Facts dom (apply c w)
+  keeps (AddClient row) w facts within =
+      let absent = client_absent s w.clients w.lasts.clients facts.clients row.id within.0 in
+      keeps_client row w _ facts (grind (arith, absent)) (add_client s w.clients w.lasts.clients row facts.clients within.0 within.1)
+  keeps (SetClient row) w facts within = keeps_client row w w.lasts.clients facts within.stays (set_client w.clients w.lasts.clients row facts.clients within.there within.alone)
+  keeps (DropClient client) w facts within = record {
+    clients = drop_client w.clients w.lasts.clients client facts.clients;
+    sessions = sessions_left w.clients w.sessions w.lasts.sessions client facts.sessions;
+    contexts = facts.contexts;
+    nodes = facts.nodes;
+    opens = opens_of_others dom w.clients (label_at w.nodes) w.opens w.lasts.opens client facts.opens;
   }
-  keeps (SetLast row) w facts within = record {
-    clients_rise = facts.clients_rise;
-    lasts_rise = rising_inserted last_order last_turned last_before last_tied row w.lasts facts.lasts_rise;
-    numbers = all_weaker _ _ (λ c below. grind (arith, nat_tests, last_of-inserted row w.lasts c.level)) w.clients facts.numbers;
-    rivals = facts.rivals;
+  keeps (AddSession row) w facts within = record {
+    clients = facts.clients;
+    sessions = add_session s w.clients w.sessions w.lasts.sessions row facts.sessions within.0 within.1;
+    contexts = facts.contexts;
+    nodes = facts.nodes;
+    opens = facts.opens;
+  }
+  keeps (SetSession row) w facts within = record {
+    clients = facts.clients;
+    sessions = set_session w.clients w.sessions w.lasts.sessions row facts.sessions within.there within.behind;
+    contexts = facts.contexts;
+    nodes = facts.nodes;
+    opens = facts.opens;
+  }
+  keeps (DropSession session) w facts within = record {
+    clients = facts.clients;
+    sessions = drop_session w.clients w.sessions w.lasts.sessions session facts.sessions;
+    contexts = facts.contexts;
+    nodes = facts.nodes;
+    opens = facts.opens;
+  }
+  keeps (AddContext row) w facts within = record {
+    clients = facts.clients;
+    sessions = facts.sessions;
+    contexts = add_context s w.contexts w.lasts.contexts row facts.contexts within;
+    nodes = facts.nodes;
+    opens = facts.opens;
+  }
+  keeps (DropContext context) w facts within = record {
+    clients = facts.clients;
+    sessions = facts.sessions;
+    contexts = drop_context w.contexts w.lasts.contexts context facts.contexts;
+    nodes = facts.nodes;
+    opens = facts.opens;
+  }
+  keeps (Make node entry) w facts within = record {
+    clients = facts.clients;
+    sessions = facts.sessions;
+    contexts = facts.contexts;
+    nodes = make_node dom lattice s w node entry facts.nodes within;
+    opens = opens_stay dom w.clients w.clients (label_at w.nodes) (label_at (inserted node_order node w.nodes)) w.opens w.lasts.opens (λ l n is. is) (λ i there. grind (arith, label_at-made node i w.nodes)) facts.opens;
+  }
+  keeps (Touch node inner) w facts within = record {
+    clients = facts.clients;
+    sessions = facts.sessions;
+    contexts = facts.contexts;
+    nodes = touch_node dom lattice s w.nodes w.entries w.lasts.nodes node inner facts.nodes within.cookies;
+    opens = opens_stay dom w.clients w.clients (label_at w.nodes) (label_at (touched node inner w.nodes)) w.opens w.lasts.opens (λ l n is. is) (λ i there. ap is_some (label_at-touched node inner i w.nodes) ∙ there) facts.opens;
+  }
+  keeps (Relabel node label inner) w facts within = record {
+    clients = facts.clients;
+    sessions = facts.sessions;
+    contexts = facts.contexts;
+    nodes = relabel_node dom lattice s w w.lasts.nodes node label inner facts.nodes within;
+    opens = opens_stay dom w.clients w.clients (label_at w.nodes) (label_at (relabelled node label inner w.nodes)) w.opens w.lasts.opens (λ l n is. is) (λ i there. grind (arith, label_at-relabelled node label inner i w.nodes)) facts.opens;
+  }
+  keeps (Link entry) w facts within = record {
+    clients = facts.clients;
+    sessions = facts.sessions;
+    contexts = facts.contexts;
+    nodes = link_node dom lattice s w w.lasts.nodes entry facts.nodes within;
+    opens = facts.opens;
+  }
+  keeps (Unlink entry) w facts within = record {
+    clients = facts.clients;
+    sessions = facts.sessions;
+    contexts = facts.contexts;
+    nodes = unlink_node dom lattice s w w.lasts.nodes entry facts.nodes within;
+    opens = facts.opens;
+  }
+  keeps (Drop entry) w facts within = record {
+    clients = facts.clients;
+    sessions = facts.sessions;
+    contexts = facts.contexts;
+    nodes = drop_node dom lattice s w w.lasts.nodes entry facts.nodes within;
+    opens = opens_of_other_nodes dom w.clients (label_at w.nodes) (label_at (filter (λ n. not (same_id entry.node n.id)) w.nodes)) w.opens w.lasts.opens entry.node (λ i apart there. grind (arith, label_at-dropped entry.node i w.nodes, id_turned entry.node i)) facts.opens;
+  }
+  keeps (Move entry other) w facts within = record {
+    clients = facts.clients;
+    sessions = facts.sessions;
+    contexts = facts.contexts;
+    nodes = move_node dom lattice s w entry other facts within;
+    opens = facts.opens;
+  }
+  keeps (AddOpen row) w facts within = record {
+    clients = facts.clients;
+    sessions = facts.sessions;
+    contexts = facts.contexts;
+    nodes = facts.nodes;
+    opens =
+        let new = within.new in
+        let own = new.own in
+        let home = within.home in
+        let node = within.node in
+        add_open dom s w.clients (label_at w.nodes) w.opens w.lasts.opens row facts.opens new within.behind (grind arith) within.alone;
+  }
+  keeps (SetOpen row) w facts within = record {
+    clients = facts.clients;
+    sessions = facts.sessions;
+    contexts = facts.contexts;
+    nodes = facts.nodes;
+    opens = set_open dom w.clients (label_at w.nodes) w.opens w.lasts.opens row facts.opens within.there within.alone;
+  }
+  keeps (EndOpen opening) w facts within = record {
+    clients = facts.clients;
+    sessions = facts.sessions;
+    contexts = facts.contexts;
+    nodes = facts.nodes;
+    opens = opens_left dom w.clients (label_at w.nodes) w.opens w.lasts.opens (λ o. not (same_id opening o.id)) facts.opens;
   }

@@ -1,5 +1,11 @@
 pub mod Rows
 pub mod World
+pub mod Erased
+pub mod Tree
 pub mod Change
 pub mod Facts
+pub mod Within
 pub mod Outcome
+pub mod Tame
+pub mod Lawful
+pub mod Both

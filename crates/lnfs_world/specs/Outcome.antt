@@ -1,35 +1,89 @@
 -- What an operation answers and does, and what is proved of each operation.
-use Rattle.std.specs.Prelude.{◌≡◌, ℕ, Bool, true, false, List}
-use Rattle.lnfs_world.specs.World.{World, erased}
+use Rattle.std.specs.Prelude.{◌≡◌, ℕ, Bool, true, false, ◌&&◌, ◌==◌, List, Option, Some, None}
+use Rattle.lnfs_outside.specs.declared.event.Moment.{Moment}
+use Rattle.lnfs_world.specs.World.{Id, Session, World, session_at}
+use Rattle.lnfs_world.specs.Erased.{erased}
 use Rattle.lnfs_world.specs.Change.{Change, apply_all}
-use Rattle.lnfs_world.specs.Facts.{Facts, all_within}
+use Rattle.lnfs_world.specs.Facts.{Facts, has_confirmed}
+use Rattle.lnfs_world.specs.Within.{all_within}
 
--- an answer, and what changes
+-- What an operation may look at of the policy of its site.
+pub record Site : Type 0 where
+  -- dominance of the levels, and how many there are
+  pub dom : ℕ → ℕ → Bool
+  pub levels : ℕ
+  -- whether labels are carried alone: every rule of labels allows, and all levels are 0
+  pub limited : Bool
+  -- the most nodes and the most bytes of each level
+  pub nodes : ℕ → ℕ
+  pub bytes : ℕ → ℕ
+
+-- Where an operation stands: who asks, and when; the client and the session under which it came, both
+-- numbers of the subject's level; and the two file handles of its COMPOUND (RFC 8881 section 2.2.2).
+pub record Place : Type 0 where
+  pub subject : ℕ
+  pub moment : Moment
+  pub client : Option ℕ
+  pub session : Option ℕ
+  pub current : Option Id
+  pub saved : Option Id
+
+-- the place of the first operation of a COMPOUND
+abbrev pub begins_at : ℕ → Moment → Place
+begins_at subject moment = record { subject = subject; moment = moment; client = None; session = None; current = None; saved = None }
+
+-- A file handle isn't set, or has a home that the subject dominates.
+abbrev pub may_hold : (ℕ → ℕ → Bool) → ℕ → Option Id → Bool
+may_hold dom s None = true
+may_hold dom s (Some i) = dom s i.level
+
+abbrev pub serves_client : ℕ → Option ℕ → World → Bool
+serves_client s None w = true
+serves_client s (Some number) w = has_confirmed w.clients s number
+
+abbrev pub is_session_for : Option ℕ → Option Session → Bool
+is_session_for (Some client) (Some x) = x.client == client
+is_session_for _ _ = false
+
+abbrev pub serves_session : ℕ → Option ℕ → Option ℕ → World → Bool
+serves_session s client None w = true
+serves_session s client (Some number) w = is_session_for client (session_at w.sessions (record { level = s; number = number }))
+
+-- Its client is there and confirmed, its session is there and of that client, and it may hold its file
+-- handles.
+abbrev pub is_place : (ℕ → ℕ → Bool) → World → Place → Bool
+is_place dom w p =
+    serves_client p.subject p.client w && (serves_session p.subject p.client p.session w
+    && (may_hold dom p.subject p.current && may_hold dom p.subject p.saved))
+
+-- an answer, where the next operation stands, and what changes
 pub record Outcome (A : Type 0) : Type 0 where
   pub answer : A
+  pub place : Place
   pub changes : List Change
 
--- an operation with its arguments: of a subject, on a world
+-- an operation with its arguments: at a place, on a world
 abbrev pub Act : Type 0 → Type 0
-Act A = ℕ → World → Outcome A
+Act A = Place → World → Outcome A
 
 -- the world afterwards
 abbrev pub done_to : {A : Type 0} → World → Outcome A → World
 done_to w o = apply_all o.changes w
 
+-- what is asked of world and place before an operation, and what stands after it
+pub record Stands (dom : ℕ → ℕ → Bool) (p : Place) (w : World) : Type 0 where
+  pub facts : Facts dom w
+  pub place : is_place dom w p ≡ true
+
 -- View: two worlds of which the subject sees the same give the same outcome.
 abbrev pub View : {A : Type 0} → (ℕ → ℕ → Bool) → Act A → Type 0
-View dom act = (s : ℕ) (a b : World) → Facts dom a → Facts dom b → erased dom s a ≡ erased dom s b → act s a ≡ act s b
+View dom act = (p : Place) (a b : World) → Stands dom p a → Stands dom p b → erased dom p.subject a ≡ erased dom p.subject b → act p a ≡ act p b
 
--- Footprint: the changes are those that the subject may make.
+-- Footprint: the changes are those that the subject may make, and the place stays the subject's.
+pub record IsFootprint {A : Type 0} (dom : ℕ → ℕ → Bool) (p : Place) (w : World) (o : Outcome A) : Type 0 where
+  pub within : all_within dom p.subject w o.changes ≡ true
+  pub place : is_place dom (done_to w o) o.place ≡ true
+  pub subject : o.place.subject ≡ p.subject
+
 abbrev pub Footprint : {A : Type 0} → (ℕ → ℕ → Bool) → Act A → Type 0
-Footprint dom act = (s : ℕ) (w : World) → Facts dom w → all_within dom s w (act s w).changes ≡ true
-
--- The two laws of erasure for an operation, and that it keeps the facts.
-pub record Lawful {A : Type 0} (dom : ℕ → ℕ → Bool) (act : Act A) : Type 0 where
-  -- who dominates the subject: answer and erasure afterwards are determined by the erasure before
-  pub answer : (level s : ℕ) (a b : World) → dom level s ≡ true → Facts dom a → Facts dom b → erased dom level a ≡ erased dom level b → (act s a).answer ≡ (act s b).answer
-  pub seen : (level s : ℕ) (a b : World) → dom level s ≡ true → Facts dom a → Facts dom b → erased dom level a ≡ erased dom level b → erased dom level (done_to a (act s a)) ≡ erased dom level (done_to b (act s b))
-  -- who does not: the erasure stays
-  pub unseen : (level s : ℕ) (w : World) → dom level s ≡ false → Facts dom w → erased dom level (done_to w (act s w)) ≡ erased dom level w
-  pub facts : (s : ℕ) (w : World) → Facts dom w → Facts dom (done_to w (act s w))
+Footprint dom act = (p : Place) (w : World) → Stands dom p w → IsFootprint dom p w (act p w)

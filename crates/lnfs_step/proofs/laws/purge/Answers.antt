@@ -1,12 +1,16 @@
-use Rattle.lnfs_step.proofs.Steps.{seen, unseen, facts_after, reply_is_answer}
+use Rattle.std.specs.Prelude.{[]}
+use Rattle.lnfs_world.specs.Both.{both}
+use Rattle.lnfs_operations.specs.Extra.{no_extra}
+use Rattle.lnfs_operations.proofs.NoExtra.{no_extra_is_lawful}
+use Rattle.lnfs_step.proofs.FirstWorlds.{first_facts}
+use Rattle.lnfs_step.proofs.Steps.{holds_after, reply_is_answer}
 use Rattle.lnfs_step.proofs.Lengths.{step_short}
 use Rattle.lnfs_step.proofs.laws.purge.Goals as goal
 
 pub returns : goal.returns
 returns c = record {
-  replies = λ p lattice. reply_is_answer p lattice;
-  seen = λ p lattice. seen p lattice;
-  unseen = λ p lattice. unseen p lattice;
-  facts = λ p lattice. facts_after p lattice;
-  short = step_short;
+  replies = λ p lattice journal event. reply_is_answer no_extra no_extra_is_lawful p lattice journal event;
+  first = λ p lattice. first_facts p lattice;
+  facts = λ p lattice journal. (holds_after no_extra no_extra_is_lawful p lattice journal).facts;
+  short = λ p w event. step_short p (both w []) event;
 }

@@ -1,0 +1,5 @@
+use Rattle.lnfs_hold.proofs.HoldLaws.{holds_are_lawful}
+use Rattle.lnfs_hold.proofs.laws.hold_is_lawful.Goals as goal
+
+pub returns : goal.returns
+returns c = holds_are_lawful

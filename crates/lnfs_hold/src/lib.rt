@@ -1,0 +1,14 @@
+//! A small further operation with rows of its own, to show that what further operations owe can be
+//! met: HOLD, under the number of LOCK, takes an open of its subject's level, and the row that it leaves
+//! tells of it. Definitions and laws alone; no command serves it.
+#![tactic(auto)]
+
+mod laws;
+
+pub use laws::{hold_is_exclusive, hold_is_lawful};
+
+/// A lock that another holder has (RFC 8881 section 15.1.8.1).
+pub const NFS4ERR_DENIED: u32 = 10010;
+
+/// A state id that names nothing (RFC 8881 section 15.1.5.2).
+pub const NFS4ERR_BAD_STATEID: u32 = 10025;

@@ -1,0 +1,13 @@
+use Rattle.lnfs_step.proofs.Steps.{seen, unseen, holds_after, reply_is_answer}
+use Rattle.lnfs_step.proofs.laws.purge_with.Goals as goal
+
+pub returns : goal.returns
+returns g c =
+    let X = g.X.ExtraRows.extra in
+    let owed = g.X.ExtraRows.lawful in
+    record {
+      replies = λ p lattice journal event. reply_is_answer X owed p lattice journal event;
+      seen = λ p lattice level s event a b. seen X owed p lattice level s event a b;
+      unseen = λ p lattice level event a. unseen X owed p lattice level event a;
+      facts = λ p lattice journal. holds_after X owed p lattice journal;
+    }
