@@ -7,21 +7,131 @@ ghost use Rattle.lnfs_arguments.specs.Lawful.{blocks_are_lawful};
 use crate::{CompoundError, ExtraGrammar, NoExtraGrammar, read_compound};
 use lnfs_xdr::{XdrError, XdrReader, XdrWriter};
 use std::alloc::{AllocError, Global};
+use std::process::Abort;
 use std::test::Fail;
 
-/// The bytes of the words, behind an empty tag.
-fn message(alloc: Global, words: &[u32]) -> Result<Vec<u8>, AllocError> {
+/// In a table: words, and behind `=>` what is read of them, or the offset of what is refused. A and B are
+/// the words of the names `a` and `b`.
+///
+/// One operation on names.
+const NAMES: &str = "
+3 63 => [Access { bits: 63 }]
+6 2 1 A 1 16 8 0 9 => [Create { what: Dir, name: Octets { inner: [97] }, attrs: RawAttrs { mask: Bitmap { words: [16, 0, 0, 0, 0, 0, 0, 0] }, list: Octets { inner: [0, 0, 0, 0, 0, 0, 0, 9] } } }]
+6 5 1 B 1 A 1 16 8 0 9 => [Create { what: Symlink { text: Octets { inner: [98] } }, name: Octets { inner: [97] }, attrs: RawAttrs { mask: Bitmap { words: [16, 0, 0, 0, 0, 0, 0, 0] }, list: Octets { inner: [0, 0, 0, 0, 0, 0, 0, 9] } } }]
+9 2 1 2 => [GetAttr { asked: Bitmap { words: [1, 2, 0, 0, 0, 0, 0, 0] } }]
+10 => [GetFh]
+11 1 A => [Link { name: Octets { inner: [97] } }]
+15 1 A => [Lookup { name: Octets { inner: [97] } }]
+16 => [LookupP]
+17 1 16 8 0 9 => [NVerify { attrs: RawAttrs { mask: Bitmap { words: [16, 0, 0, 0, 0, 0, 0, 0] }, list: Octets { inner: [0, 0, 0, 0, 0, 0, 0, 9] } } }]
+22 1 A => [PutFh { handle: Octets { inner: [97] } }]
+24 => [PutRootFh]
+26 0 3 1 2 4096 8192 1 2 => [ReadDir { cookie: 3, verifier: [0, 0, 0, 1, 0, 0, 0, 2], dircount: 4096, maxcount: 8192, asked: Bitmap { words: [2, 0, 0, 0, 0, 0, 0, 0] } }]
+27 => [ReadLink]
+28 1 A => [Remove { name: Octets { inner: [97] } }]
+29 1 A 1 B => [Rename { old: Octets { inner: [97] }, new: Octets { inner: [98] } }]
+34 7 1 0 2 1 16 8 0 9 => [SetAttr { id: StateId { seqid: 7, other: [0, 0, 0, 1, 0, 0, 0, 0, 0, 0, 0, 2] }, attrs: RawAttrs { mask: Bitmap { words: [16, 0, 0, 0, 0, 0, 0, 0] }, list: Octets { inner: [0, 0, 0, 0, 0, 0, 0, 9] } } }]
+37 1 16 8 0 9 => [Verify { attrs: RawAttrs { mask: Bitmap { words: [16, 0, 0, 0, 0, 0, 0, 0] }, list: Octets { inner: [0, 0, 0, 0, 0, 0, 0, 9] } } }]
+";
+
+/// One operation on files.
+const FILES: &str = "
+4 5 7 1 0 2 => [Close { seqid: 5, id: StateId { seqid: 7, other: [0, 0, 0, 1, 0, 0, 0, 0, 0, 0, 0, 2] } }]
+5 0 6 7 => [Commit { offset: 6, count: 7 }]
+25 7 1 0 2 1 0 9 => [Read { id: StateId { seqid: 7, other: [0, 0, 0, 1, 0, 0, 0, 0, 0, 0, 0, 2] }, offset: 4294967296, count: 9 }]
+38 7 1 0 2 0 8 2 1 A => [Write { id: StateId { seqid: 7, other: [0, 0, 0, 1, 0, 0, 0, 0, 0, 0, 0, 2] }, offset: 8, stable: 2, content: Octets { inner: [97] } }]
+31 => [RestoreFh]
+32 => [SaveFh]
+18 1 2 3 1 5 1 A 0 4 => [Open { seqid: 1, access: 2, deny: 3, client: 4294967301, owner: Octets { inner: [97] }, making: None, claim: Handle }]
+18 1 2 3 1 5 1 A 1 0 1 16 8 0 9 0 1 A => [Open { seqid: 1, access: 2, deny: 3, client: 4294967301, owner: Octets { inner: [97] }, making: Some(Unchecked { attrs: RawAttrs { mask: Bitmap { words: [16, 0, 0, 0, 0, 0, 0, 0] }, list: Octets { inner: [0, 0, 0, 0, 0, 0, 0, 9] } } }), claim: Name { name: Octets { inner: [97] } } }]
+18 1 2 3 1 5 1 A 1 1 1 16 8 0 9 4 => [Open { seqid: 1, access: 2, deny: 3, client: 4294967301, owner: Octets { inner: [97] }, making: Some(Guarded { attrs: RawAttrs { mask: Bitmap { words: [16, 0, 0, 0, 0, 0, 0, 0] }, list: Octets { inner: [0, 0, 0, 0, 0, 0, 0, 9] } } }), claim: Handle }]
+18 1 2 3 1 5 1 A 1 3 1 2 1 16 8 0 9 4 => [Open { seqid: 1, access: 2, deny: 3, client: 4294967301, owner: Octets { inner: [97] }, making: Some(Exclusive { verifier: [0, 0, 0, 1, 0, 0, 0, 2], attrs: RawAttrs { mask: Bitmap { words: [16, 0, 0, 0, 0, 0, 0, 0] }, list: Octets { inner: [0, 0, 0, 0, 0, 0, 0, 9] } } }), claim: Handle }]
+";
+
+/// One operation on clients and sessions.
+const SESSIONS: &str = "
+42 42 0 2 0x63310000 3 0 0 => [ExchangeId { verifier: [0, 0, 0, 42, 0, 0, 0, 0], owner: Octets { inner: [99, 49] }, flags: 3, implementation: None }]
+42 42 0 2 0x63310000 3 0 1 1 A 1 B 0 5 6 => [ExchangeId { verifier: [0, 0, 0, 42, 0, 0, 0, 0], owner: Octets { inner: [99, 49] }, flags: 3, implementation: Some(Implementation { domain: Octets { inner: [97] }, name: Octets { inner: [98] }, secs: 5, nanos: 6 }) }]
+43 1 2 3 4 1 2 3 4 5 6 0 6 5 4 3 2 1 1 9 77 3 0 1 5 1 A 6 7 2 8 9 6 1 1 A 1 B => [CreateSession(CreateSession { client: 4294967298, sequence: 3, flags: 4, fore: Channel { headerpad: 1, maxrequest: 2, maxresponse: 3, cached: 4, operations: 5, requests: 6, ird: None }, back: Channel { headerpad: 6, maxrequest: 5, maxresponse: 4, cached: 3, operations: 2, requests: 1, ird: Some(9) }, program: 77, callbacks: Items { inner: [Nothing, Sys { stamp: 5, machine: Octets { inner: [97] }, uid: 6, gid: 7, gids: Items { inner: [8, 9] } }, Gss { service: 1, server: Octets { inner: [97] }, client: Octets { inner: [98] } }] } })]
+44 1 2 3 4 => [DestroySession { session: [0, 0, 0, 1, 0, 0, 0, 2, 0, 0, 0, 3, 0, 0, 0, 4] }]
+53 1 2 3 4 5 6 7 1 => [Sequence(Sequence { session: [0, 0, 0, 1, 0, 0, 0, 2, 0, 0, 0, 3, 0, 0, 0, 4], sequence: 5, slot: 6, highest: 7, cachethis: true })]
+57 1 2 => [DestroyClientId { client: 4294967298 }]
+58 1 => [ReclaimComplete { one_fs: true }]
+";
+
+/// A number that isn't served, three that are none, and forms that aren't served; behind each stand
+/// words that are no operation.
+const OUTSIDE: &str = "
+68 1 2 => [Outside { number: 68, status: 10004 }]
+72 1 2 => [Outside { number: 72, status: 10044 }]
+2 1 2 => [Outside { number: 2, status: 10044 }]
+10044 1 => [Outside { number: 10044, status: 10044 }]
+6 1 7 7 => [Outside { number: 6, status: 10007 }]
+42 42 0 0 3 1 7 => [Outside { number: 42, status: 22 }]
+18 1 2 3 1 5 1 A 2 7 => [Outside { number: 18, status: 22 }]
+18 1 2 3 1 5 1 A 1 2 7 => [Outside { number: 18, status: 10004 }]
+18 1 2 3 1 5 1 A 1 4 7 => [Outside { number: 18, status: 22 }]
+18 1 2 3 1 5 1 A 0 1 7 => [Outside { number: 18, status: 10004 }]
+";
+
+/// What follows the empty tag: other minor versions and counts, a word after the last operation, a boolean
+/// of 2 in SEQUENCE, an operation that isn't there, a name that ends early and one that is too long, a
+/// file handle that is too long.
+const UNREAD: &str = "
+1 => []
+3 0xffffffff 9 9 => []
+2 => garbage at 8
+2 0 => []
+2 33 10 9 9 => [GetFh]
+2 0xffffffff 10 9 9 => [GetFh]
+2 1 10 9 => garbage at 16
+2 0 9 => garbage at 12
+2 1 53 1 2 3 4 5 6 7 2 => garbage at 44
+2 2 10 => garbage at 16
+2 1 15 5 A => garbage at 16
+2 1 15 0xffffffff => garbage at 16
+2 1 22 129 => garbage at 16
+";
+
+/// Messages with the operation of `OneBlock`.
+const BESIDE: &str = "
+2 2 70 5 A B 10 => [Extra { number: 70, args: Octets { inner: [0, 0, 0, 5, 97, 0, 0, 0, 98, 0, 0, 0] } }, GetFh]
+2 1 70 17 A => garbage at 16
+2 1 70 5 A => garbage at 16
+";
+
+/// The number that a word of a table is.
+fn number_of(word: &str) -> Option<u32> {
+    if word == "A" {
+        return Some(0x6100_0000);
+    }
+    if word == "B" {
+        return Some(0x6200_0000);
+    }
+    match word.strip_prefix("0x") {
+        Some(digits) => u32::from_str_radix(digits, 16).ok(),
+        None => word.parse::<u32>().ok(),
+    }
+}
+
+/// The bytes of words behind an empty tag, where each is a number.
+fn message(alloc: Global, head: &str, words: &str) -> Result<Option<Vec<u8>>, AllocError> {
     let mut out = XdrWriter::new(alloc);
     out.u32(0)?;
-    for word in words {
-        out.u32(*word)?;
+    for part in [head, words] {
+        for word in part.split_whitespace() {
+            let Some(number) = number_of(word) else {
+                return Ok(None);
+            };
+            out.u32(number)?;
+        }
     }
-    Ok(out.into_bytes())
+    Ok(Some(out.into_bytes()))
 }
 
 /// What reading gives: the operations, or the offset of what is refused.
-fn told(alloc: Global, bytes: &[u8]) -> Result<String, AllocError> {
-    match read_compound(alloc, bytes, &NoExtraGrammar) {
+fn told<G: ExtraGrammar>(alloc: Global, bytes: &[u8], grammar: &G) -> Result<String, AllocError> {
+    match read_compound(alloc, bytes, grammar) {
         Ok(found) => format!(in alloc; "{:?}", found.ops.as_slice()),
         Err(CompoundError::Garbage { at }) => format!(in alloc; "garbage at {at}"),
         Err(CompoundError::Memory) => Err(AllocError),
@@ -36,221 +146,57 @@ fn count_in(alloc: Global, bytes: &[u8]) -> Option<u32> {
     }
 }
 
-/// Words of minor version 2 with one operation, and what is read of them.
-fn reads(alloc: Global, words: &[u32]) -> Result<String, AllocError> {
-    let mut all = Vec::new(alloc);
-    all.extend_from_slice(&[2, 1])?;
-    all.extend_from_slice(words)?;
-    let bytes = message(alloc, &all)?;
-    told(alloc, &bytes)
-}
-
-const A: u32 = 0x61000000;
-
-const B: u32 = 0x62000000;
-
-#[test]
-fn operations_on_names(rt: HostRuntime) -> Result<(), Fail> {
-    let rows: [(&[u32], &str); 17] = [
-        (&[3, 63], "[Access { bits: 63 }]"),
-        (
-            &[6, 2, 1, A, 1, 16, 8, 0, 9],
-            "[Create { what: Dir, name: Octets { inner: [97] }, attrs: RawAttrs { mask: Bitmap { words: [16, 0, 0, 0, 0, 0, 0, 0] }, list: Octets { inner: [0, 0, 0, 0, 0, 0, 0, 9] } } }]",
-        ),
-        (
-            &[6, 5, 1, B, 1, A, 1, 16, 8, 0, 9],
-            "[Create { what: Symlink { text: Octets { inner: [98] } }, name: Octets { inner: [97] }, attrs: RawAttrs { mask: Bitmap { words: [16, 0, 0, 0, 0, 0, 0, 0] }, list: Octets { inner: [0, 0, 0, 0, 0, 0, 0, 9] } } }]",
-        ),
-        (
-            &[9, 2, 1, 2],
-            "[GetAttr { asked: Bitmap { words: [1, 2, 0, 0, 0, 0, 0, 0] } }]",
-        ),
-        (&[10], "[GetFh]"),
-        (&[11, 1, A], "[Link { name: Octets { inner: [97] } }]"),
-        (&[15, 1, A], "[Lookup { name: Octets { inner: [97] } }]"),
-        (&[16], "[LookupP]"),
-        (
-            &[17, 1, 16, 8, 0, 9],
-            "[NVerify { attrs: RawAttrs { mask: Bitmap { words: [16, 0, 0, 0, 0, 0, 0, 0] }, list: Octets { inner: [0, 0, 0, 0, 0, 0, 0, 9] } } }]",
-        ),
-        (&[22, 1, A], "[PutFh { handle: Octets { inner: [97] } }]"),
-        (&[24], "[PutRootFh]"),
-        (
-            &[26, 0, 3, 1, 2, 4096, 8192, 1, 2],
-            "[ReadDir { cookie: 3, verifier: [0, 0, 0, 1, 0, 0, 0, 2], dircount: 4096, maxcount: 8192, asked: Bitmap { words: [2, 0, 0, 0, 0, 0, 0, 0] } }]",
-        ),
-        (&[27], "[ReadLink]"),
-        (&[28, 1, A], "[Remove { name: Octets { inner: [97] } }]"),
-        (
-            &[29, 1, A, 1, B],
-            "[Rename { old: Octets { inner: [97] }, new: Octets { inner: [98] } }]",
-        ),
-        (
-            &[34, 7, 1, 0, 2, 1, 16, 8, 0, 9],
-            "[SetAttr { id: StateId { seqid: 7, other: [0, 0, 0, 1, 0, 0, 0, 0, 0, 0, 0, 2] }, attrs: RawAttrs { mask: Bitmap { words: [16, 0, 0, 0, 0, 0, 0, 0] }, list: Octets { inner: [0, 0, 0, 0, 0, 0, 0, 9] } } }]",
-        ),
-        (
-            &[37, 1, 16, 8, 0, 9],
-            "[Verify { attrs: RawAttrs { mask: Bitmap { words: [16, 0, 0, 0, 0, 0, 0, 0] }, list: Octets { inner: [0, 0, 0, 0, 0, 0, 0, 9] } } }]",
-        ),
-    ];
-    for (words, expected) in &rows {
-        let found = reads(rt.alloc(), words)?;
-        assert_eq!(rt; found.as_str(), *expected);
+/// Reads each row of a table, which has so many, behind the words of a head.
+fn are_read<G: ExtraGrammar>(
+    rt: &impl Abort,
+    alloc: Global,
+    table: (&str, usize),
+    head: &str,
+    grammar: &G,
+) -> Result<(), AllocError> {
+    let (rows, wanted) = table;
+    let mut count: usize = 0;
+    for row in rows.lines() {
+        if !row.is_empty() {
+            let (words, expected) = row.split_once(" => ").expect(rt, row);
+            let bytes = message(alloc, head, words)?.expect(rt, row);
+            let found = told(alloc, &bytes, grammar)?;
+            assert_eq!(rt; found.as_str(), expected, "{words}");
+            count = count.saturating_add(1);
+        }
     }
+    assert_eq!(rt; count, wanted, "rows");
     Ok(())
 }
 
 #[test]
-fn operations_on_files(rt: HostRuntime) -> Result<(), Fail> {
-    let rows: [(&[u32], &str); 10] = [
-        (
-            &[4, 5, 7, 1, 0, 2],
-            "[Close { seqid: 5, id: StateId { seqid: 7, other: [0, 0, 0, 1, 0, 0, 0, 0, 0, 0, 0, 2] } }]",
-        ),
-        (&[5, 0, 6, 7], "[Commit { offset: 6, count: 7 }]"),
-        (
-            &[25, 7, 1, 0, 2, 1, 0, 9],
-            "[Read { id: StateId { seqid: 7, other: [0, 0, 0, 1, 0, 0, 0, 0, 0, 0, 0, 2] }, offset: 4294967296, count: 9 }]",
-        ),
-        (
-            &[38, 7, 1, 0, 2, 0, 8, 2, 1, A],
-            "[Write { id: StateId { seqid: 7, other: [0, 0, 0, 1, 0, 0, 0, 0, 0, 0, 0, 2] }, offset: 8, stable: 2, content: Octets { inner: [97] } }]",
-        ),
-        (&[31], "[RestoreFh]"),
-        (&[32], "[SaveFh]"),
-        (
-            &[18, 1, 2, 3, 1, 5, 1, A, 0, 4],
-            "[Open { seqid: 1, access: 2, deny: 3, client: 4294967301, owner: Octets { inner: [97] }, making: None, claim: Handle }]",
-        ),
-        (
-            &[18, 1, 2, 3, 1, 5, 1, A, 1, 0, 1, 16, 8, 0, 9, 0, 1, A],
-            "[Open { seqid: 1, access: 2, deny: 3, client: 4294967301, owner: Octets { inner: [97] }, making: Some(Unchecked { attrs: RawAttrs { mask: Bitmap { words: [16, 0, 0, 0, 0, 0, 0, 0] }, list: Octets { inner: [0, 0, 0, 0, 0, 0, 0, 9] } } }), claim: Name { name: Octets { inner: [97] } } }]",
-        ),
-        (
-            &[18, 1, 2, 3, 1, 5, 1, A, 1, 1, 1, 16, 8, 0, 9, 4],
-            "[Open { seqid: 1, access: 2, deny: 3, client: 4294967301, owner: Octets { inner: [97] }, making: Some(Guarded { attrs: RawAttrs { mask: Bitmap { words: [16, 0, 0, 0, 0, 0, 0, 0] }, list: Octets { inner: [0, 0, 0, 0, 0, 0, 0, 9] } } }), claim: Handle }]",
-        ),
-        (
-            &[18, 1, 2, 3, 1, 5, 1, A, 1, 3, 1, 2, 1, 16, 8, 0, 9, 4],
-            "[Open { seqid: 1, access: 2, deny: 3, client: 4294967301, owner: Octets { inner: [97] }, making: Some(Exclusive { verifier: [0, 0, 0, 1, 0, 0, 0, 2], attrs: RawAttrs { mask: Bitmap { words: [16, 0, 0, 0, 0, 0, 0, 0] }, list: Octets { inner: [0, 0, 0, 0, 0, 0, 0, 9] } } }), claim: Handle }]",
-        ),
-    ];
-    for (words, expected) in &rows {
-        let found = reads(rt.alloc(), words)?;
-        assert_eq!(rt; found.as_str(), *expected);
-    }
-    Ok(())
-}
-
-#[test]
-fn operations_on_sessions(rt: HostRuntime) -> Result<(), Fail> {
-    let rows: [(&[u32], &str); 7] = [
-        (
-            &[42, 42, 0, 2, 0x63310000, 3, 0, 0],
-            "[ExchangeId { verifier: [0, 0, 0, 42, 0, 0, 0, 0], owner: Octets { inner: [99, 49] }, flags: 3, implementation: None }]",
-        ),
-        (
-            &[42, 42, 0, 2, 0x63310000, 3, 0, 1, 1, A, 1, B, 0, 5, 6],
-            "[ExchangeId { verifier: [0, 0, 0, 42, 0, 0, 0, 0], owner: Octets { inner: [99, 49] }, flags: 3, implementation: Some(Implementation { domain: Octets { inner: [97] }, name: Octets { inner: [98] }, secs: 5, nanos: 6 }) }]",
-        ),
-        (
-            &[
-                43, 1, 2, 3, 4, 1, 2, 3, 4, 5, 6, 0, 6, 5, 4, 3, 2, 1, 1, 9, 77, 3, 0, 1, 5, 1, A,
-                6, 7, 2, 8, 9, 6, 1, 1, A, 1, B,
-            ],
-            "[CreateSession(CreateSession { client: 4294967298, sequence: 3, flags: 4, fore: Channel { headerpad: 1, maxrequest: 2, maxresponse: 3, cached: 4, operations: 5, requests: 6, ird: None }, back: Channel { headerpad: 6, maxrequest: 5, maxresponse: 4, cached: 3, operations: 2, requests: 1, ird: Some(9) }, program: 77, callbacks: Items { inner: [Nothing, Sys { stamp: 5, machine: Octets { inner: [97] }, uid: 6, gid: 7, gids: Items { inner: [8, 9] } }, Gss { service: 1, server: Octets { inner: [97] }, client: Octets { inner: [98] } }] } })]",
-        ),
-        (
-            &[44, 1, 2, 3, 4],
-            "[DestroySession { session: [0, 0, 0, 1, 0, 0, 0, 2, 0, 0, 0, 3, 0, 0, 0, 4] }]",
-        ),
-        (
-            &[53, 1, 2, 3, 4, 5, 6, 7, 1],
-            "[Sequence(Sequence { session: [0, 0, 0, 1, 0, 0, 0, 2, 0, 0, 0, 3, 0, 0, 0, 4], sequence: 5, slot: 6, highest: 7, cachethis: true })]",
-        ),
-        (&[57, 1, 2], "[DestroyClientId { client: 4294967298 }]"),
-        (&[58, 1], "[ReclaimComplete { one_fs: true }]"),
-    ];
-    for (words, expected) in &rows {
-        let found = reads(rt.alloc(), words)?;
-        assert_eq!(rt; found.as_str(), *expected);
-    }
-    Ok(())
-}
-
-#[test]
-fn operations_outside_end_reading(rt: HostRuntime) -> Result<(), Fail> {
-    // a number that isn't served, three that are none, and forms that aren't served; behind each
-    // stand words that are no operation
-    let rows: [(&[u32], &str); 10] = [
-        (&[68, 1, 2], "[Outside { number: 68, status: 10004 }]"),
-        (&[72, 1, 2], "[Outside { number: 72, status: 10044 }]"),
-        (&[2, 1, 2], "[Outside { number: 2, status: 10044 }]"),
-        (&[10044, 1], "[Outside { number: 10044, status: 10044 }]"),
-        (&[6, 1, 7, 7], "[Outside { number: 6, status: 10007 }]"),
-        (
-            &[42, 42, 0, 0, 3, 1, 7],
-            "[Outside { number: 42, status: 22 }]",
-        ),
-        (
-            &[18, 1, 2, 3, 1, 5, 1, A, 2, 7],
-            "[Outside { number: 18, status: 22 }]",
-        ),
-        (
-            &[18, 1, 2, 3, 1, 5, 1, A, 1, 2, 7],
-            "[Outside { number: 18, status: 10004 }]",
-        ),
-        (
-            &[18, 1, 2, 3, 1, 5, 1, A, 1, 4, 7],
-            "[Outside { number: 18, status: 22 }]",
-        ),
-        (
-            &[18, 1, 2, 3, 1, 5, 1, A, 0, 1, 7],
-            "[Outside { number: 18, status: 10004 }]",
-        ),
-    ];
-    for (words, expected) in &rows {
-        let found = reads(rt.alloc(), words)?;
-        assert_eq!(rt; found.as_str(), *expected);
+fn operations_are_read(rt: HostRuntime) -> Result<(), Fail> {
+    for table in [(NAMES, 17), (FILES, 10), (SESSIONS, 7), (OUTSIDE, 10)] {
+        are_read(&rt, rt.alloc(), table, "2 1", &NoExtraGrammar)?;
     }
     Ok(())
 }
 
 #[test]
 fn what_is_left_unread(rt: HostRuntime) -> Result<(), Fail> {
-    // each row is what follows the empty tag
-    let rows: [(&[u32], &str); 13] = [
-        (&[1], "[]"),
-        (&[3, 0xffffffff, 9, 9], "[]"),
-        (&[2], "garbage at 8"),
-        (&[2, 0], "[]"),
-        (&[2, 33, 10, 9, 9], "[GetFh]"),
-        (&[2, 0xffffffff, 10, 9, 9], "[GetFh]"),
-        // a word after the last operation
-        (&[2, 1, 10, 9], "garbage at 16"),
-        (&[2, 0, 9], "garbage at 12"),
-        // a boolean of 2 in SEQUENCE
-        (&[2, 1, 53, 1, 2, 3, 4, 5, 6, 7, 2], "garbage at 44"),
-        // an operation that isn't there, a name that ends early, one that is too long
-        (&[2, 2, 10], "garbage at 16"),
-        (&[2, 1, 15, 5, A], "garbage at 16"),
-        (&[2, 1, 15, 0xffffffff], "garbage at 16"),
-        // a file handle that is too long
-        (&[2, 1, 22, 129], "garbage at 16"),
-    ];
-    for (words, expected) in &rows {
-        let bytes = message(rt.alloc(), words)?;
-        let found = told(rt.alloc(), &bytes)?;
-        assert_eq!(rt; found.as_str(), *expected);
-    }
-    let other = message(rt.alloc(), &[3, 5])?;
-    assert_eq!(rt; count_in(rt.alloc(), &other), Some(0));
+    let alloc = rt.alloc();
+    are_read(&rt, alloc, (UNREAD, 13), "", &NoExtraGrammar)?;
+    let other = message(alloc, "", "3 5")?.ok_or("no words")?;
+    assert_eq!(rt; count_in(alloc, &other), Some(0));
     let cut: [u8; 5] = [0, 0, 0, 0, 0];
-    assert_eq!(rt; told(rt.alloc(), &cut)?.as_str(), "garbage at 4");
-    assert_eq!(rt; told(rt.alloc(), &cut[..3])?.as_str(), "garbage at 0");
+    assert_eq!(rt;
+        told(alloc, &cut, &NoExtraGrammar)?.as_str(),
+        "garbage at 4"
+    );
+    assert_eq!(rt;
+        told(alloc, &cut[..3], &NoExtraGrammar)?.as_str(),
+        "garbage at 0"
+    );
     let long: [u8; 4] = [0, 0, 4, 1];
-    assert_eq!(rt; told(rt.alloc(), &long)?.as_str(), "garbage at 0");
+    assert_eq!(rt;
+        told(alloc, &long, &NoExtraGrammar)?.as_str(),
+        "garbage at 0"
+    );
     Ok(())
 }
 
@@ -282,22 +228,6 @@ impl ExtraGrammar for OneBlock {
 
 #[test]
 fn an_operation_beside_the_table(rt: HostRuntime) -> Result<(), Fail> {
-    let rows: [(&[u32], &str); 3] = [
-        (
-            &[2, 2, 70, 5, A, B, 10],
-            "[Extra { number: 70, args: Octets { inner: [0, 0, 0, 5, 97, 0, 0, 0, 98, 0, 0, 0] } }, GetFh]",
-        ),
-        (&[2, 1, 70, 17, A], "garbage at 16"),
-        (&[2, 1, 70, 5, A], "garbage at 16"),
-    ];
-    for (words, expected) in &rows {
-        let bytes = message(rt.alloc(), words)?;
-        let found = match read_compound(rt.alloc(), &bytes, &OneBlock) {
-            Ok(found) => format!(in rt.alloc(); "{:?}", found.ops.as_slice())?,
-            Err(CompoundError::Garbage { at }) => format!(in rt.alloc(); "garbage at {at}")?,
-            Err(CompoundError::Memory) => String::new(rt.alloc()),
-        };
-        assert_eq!(rt; found.as_str(), *expected);
-    }
+    are_read(&rt, rt.alloc(), (BESIDE, 3), "", &OneBlock)?;
     Ok(())
 }
