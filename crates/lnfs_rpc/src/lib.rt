@@ -21,5 +21,5 @@ pub use framing::frame;
 pub use promises::{
     call_grammar, credential_grammar, reply_grammar, stream_ends, stream_grammar, written_reply,
 };
-pub use replies::{Head, Reply, read_reply, write_reply};
+pub use replies::{Head, Reply, begin_reply, read_reply, write_reply};
 pub use streams::{DeframeError, Deframer};
