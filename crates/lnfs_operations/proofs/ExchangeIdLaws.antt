@@ -10,7 +10,7 @@ use Rattle.lnfs_world.specs.Erased.{erased}
 use Rattle.lnfs_world.specs.Change.{AddClient, DropClient, apply, apply_all, is_session_of}
 use Rattle.lnfs_world.specs.Facts.{Facts, are_rivals, has_confirmed, is_confirmed}
 use Rattle.lnfs_world.specs.Within.{all_within}
-use Rattle.lnfs_world.specs.Outcome.{Place, Outcome, Stands, IsFootprint, is_session_for, is_place}
+use Rattle.lnfs_world.specs.Outcome.{Place, Outcome, Stands, View, IsFootprint, is_session_for, is_place}
 use Rattle.lnfs_world.proofs.Rows.{count-kept, all_none, none_any, all_anyway, all_weaker, all_find}
 use Rattle.lnfs_world.proofs.Keys.{id_same}
 use Rattle.lnfs_world.proofs.Within.{IsNew}
@@ -21,9 +21,9 @@ use Rattle.lnfs_arguments.specs.declared.statuses.TheConstants.{NFS4ERR_INVAL, N
 use Rattle.lnfs_operations.specs.declared.Gate.{Gate}
 use Rattle.lnfs_operations.specs.declared.Gate.TheVariants as gates
 use Rattle.lnfs_operations.specs.declared.numbers.TheConstants.{EXCHGID4_FLAG_CONFIRMED_R, EXCHGID4_FLAG_UPD_CONFIRMED_REC_A, CLIENTS_OF_A_LEVEL, LAST_NUMBER}
-use Rattle.lnfs_operations.specs.Chain.{Answer, refuse, done, demand, where_there}
+use Rattle.lnfs_operations.specs.Chain.{Answer, refuse, done}
 use Rattle.lnfs_operations.specs.ExchangeId.{Arguments, Told, has_flag, exchange_id, new_client, is_confirmed_as, is_pending, others_of, dropped}
-use Rattle.lnfs_operations.proofs.Chains.{unchanged_footprint}
+use Rattle.lnfs_operations.proofs.Chains.{seen_view, demand_any, where_any, unchanged_footprint}
 use Rattle.lnfs_operations.proofs.Owners.{none_found, none_pending, rival_pending}
 
 -- ---- what it looks at
@@ -43,6 +43,9 @@ module _ (dom : ℕ → ℕ → Bool) (lattice : IsPreorderWithBottom dom) (s : 
 
 pub exchange_id_seen : (dom : ℕ → ℕ → Bool) → IsPreorderWithBottom dom → (args : Arguments) (p : Place) (w : World) → exchange_id args p (erased dom p.subject w) ≡ exchange_id args p w
 exchange_id_seen dom lattice args p w = rw (confirmed_seen dom lattice p.subject args.owner args.verifier w.clients, others_seen dom lattice p.subject args.owner w.clients, last_of-seen dom p.subject p.subject (lattice.reflexive p.subject) w.lasts.clients, pending_seen dom lattice p.subject args.owner w.clients) refl
+
+pub exchange_id_view : (dom : ℕ → ℕ → Bool) → IsPreorderWithBottom dom → (args : Arguments) → View dom (exchange_id args)
+exchange_id_view dom lattice args = seen_view dom (exchange_id args) (exchange_id_seen dom lattice args)
 
 -- ---- what it changes
 
@@ -108,23 +111,24 @@ place_made dom args p w (Some c) facts is found =
     let stay = confirmed_stay row (apply (DropClient c.id) w).clients (grind (arith, absent)) in
     place_stays dom p.subject (apply (DropClient c.id) w) (apply (AddClient row) (apply (DropClient c.id) w)) (λ number. stay p.subject number) (λ client number there held. held) p.client p.session p.current p.saved after
 
--- what holds of each end of the chain holds of the outcome
-ends : (P : Outcome (Answer Told) → Type 0) (p : Place) (told_flag update_flag : Bool) (o : Option Client) (room number : Bool) (made : Outcome (Answer Told)) →
-    ((gate : Gate) (status : ℕ) → P (refuse p gate status)) → ((t : Told) → P (done p t [])) → P made →
-    P (demand told_flag (refuse p gates.Session NFS4ERR_INVAL) (demand update_flag (refuse p gates.Session NFS4ERR_INVAL) (where_there o (λ c. done p (record { number = c.id.number; sequence = c.sequence; confirmed = c.confirmed }) []) (demand room (refuse p gates.Session NFS4ERR_NOSPC) (demand number (refuse p gates.Session NFS4ERR_NOSPC) made)))))
-ends P p false update o room number made refused told is = refused gates.Session NFS4ERR_INVAL
-ends P p true false o room number made refused told is = refused gates.Session NFS4ERR_INVAL
-ends P p true true (Some c) room number made refused told is = told (record { number = c.id.number; sequence = c.sequence; confirmed = c.confirmed })
-ends P p true true None false number made refused told is = refused gates.Session NFS4ERR_NOSPC
-ends P p true true None true false made refused told is = refused gates.Session NFS4ERR_NOSPC
-ends P p true true None true true made refused told is = is
+-- the end that makes a new record
+abbrev made_of : Arguments → Place → World → Outcome (Answer Told)
+made_of args p w =
+    let number = last_of p.subject w.lasts.clients + 1 in
+    done p (record { number = number; sequence = 1; confirmed = false }) (dropped (find (is_pending p.subject args.owner) w.clients) ++ AddClient (new_client (record { level = p.subject; number = number }) args) ∷ [])
+
+-- what holds of each end holds of the outcome
+pub exchange_id_any : (P : Outcome (Answer Told) → Type 0) (args : Arguments) (p : Place) (w : World) → ((gate : Gate) (status : ℕ) → P (refuse p gate status)) → ((t : Told) → P (done p t [])) → P (made_of args p w) → P (exchange_id args p w)
+exchange_id_any P args p w refused told is =
+    demand_any P (not (has_flag args.flags EXCHGID4_FLAG_CONFIRMED_R)) _ _ (refused gates.Session NFS4ERR_INVAL) (λ asked.
+    demand_any P (not (has_flag args.flags EXCHGID4_FLAG_UPD_CONFIRMED_REC_A)) _ _ (refused gates.Session NFS4ERR_INVAL) (λ new.
+    where_any P (find (is_confirmed_as p.subject args.owner args.verifier) w.clients) _ _ (λ c there. told (record { number = c.id.number; sequence = c.sequence; confirmed = c.confirmed }))
+    (demand_any P (nat_lt (others_of p.subject args.owner w.clients) CLIENTS_OF_A_LEVEL) _ _ (refused gates.Session NFS4ERR_NOSPC) (λ few.
+    demand_any P (nat_lt (last_of p.subject w.lasts.clients) LAST_NUMBER) _ _ (refused gates.Session NFS4ERR_NOSPC) (λ left. is)))))
 
 pub exchange_id_footprint : (dom : ℕ → ℕ → Bool) (args : Arguments) (p : Place) (w : World) → Stands dom p w → IsFootprint dom p w (exchange_id args p w)
 exchange_id_footprint dom args p w stands =
-    let number = last_of p.subject w.lasts.clients + 1 in
-    let made : Outcome (Answer Told) = done p (record { number = number; sequence = 1; confirmed = false }) (dropped (find (is_pending p.subject args.owner) w.clients) ++ AddClient (new_client (record { level = p.subject; number = number }) args) ∷ []) in
-    ends (IsFootprint dom p w) p (not (has_flag args.flags EXCHGID4_FLAG_CONFIRMED_R)) (not (has_flag args.flags EXCHGID4_FLAG_UPD_CONFIRMED_REC_A)) (find (is_confirmed_as p.subject args.owner args.verifier) w.clients)
-    (nat_lt (others_of p.subject args.owner w.clients) CLIENTS_OF_A_LEVEL) (nat_lt (last_of p.subject w.lasts.clients) LAST_NUMBER) made
+    exchange_id_any (IsFootprint dom p w) args p w
     (λ gate status. unchanged_footprint dom p w stands (refuse p gate status).answer)
     (λ t. unchanged_footprint dom p w stands (done p t []).answer)
     (record {
@@ -135,9 +139,4 @@ exchange_id_footprint dom args p w stands =
 
 -- it leaves the place
 pub exchange_id_stays : (args : Arguments) (p : Place) (w : World) → (exchange_id args p w).place ≡ p
-exchange_id_stays args p w =
-    let number = last_of p.subject w.lasts.clients + 1 in
-    let made : Outcome (Answer Told) = done p (record { number = number; sequence = 1; confirmed = false }) (dropped (find (is_pending p.subject args.owner) w.clients) ++ AddClient (new_client (record { level = p.subject; number = number }) args) ∷ []) in
-    ends (λ o. o.place ≡ p) p (not (has_flag args.flags EXCHGID4_FLAG_CONFIRMED_R)) (not (has_flag args.flags EXCHGID4_FLAG_UPD_CONFIRMED_REC_A)) (find (is_confirmed_as p.subject args.owner args.verifier) w.clients)
-    (nat_lt (others_of p.subject args.owner w.clients) CLIENTS_OF_A_LEVEL) (nat_lt (last_of p.subject w.lasts.clients) LAST_NUMBER) made
-    (λ gate status. refl) (λ t. refl) refl
+exchange_id_stays args p w = exchange_id_any (λ o. o.place ≡ p) args p w (λ gate status. refl) (λ t. refl) refl

@@ -44,7 +44,7 @@ module _ (dom : ℕ → ℕ → Bool) (lattice : IsPreorderWithBottom dom) where
 
 -- ---- what it changes: a session
 
-session_at-inserted : (row : Session) (sessions : List Session) (i : Id) → session_at (inserted session_order row sessions) i ≡ cond (same_id i row.id) (Some row) (session_at sessions i)
+pub session_at-inserted : (row : Session) (sessions : List Session) (i : Id) → session_at (inserted session_order row sessions) i ≡ cond (same_id i row.id) (Some row) (session_at sessions i)
 session_at-inserted row sessions i = find-inserted session_order (λ x. same_id i x.id) row (λ x e. grind (arith, nat_tests, id_equal row.id x.id e)) (λ x h k. id_tie row.id x.id (grind (arith, nat_tests))) sessions
 
 -- a session with another state of its slots
@@ -95,7 +95,7 @@ module _ (dom : ℕ → ℕ → Bool) (p : Place) (w : World) (stands : Stands d
       all_none _ w.clients (all_weaker _ _ (λ d none. (λ k. rivals_alike c row id owner confirmed d k && not (same_id (id k) d.id)) ∙ none) w.clients
       (alone are_rivals (λ x. x.id) rivals_turn (λ x. same_id i x.id) w.clients c stands.facts.clients.rivals found))
 
-  set_client_footprint : (c row : Client) (i : Id) → client_at w.clients i ≡ Some c → i.level ≡ p.subject → row.id ≡ c.id → row.owner ≡ c.owner → row.confirmed ≡ c.confirmed → IsFootprint dom p w (keeps p (SetClient row ∷ []))
+  pub set_client_footprint : (c row : Client) (i : Id) → client_at w.clients i ≡ Some c → i.level ≡ p.subject → row.id ≡ c.id → row.owner ≡ c.owner → row.confirmed ≡ c.confirmed → IsFootprint dom p w (keeps p (SetClient row ∷ []))
   set_client_footprint c row i found own id owner confirmed =
       let known = (all_find (λ d. Unit {0}) (λ d. same_id i d.id) w.clients c (all_anyway _ (λ d. tt) w.clients) found).1 in
       let same : row.id ≡ i = id ∙ sym (id_same i c.id known) in

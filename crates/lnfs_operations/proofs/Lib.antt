@@ -2,6 +2,14 @@ pub mod Chains
 pub mod Owners
 pub mod ExchangeIdLaws
 pub mod KeepingLaws
-pub mod Tables
-pub mod Runs
+pub mod SessionLaws
+pub mod CreateSessionLaws
+pub mod ServedLaws
+pub mod SlotRules
 pub mod NoExtra
+pub mod Retries
+pub mod Once
+pub mod Lengths
+pub mod Rooms
+pub mod SizeChanges
+pub mod SizeLaws

@@ -25,23 +25,28 @@ rival_pending s owner a b level name pending r =
     let same : bytes_eq b.owner owner ≡ true = rw (sym x, name) (bytes_itself owner) in
     grind (arith, nat_tests)
 
-none_of : (s : ℕ) (owner : List ℕ) (gone c : Client) (cs : List Client) → is_pending s owner c ≡ true → AllByRecursion (λ d. are_rivals c d ≡ false) cs → list_any (is_pending s owner) (filter (λ d. not (same_id gone.id d.id)) cs) ≡ false
-none_of s owner gone c [] is apart = refl
-none_of s owner gone c (d ∷ ds) is apart = grind (arith, nat_tests, none_of s owner gone c ds is apart.1, pending_rivals s owner c d is, apart.0)
-
 -- no row passes where none is found
 pub none_found : {X : Type 0} (q : X → Bool) (xs : List X) → find q xs ≡ None → list_any q xs ≡ false
 none_found q [] e = refl
 none_found q (x ∷ xs) e = grind (arith, none_found q xs)
 
+-- where one of records that are all rivals goes, none stays
+module _ (q : Client → Bool) (rivals : (a b : Client) → q a ≡ true → q b ≡ true → are_rivals a b ≡ true) where
+  none_of : (gone c : Client) (cs : List Client) → q c ≡ true → AllByRecursion (λ d. are_rivals c d ≡ false) cs → list_any q (filter (λ d. not (same_id gone.id d.id)) cs) ≡ false
+  none_of gone c [] is apart = refl
+  none_of gone c (d ∷ ds) is apart = grind (arith, nat_tests, none_of gone c ds is apart.1, rivals c d is, apart.0)
+
+  pub none_left : (cs : List Client) (c : Client) → Apart are_rivals cs → find q cs ≡ Some c → list_any q (filter (λ d. not (same_id c.id d.id)) cs) ≡ false
+  none_left [] c none found = refl
+  none_left (d ∷ ds) c none found = at (q d) refl (none_left ds c none.1)
+    where
+      at : (b : Bool) → q d ≡ b → (find q ds ≡ Some c → list_any q (filter (λ x. not (same_id c.id x.id)) ds) ≡ false) → list_any q (filter (λ x. not (same_id c.id x.id)) (d ∷ ds)) ≡ false
+      at true is rest =
+          let same : d ≡ c = grind (arith, is) in
+          let id : d.id ≡ c.id = ap (λ (x : Client). x.id) same in
+          grind (arith, nat_tests, none_of c d ds is none.0)
+      at false is rest = grind (arith, nat_tests, rest)
+
 -- where the owner's pending record goes, none stays
 pub none_pending : (s : ℕ) (owner : List ℕ) (cs : List Client) (c : Client) → Apart are_rivals cs → find (is_pending s owner) cs ≡ Some c → list_any (is_pending s owner) (filter (λ d. not (same_id c.id d.id)) cs) ≡ false
-none_pending s owner [] c none found = refl
-none_pending s owner (d ∷ ds) c none found = at (is_pending s owner d) refl (none_pending s owner ds c none.1)
-  where
-    at : (b : Bool) → is_pending s owner d ≡ b → (find (is_pending s owner) ds ≡ Some c → list_any (is_pending s owner) (filter (λ x. not (same_id c.id x.id)) ds) ≡ false) → list_any (is_pending s owner) (filter (λ x. not (same_id c.id x.id)) (d ∷ ds)) ≡ false
-    at true is rest =
-        let same : d ≡ c = grind (arith, is) in
-        let id : d.id ≡ c.id = ap (λ (x : Client). x.id) same in
-        grind (arith, nat_tests, none_of s owner c d ds is none.0)
-    at false is rest = grind (arith, nat_tests, rest)
+none_pending s owner = none_left (is_pending s owner) (pending_rivals s owner)

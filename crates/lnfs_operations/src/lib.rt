@@ -8,7 +8,10 @@
 mod laws;
 pub mod numbers;
 
-pub use laws::{exchange_id_is_lawful, keeping_is_lawful, operations_are_lawful};
+pub use laws::{
+    compounds_are_lawful, exchange_id_is_lawful, keeping_is_lawful, operations_are_lawful,
+    results_leave_room, retries_are_answered_again, session_operations_are_lawful, sizes_are_kept,
+};
 
 /// Which kind of test refused an operation.
 #[derive(Clone, Copy, Debug, PartialEq, Eq)]

@@ -18,3 +18,29 @@ pub const LAST_NUMBER: u32 = 4_294_967_295;
 
 /// The last sequence of a slot or of a CREATE_SESSION, after which comes 0.
 pub const LAST_SEQUENCE: u32 = 4_294_967_295;
+
+/// How many sessions a level may have.
+pub const SESSIONS_OF_A_LEVEL: u32 = 64;
+
+/// The least size of a request and of a response that a session is made for.
+pub const LEAST_SIZE: u32 = 2_048;
+
+/// The greatest size of a request and of a response that a session grants.
+pub const MOST_SIZE: u32 = 65_536;
+
+/// The most operations of a COMPOUND that a session grants.
+pub const MOST_OPERATIONS: u32 = 32;
+
+/// The most requests at a time, and so the most slots, that a session grants.
+pub const MOST_REQUESTS: u32 = 16;
+
+/// The largest wrapping of a result in its RPC message.
+pub const LARGEST_WRAPPING: u32 = 100;
+
+/// The room of a response that no result takes: the largest wrapping of a reply in its RPC message, and a
+/// refusal.
+pub const RESERVED_ROOM: u32 = 128;
+
+/// The most bytes of the result of a COMPOUND that is a CREATE_SESSION alone: 12 of its status, the length
+/// of its tag and its count, 1,024 of the tag, and 96 of the operation's result.
+pub const MOST_CREATED: u32 = 1_132;

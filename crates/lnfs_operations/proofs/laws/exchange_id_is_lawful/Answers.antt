@@ -1,5 +1,4 @@
-use Rattle.lnfs_operations.proofs.ExchangeIdLaws.{exchange_id_footprint}
-use Rattle.lnfs_operations.proofs.Tables.{exchange_id_view}
+use Rattle.lnfs_operations.proofs.ExchangeIdLaws.{exchange_id_view, exchange_id_footprint}
 use Rattle.lnfs_operations.proofs.laws.exchange_id_is_lawful.Goals as goal
 
 pub returns : goal.returns

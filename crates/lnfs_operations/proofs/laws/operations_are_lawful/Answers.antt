@@ -1,7 +1,7 @@
-use Rattle.lnfs_world.proofs.Lawfulness.{lawful}
-use Rattle.lnfs_operations.specs.Table.{outcome_of}
-use Rattle.lnfs_operations.proofs.Tables.{outcome_view, outcome_footprint}
+use Rattle.lnfs_operations.specs.Extra.{no_extra}
+use Rattle.lnfs_operations.proofs.NoExtra.{no_extra_is_lawful}
+use Rattle.lnfs_operations.proofs.ServedLaws.{operation_lawful}
 use Rattle.lnfs_operations.proofs.laws.operations_are_lawful.Goals as goal
 
 pub returns : goal.returns
-returns c = λ dom lattice compound op. lawful dom lattice (outcome_of compound op) (outcome_view dom lattice compound op) (outcome_footprint dom lattice compound op)
+returns c = λ site lattice sent compound so_far op. operation_lawful no_extra no_extra_is_lawful site lattice sent compound so_far op

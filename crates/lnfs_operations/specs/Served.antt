@@ -1,0 +1,147 @@
+-- The operations that are served: what each answers in its COMPOUND, and whether the result of the whole
+-- COMPOUND is kept.
+use Rattle.std.specs.Prelude.{ℕ, ◌-◌, Bool, true, false, cond, List, Option, Some, None}
+use Rattle.lnfs_arguments.specs.Further.{Further}
+use Rattle.lnfs_arguments.specs.declared.types.Op.{Op}
+use Rattle.lnfs_arguments.specs.declared.types.Op.TheVariants as ops
+use Rattle.lnfs_arguments.specs.declared.types.Compound.{Compound}
+use Rattle.lnfs_arguments.specs.declared.types.CreateSession.{CreateSession}
+use Rattle.lnfs_arguments.specs.declared.types.Sequence.{Sequence}
+use Rattle.lnfs_arguments.specs.declared.channel.Channel.{Channel as Sizes}
+use Rattle.lnfs_arguments.specs.declared.statuses.TheConstants.{NFS4ERR_NOTSUPP}
+use Rattle.lnfs_results.specs.declared.types.OpResult.{OpResult}
+use Rattle.lnfs_results.specs.declared.types.OpResult.TheVariants as results
+use Rattle.lnfs_world.specs.World.{Channel, World}
+use Rattle.lnfs_world.specs.Outcome.{Site, Place, Outcome, Act}
+use Rattle.lnfs_world.specs.Lawful.{Turn, Deed, deed_of}
+use Rattle.lnfs_world.specs.Both.{Both, on_world}
+use Rattle.lnfs_operations.specs.declared.Gate.TheVariants.{Outside}
+use Rattle.lnfs_operations.specs.Chain.{Refusal, Answer, Done, Refused, refuse}
+use Rattle.lnfs_operations.specs.Identifiers.{client_named, session_id}
+use Rattle.lnfs_operations.specs.ExchangeId.{Told, exchange_id}
+use Rattle.lnfs_operations.specs.CreateSession.{Created, New as Made, Again as MadeBefore, create_session, is_next_created}
+use Rattle.lnfs_operations.specs.DestroySession.{destroy_session}
+use Rattle.lnfs_operations.specs.Sequence.{Sent, Sequenced, New, Again, sequence}
+use Rattle.lnfs_operations.specs.DestroyClientId.{destroy_clientid}
+use Rattle.lnfs_operations.specs.ReclaimComplete.{reclaim_complete}
+use Rattle.lnfs_operations.specs.Extra.{Said, Extra}
+use Rattle.lnfs_operations.specs.Results.{Answered, failed, told_result, said_result}
+use Rattle.lnfs_operations.specs.Admission.{admission}
+
+-- where the result of a COMPOUND is kept
+pub data Keeper : Type 0 where
+  Nowhere : Keeper
+  -- in a slot of its session, under a sequence
+  Slot : (slot sequence : ℕ) → Keeper
+  -- in the record of a client
+  Record : (client : ℕ) → Keeper
+
+pub data Reply : Type 0 where
+  -- the operation's own result
+  Own : Answered → Keeper → Reply
+  -- the whole COMPOUND is answered as it was the first time
+  Kept : (reply : List ℕ) → Reply
+
+-- ---- results
+
+abbrev pub success : OpResult → Keeper → Reply
+success result keeper = Own (record { result = result; refusal = None }) keeper
+
+abbrev pub failure : Op → Refusal → Reply
+failure op why = Own (record { result = failed op why.status; refusal = Some why }) Nowhere
+
+abbrev pub told_reply : ℕ → Told → Reply
+told_reply level t = success (told_result level t) Nowhere
+
+-- what a channel grants, without a padding of headers and without RDMA
+abbrev pub sizes_of : Channel → Sizes
+sizes_of granted = record {
+  headerpad = 0;
+  maxrequest = granted.max_request;
+  maxresponse = granted.max_response;
+  cached = granted.max_cached;
+  operations = granted.max_operations;
+  requests = granted.max_requests;
+  ird = None;
+}
+
+-- the back channel as it was asked
+abbrev pub created_reply : ℕ → CreateSession → Created → Reply
+created_reply level args (Made session granted) = success (results.CreateSession (session_id level session) args.sequence 0 (sizes_of granted) (record args.back { ird = None })) Nowhere
+created_reply level args (MadeBefore reply) = Kept reply
+
+abbrev pub sequence_reply : Sequence → Sequenced → Reply
+sequence_reply args (New x) = success (results.Sequence args.session args.sequence args.slot (x.channel.max_requests - 1) (x.channel.max_requests - 1) 0) (Slot args.slot args.sequence)
+sequence_reply args (Again reply) = Kept reply
+
+-- ---- outcomes
+
+abbrev pub reply_of : {R : Type 0} → Op → (R → Reply) → Answer R → Reply
+reply_of op reply (Done r) = reply r
+reply_of op reply (Refused why) = failure op why
+
+abbrev pub replied : {R : Type 0} → Op → (R → Reply) → Outcome (Answer R) → Outcome Reply
+replied op reply o = record { answer = reply_of op reply o.answer; place = o.place; changes = o.changes }
+
+abbrev pub under : Keeper → Reply → Reply
+under keeper (Own a other) = Own a keeper
+under keeper (Kept reply) = Kept reply
+
+-- A CREATE_SESSION that brings the next sequence of its record is kept there, be it refused or not.
+abbrev pub created_keeper : CreateSession → Place → World → Keeper
+created_keeper args p w = cond (is_next_created args p w) (Record (client_named args.client).number) Nowhere
+
+abbrev pub create_session_in : Sent → CreateSession → Act Reply
+create_session_in sent args p w =
+    let o = replied (ops.CreateSession args) (created_reply p.subject args) (create_session args sent.arguments p w) in
+    record o { answer = under (created_keeper args p w) o.answer }
+
+-- what an operation of the table answers
+abbrev pub row : Sent → Op → Act Reply
+row sent (ops.ExchangeId verifier owner flags implementation) p w =
+    replied (ops.ExchangeId verifier owner flags implementation) (told_reply p.subject) (exchange_id (record { verifier = verifier; owner = owner; flags = flags }) p w)
+row sent (ops.CreateSession args) p w = create_session_in sent args p w
+row sent (ops.DestroySession session) p w = replied (ops.DestroySession session) (λ _. success results.DestroySession Nowhere) (destroy_session session p w)
+row sent (ops.Sequence args) p w = replied (ops.Sequence args) (sequence_reply args) (sequence args sent p w)
+row sent (ops.DestroyClientId client) p w = replied (ops.DestroyClientId client) (λ _. success results.DestroyClientId Nowhere) (destroy_clientid client p w)
+row sent (ops.ReclaimComplete one_fs) p w = replied (ops.ReclaimComplete one_fs) (λ _. success results.ReclaimComplete Nowhere) (reclaim_complete one_fs p w)
+row sent (ops.Outside number status) p w = replied (ops.Outside number status) (told_reply p.subject) (refuse p Outside status)
+row sent op p w = replied op (told_reply p.subject) (refuse p Outside NFS4ERR_NOTSUPP)
+
+-- ---- with further operations
+
+abbrev pub said_reply : ℕ → Said → Reply
+said_reply number said = Own (said_result number said) Nowhere
+
+abbrev pub further_reply : {S : Type 0} → ℕ → Deed Said S → Deed Reply S
+further_reply number deed p a = record { answer = said_reply number (deed p a).answer; place = (deed p a).place; state = (deed p a).state }
+
+abbrev pub row_in : (X : Extra) → Site → Sent → Op → Deed Reply (Both X.Row)
+row_in X site sent (ops.Extra number arguments) =
+    cond (X.grammar.serves number) (further_reply number (X.outcome site number arguments)) (on_world (deed_of (row sent (ops.Extra number arguments))))
+row_in X site sent op = on_world (deed_of (row sent op))
+
+-- ---- in a COMPOUND
+
+abbrev pub admitted : {S : Type 0} → Op → Place → S → Option Refusal → Turn Reply S → Turn Reply S
+admitted op p a None t = t
+admitted op p a (Some why) t = record { answer = failure op why; place = p; state = a }
+
+abbrev pub is_served : Further → Op → Bool
+is_served x (ops.ExchangeId verifier owner flags implementation) = true
+is_served x (ops.CreateSession args) = true
+is_served x (ops.DestroySession session) = true
+is_served x (ops.Sequence args) = true
+is_served x (ops.DestroyClientId client) = true
+is_served x (ops.ReclaimComplete one_fs) = true
+is_served x (ops.Outside number status) = true
+is_served x (ops.Extra number arguments) = x.serves number
+is_served x op = false
+
+abbrev pub where_admitted : (X : Extra) → Compound → (so_far : List OpResult) → Op → Deed Reply (Both X.Row) → Deed Reply (Both X.Row)
+where_admitted X c so_far op deed p b = admitted op p b (admission X.grammar c so_far op p b.world) (deed p b)
+
+-- An operation behind the results so far: the tests of place and of room, and then its own. One that isn't
+-- served fails before all of them.
+abbrev pub operation : (X : Extra) → Site → Sent → Compound → (so_far : List OpResult) → Op → Deed Reply (Both X.Row)
+operation X site sent c so_far op = cond (is_served X.grammar op) (where_admitted X c so_far op (row_in X site sent op)) (row_in X site sent op)
