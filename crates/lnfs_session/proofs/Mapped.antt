@@ -1,0 +1,43 @@
+-- Rows that are seen through a view.
+use Rattle.std.proofs.Common.{◌≡◌, Bool, true, false, not, List, [], ◌∷◌, Option, Some, None, refl, sym, ◌∙◌, arith}
+use Rattle.std.specs.Prelude.{map, filter, find, count_by, length, option_map}
+use Rattle.std.specs.List.{list_any}
+use Rattle.std.proofs.lemmas.List.Sums.{length-filter}
+
+module _ {X Y : Type 0} (f : X → Y) where
+  pub find-map : (q : Y → Bool) (xs : List X) → find q (map f xs) ≡ option_map f (find (λ x. q (f x)) xs)
+  find-map q [] = refl
+  find-map q (x ∷ xs) = grind (arith, find-map q xs)
+
+  -- rows that are left out change nothing where they fail the test
+  pub find-filtered : (q : Y → Bool) (p : X → Bool) → ((x : X) → p x ≡ false → q (f x) ≡ false) → (xs : List X) → find q (map f (filter p xs)) ≡ find q (map f xs)
+  find-filtered q p misses [] = refl
+  find-filtered q p misses (x ∷ xs) = at (p x) refl (find-filtered q p misses xs)
+    where
+      at : (b : Bool) → p x ≡ b → find q (map f (filter p xs)) ≡ find q (map f xs) → find q (map f (filter p (x ∷ xs))) ≡ find q (map f (x ∷ xs))
+      at true is rest = grind (arith, is, rest)
+      at false is rest = grind (arith, is, rest, misses x is)
+
+  pub any-map : (q : Y → Bool) (xs : List X) → list_any q (map f xs) ≡ list_any (λ x. q (f x)) xs
+  any-map q [] = refl
+  any-map q (x ∷ xs) = grind (arith, any-map q xs)
+
+  pub filter-map : (q : Y → Bool) (xs : List X) → filter q (map f xs) ≡ map f (filter (λ x. q (f x)) xs)
+  filter-map q [] = refl
+  filter-map q (x ∷ xs) = grind (arith, filter-map q xs)
+
+  length-filtered : (q : Y → Bool) (xs : List X) → length (filter q (map f xs)) ≡ length (filter (λ x. q (f x)) xs)
+  length-filtered q [] = refl
+  length-filtered q (x ∷ xs) = grind (arith, length-filtered q xs)
+
+  pub count-map : (q : Y → Bool) (xs : List X) → count_by q (map f xs) ≡ count_by (λ x. q (f x)) xs
+  count-map q xs = sym (length-filter q (map f xs)) ∙ length-filtered q xs ∙ length-filter (λ x. q (f x)) xs
+
+pub map-map : {X Y Z : Type 0} (f : X → Y) (g : Y → Z) (o : Option X) → option_map g (option_map f o) ≡ option_map (λ x. g (f x)) o
+map-map f g None = refl
+map-map f g (Some x) = refl
+
+-- a filter leaves what no row fails
+pub none_filtered : {X : Type 0} (q : X → Bool) (xs : List X) → list_any q xs ≡ false → filter (λ x. not (q x)) xs ≡ xs
+none_filtered q [] none = refl
+none_filtered q (x ∷ xs) none = grind (arith, none_filtered q xs)

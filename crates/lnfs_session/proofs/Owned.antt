@@ -1,0 +1,46 @@
+-- Look-ups in maps by an owner's bytes, after a change at those of one owner.
+use Rattle.std.proofs.Common.{◌≡◌, ℕ, Bool, true, false, cond, List, Option, refl, sym, ap, ◌∙◌}
+use Rattle.std.specs.declared.cmp.Ordering.{Ordering}
+use Rattle.std.specs.Ordering.{is_eq, nat_cmp}
+use Rattle.std.specs.Cmp.{eq_by_cmp_equiv}
+use Rattle.std.specs.Cmp.Lexicographic.{slice_cmp}
+use Rattle.std.specs.Str.{bytes_eq}
+use Rattle.std.specs.Map.{KeepsOthers}
+use Rattle.std.specs.BTreeMap.{BTreeMap, UpdatesBy, get_by}
+use Rattle.std.specs.Global.{Vec}
+use Rattle.std.proofs.lemmas.Cmp.{nat_list_cmp_total}
+use Rattle.std.proofs.lemmas.Map.Text.{is_eq-slice_cmp}
+use Rattle.lnfs_world.proofs.Keys.{bytes_same, bytes_turned}
+use Rattle.lnfs_session.specs.declared.levels.OwnerNumbers.{OwnerNumbers}
+use Rattle.lnfs_session.specs.Levels.{or_none}
+
+abbrev owner_cmp : Vec ℕ → Vec ℕ → Ordering
+owner_cmp a b = slice_cmp nat_cmp a.items b.items
+
+abbrev pub at : {X : Type 0} → BTreeMap (Vec ℕ) X → List ℕ → Option X
+at owners owner = get_by (λ k. slice_cmp nat_cmp owner k.items) owners
+
+apart : (bs cs ks : List ℕ) → bytes_eq bs cs ≡ false → is_eq (slice_cmp nat_cmp bs ks) ≡ true → is_eq (slice_cmp nat_cmp cs ks) ≡ false
+apart bs cs ks n y =
+    let same : bs ≡ ks = bytes_same bs ks (sym (is_eq-slice_cmp bs ks) ∙ y) in
+    is_eq-slice_cmp cs ks ∙ ap (bytes_eq cs) (sym same) ∙ bytes_turned cs bs ∙ n
+
+module _ {X : Type 0} (m n : BTreeMap (Vec ℕ) X) (owner : List ℕ) (w : Option X) (updates : UpdatesBy owner_cmp (λ k. slice_cmp nat_cmp owner k.items) m n w) where
+  others : (o : List ℕ) → bytes_eq owner o ≡ false → at n o ≡ at m o
+  unfolding KeepsOthers
+  others o differs = updates.3 _ (λ x y. (eq_by_cmp_equiv nat_list_cmp_total).congr o x.items y.items) (λ k. apart owner o k.items differs)
+
+  pub owners_updated : (o : List ℕ) → at n o ≡ cond (bytes_eq owner o) w (at m o)
+  owners_updated o = by (bytes_eq owner o) refl
+    where
+      by : (b : Bool) → bytes_eq owner o ≡ b → at n o ≡ cond b w (at m o)
+      by true is = ap (at n) (sym (bytes_same owner o is)) ∙ updates.1
+      by false is = others o is
+
+-- a change at one owner by which its numbers stay
+pub numbers_stay : (m n : BTreeMap (Vec ℕ) OwnerNumbers) (owner : List ℕ) (w : Option OwnerNumbers) → UpdatesBy owner_cmp (λ k. slice_cmp nat_cmp owner k.items) m n w → or_none (at m owner) ≡ or_none w → (o : List ℕ) → or_none (at n o) ≡ or_none (at m o)
+numbers_stay m n owner w updates stays o = ap or_none (owners_updated m n owner w updates o) ∙ by (bytes_eq owner o) refl
+  where
+    by : (b : Bool) → bytes_eq owner o ≡ b → or_none (cond b w (at m o)) ≡ or_none (at m o)
+    by true is = sym stays ∙ ap (λ x. or_none (at m x)) (bytes_same owner o is)
+    by false is = refl

@@ -1,0 +1,45 @@
+use Rattle.std.proofs.Common.{◌≡◌, true, false, Some, None, cond, find, map, ap, sym, ◌∙◌, arith}
+use Rattle.std.specs.Str.{bytes_eq}
+use Rattle.lnfs_world.specs.World.{Client}
+use Rattle.lnfs_operations.specs.ExchangeId.{is_confirmed_as}
+use Rattle.lnfs_session.specs.declared.levels.OwnerNumbers.{OwnerNumbers}
+use Rattle.lnfs_session.specs.Listed.{client_of}
+use Rattle.lnfs_session.specs.Levels.{last_at, records_at, numbers_at, lasts_of}
+use Rattle.lnfs_session.specs.Records.{ClientLists}
+use Rattle.lnfs_session.proofs.Indexed.{none_confirmed, find-verified, there_at}
+use Rattle.lnfs_session.proofs.records.Records.confirmed_as.Goals as goal
+
+pub returns-in_default : goal.returns-in_default
+returns-in_default c =
+    let levels = c.self.inside.levels in
+    let none = ap (λ (n : OwnerNumbers). n.confirmed) (sym c.numbers_at.ensures) ∙ c.in_default.is in
+    sym (none_confirmed (map client_of c.self.inside.rows.entries) (lasts_of levels.entries) (last_at levels) (records_at levels) (numbers_at levels) c.self.invariant c.args.level c.args.owner.now c.args.verifier none)
+    ∙ ap (λ (lists : ClientLists). find (is_confirmed_as c.args.level c.args.owner.now c.args.verifier) lists.clients) c.self.view_is
+
+pub returns-in_default-client_at : goal.returns-in_default-client_at
+returns-in_default-client_at c =
+    let levels = c.self.inside.levels in
+    let known = ap (λ (n : OwnerNumbers). n.confirmed) (sym c.numbers_at.ensures) ∙ c.in-Some.is in
+    let there = there_at (map client_of c.self.inside.rows.entries) (lasts_of levels.entries) (last_at levels) (records_at levels) (numbers_at levels) c.self.invariant c.args.level c.args.owner.now true c.in-Some.number known in
+    let none : None ≡ Some there.row = c.in_default-client_at.ensures ∙ there.found in
+    absurd (cc)
+
+pub returns-then-ne : goal.returns-then-ne
+returns-then-ne c =
+    let levels = c.self.inside.levels in
+    let row : Client = client_of (record { level = c.args.level; number = c.in-Some.number }, c.in-Some-client_at.client.now) in
+    let known = ap (λ (n : OwnerNumbers). n.confirmed) (sym c.numbers_at.ensures) ∙ c.in-Some.is in
+    let differs : bytes_eq row.verifier c.args.verifier ≡ false = grind arith in
+    ap (λ b. cond b (Some row) None) (sym differs)
+    ∙ sym (find-verified (map client_of c.self.inside.rows.entries) (lasts_of levels.entries) (last_at levels) (records_at levels) (numbers_at levels) c.self.invariant c.args.level c.args.owner.now c.args.verifier c.in-Some.number known row (sym c.in-Some-client_at.ensures))
+    ∙ ap (λ (lists : ClientLists). find (is_confirmed_as c.args.level c.args.owner.now c.args.verifier) lists.clients) c.self.view_is
+
+pub returns : goal.returns
+returns c =
+    let levels = c.self.inside.levels in
+    let row : Client = client_of (record { level = c.args.level; number = c.in-Some.number }, c.in-Some-client_at.client.now) in
+    let known = ap (λ (n : OwnerNumbers). n.confirmed) (sym c.numbers_at.ensures) ∙ c.in-Some.is in
+    let same : bytes_eq row.verifier c.args.verifier ≡ true = grind arith in
+    ap (λ b. cond b (Some row) None) (sym same)
+    ∙ sym (find-verified (map client_of c.self.inside.rows.entries) (lasts_of levels.entries) (last_at levels) (records_at levels) (numbers_at levels) c.self.invariant c.args.level c.args.owner.now c.args.verifier c.in-Some.number known row (sym c.in-Some-client_at.ensures))
+    ∙ ap (λ (lists : ClientLists). find (is_confirmed_as c.args.level c.args.owner.now c.args.verifier) lists.clients) c.self.view_is

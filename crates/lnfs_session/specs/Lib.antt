@@ -1,0 +1,9 @@
+pub mod Listed
+pub mod Standing
+pub mod Answers
+pub mod Arrivals
+pub mod Creates
+pub mod Arrived
+pub mod Levels
+pub mod Indexed
+pub mod Records

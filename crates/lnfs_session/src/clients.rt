@@ -1,0 +1,88 @@
+//! The clients of all levels with their sessions.
+ghost use Rattle.std.specs.Prelude.{◌≡◌, true, false};
+ghost use Rattle.lnfs_session.specs.Standing.{no_lists};
+
+use crate::records::Records;
+use crate::rows::{Session, SessionRef};
+use std::alloc::{AllocError, Global};
+use std::collections::BTreeMap;
+use std::marker::Model;
+
+/// Why a call was refused.
+#[derive(Clone, Copy, Debug, PartialEq, Eq)]
+pub enum SessionError {
+    /// The status of a failed test, and whether an id of another level failed it.
+    Status { code: u32, foreign: bool },
+    /// Memory was wanting.
+    Memory,
+}
+
+impl From<AllocError> for SessionError {
+    ghost use Rattle.std.specs.Prelude.{◌≡◌};
+    ghost use Rattle.lnfs_session.specs.declared.clients.SessionError.TheVariants.{Memory};
+
+    ghost from_gives = { λ _ e. e ≡ Memory };
+
+    fn from(_error: AllocError) -> SessionError {
+        SessionError::Memory
+    }
+}
+
+/// The clients of all levels with their sessions, in the order of their identifiers, and the last numbers
+/// that were given.
+#[derive(Drop)]
+pub struct Clients {
+    pub(crate) alloc: Global,
+    pub(crate) records: Records,
+    pub(crate) sessions: BTreeMap<SessionRef, Session>,
+    pub(crate) session_lasts: BTreeMap<u32, u32>,
+}
+
+impl Model for Clients {
+    ghost use Rattle.std.specs.Prelude.{map};
+    ghost use Rattle.lnfs_session.specs.Standing.{Lists};
+    ghost use Rattle.lnfs_session.specs.Listed.{session_of, last_of};
+
+    ghost Value = { Lists };
+
+    ghost view = { λ c. record {
+      clients = c.records.clients;
+      sessions = map session_of c.sessions.entries;
+      client_lasts = c.records.lasts;
+      session_lasts = map last_of c.session_lasts.entries;
+    } };
+}
+
+impl Clients {
+    /// No client, and no number given yet. Takes no memory.
+    pub fn new(alloc: Global) -> Clients
+        ensures { result ≡ no_lists }
+    {
+        Clients {
+            alloc,
+            records: Records::new(alloc),
+            sessions: BTreeMap::new(alloc),
+            session_lasts: BTreeMap::new(alloc),
+        }
+    }
+}
+
+/// A test failed with a status.
+pub fn refused(code: u32) -> SessionError
+    ensures { result ≡ SessionError.Status code false }
+{
+    SessionError::Status {
+        code,
+        foreign: false,
+    }
+}
+
+/// An id is of another level.
+pub fn foreign(code: u32) -> SessionError
+    ensures { result ≡ SessionError.Status code true }
+{
+    SessionError::Status {
+        code,
+        foreign: true,
+    }
+}

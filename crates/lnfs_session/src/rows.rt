@@ -1,0 +1,59 @@
+//! The rows that are kept, each under its identifier.
+
+use lnfs_arguments::Channel;
+use lnfs_lists::Octets;
+
+/// The identifier of a client's record: the level that it was given in, and its number there.
+#[derive(Clone, Copy, Debug, PartialEq, Eq, PartialOrd, Ord)]
+pub struct ClientRef {
+    pub level: u32,
+    pub number: u32,
+}
+
+/// The identifier of a session: the level that it was given in, and its number there, which has eight
+/// bytes where it is sent.
+#[derive(Clone, Copy, Debug, PartialEq, Eq, PartialOrd, Ord)]
+pub struct SessionRef {
+    pub level: u32,
+    pub number: u64,
+}
+
+/// The arguments of a request that was accepted, and the answer that it got.
+#[derive(Debug, Drop)]
+pub struct Kept {
+    pub arguments: Octets,
+    pub reply: Octets,
+}
+
+/// A client's record (RFC 8881 section 18.35.4).
+#[derive(Debug, Drop)]
+pub struct Client {
+    /// The client owner's opaque name.
+    pub owner: Octets,
+    /// The client owner's verifier, which tells one boot of the client from the next.
+    pub verifier: [u8; 8],
+    /// Whether a CREATE_SESSION has confirmed it.
+    pub confirmed: bool,
+    /// The sequence that its next CREATE_SESSION has to bring.
+    pub sequence: u32,
+    /// Its last CREATE_SESSION.
+    pub kept: Option<Kept>,
+    /// Whether it said that it reclaims no more (RFC 8881 section 18.51).
+    pub reclaimed: bool,
+}
+
+/// A slot: its last sequence, and the COMPOUND that came under it.
+#[derive(Debug, Drop)]
+pub struct Slot {
+    pub sequence: u32,
+    pub kept: Option<Kept>,
+}
+
+/// A session (RFC 8881 section 18.36).
+#[derive(Debug, Drop)]
+pub struct Session {
+    /// The number of its client, which is of the same level.
+    pub client: u32,
+    pub channel: Channel,
+    pub slots: Vec<Slot>,
+}
