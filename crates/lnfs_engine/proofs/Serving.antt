@@ -1,0 +1,69 @@
+-- A COMPOUND that ran, and the keeping of its result.
+use Rattle.std.proofs.Common.{◌≡◌, ◌≤◌, ◌+◌, ℕ, List, [], ◌++◌, length, drop, refl, sym, ap, ◌∙◌, length-append, arith}
+use Rattle.std.specs.Prelude.{option_map}
+use Rattle.std.specs.List.{flat_map}
+use Rattle.std.proofs.Math.Seq.{drop-append_seam}
+use Rattle.lnfs_outside.specs.declared.event.Moment.{Moment}
+use Rattle.lnfs_arguments.specs.declared.types.Compound.{Compound}
+use Rattle.lnfs_results.specs.Texts.{head_text, result_text}
+use Rattle.lnfs_xdr.specs.Canon.{word, opaque}
+use Rattle.lnfs_xdr.proofs.Sizes.{length-word}
+use Rattle.lnfs_world.specs.World.{Kept, World}
+use Rattle.lnfs_world.specs.Outcome.{Site, begins_at, done_to}
+use Rattle.lnfs_world.specs.Both.{Both, both}
+use Rattle.lnfs_operations.specs.Extra.{no_extra}
+use Rattle.lnfs_operations.specs.Sequence.{Sent}
+use Rattle.lnfs_operations.specs.Served.{operation}
+use Rattle.lnfs_operations.specs.SlotRule.{Ran, run_all, result_of, keep_in, served}
+use Rattle.lnfs_engine.specs.declared.place.Place as code
+use Rattle.lnfs_engine.specs.declared.run.Ended.{Ended}
+use Rattle.lnfs_engine.specs.declared.run.Ended.TheVariants as ended
+use Rattle.lnfs_engine.specs.Places.{place_of, keeper_of}
+use Rattle.lnfs_engine.specs.Runs.{denial_of, Reaches, EndsBy, denied_by}
+
+-- ---- the head
+
+pub head_long : (before tag : List ℕ) (begin : ℕ) → length before ≡ begin → begin + 8 ≤ length (before ++ head_text 0 tag 0)
+head_long before tag begin is = omega (arith, is, length-append before (head_text 0 tag 0), length-append (word 0 ++ opaque tag) (word 0), length-append (word 0) (opaque tag), length-word 0)
+
+pub head_starts : (before tag : List ℕ) (begin : ℕ) → length before ≡ begin → length (before ++ head_text 0 tag 0) ≡ begin + length (head_text 0 tag 0)
+head_starts before tag begin is = omega (arith, is, length-append before (head_text 0 tag 0))
+
+-- new results stand behind it
+pub reaches : (begin end : ℕ) (old new : List ℕ) (due : ℕ) (ran : Ran (Both ⊥)) (e : Ended) → length old ≡ end → EndsBy begin old new due ran e → Reaches end new e
+reaches begin end old new due ran (ended.New status count denial) is by = omega (arith, is, ap length by.text, length-append old (flat_map result_text ran.results))
+reaches begin end old new due ran ended.Again is by = tt
+
+pub denied_is : (begin : ℕ) (old new : List ℕ) (due : ℕ) (ran : Ran (Both ⊥)) (e : Ended) → EndsBy begin old new due ran e → option_map denial_of (denied_by e) ≡ ran.denial
+denied_is begin old new due ran (ended.New status count denial) by = by.denied
+denied_is begin old new due ran ended.Again by = by.denied
+
+-- ---- the whole
+
+pub behind_mark : (before result reply : List ℕ) (begin : ℕ) → length before ≡ begin → reply ≡ before ++ result → drop begin reply ≡ result
+behind_mark before result reply begin starts is = ap (drop begin) is ∙ ap (λ n. drop n (before ++ result)) (sym starts) ∙ drop-append_seam before result
+
+module _ (site : Site) (sent : Sent) (c : Compound) (level : ℕ) (moment : Moment) (w : World) where
+  abbrev pub ran : Ran (Both ⊥)
+  ran = run_all (operation no_extra site sent c) c (begins_at level moment) (both w [])
+
+  abbrev pub result : List ℕ
+  result = result_of c ran.results ran.again
+
+  pub served_result : result ≡ (served no_extra site sent c (begins_at level moment) (both w [])).answer.result
+  unfolding served
+  served_result = refl
+
+  pub served_denial : ran.denial ≡ (served no_extra site sent c (begins_at level moment) (both w [])).answer.denial
+  unfolding served
+  served_denial = refl
+
+  kept_state : done_to ran.state.world (keep_in ran.keeper (record { arguments = sent.arguments; reply = result }) ran.place ran.state.world) ≡ (served no_extra site sent c (begins_at level moment) (both w [])).state.world
+  unfolding served
+  kept_state = refl
+
+  -- kept from the place and the world that the code has
+  pub served_state : (kept : Kept) (next : code.Place) (v : World) → kept ≡ record { arguments = sent.arguments; reply = result } → ran.place ≡ place_of level moment next → ran.state ≡ both v [] → ran.keeper ≡ keeper_of next →
+      done_to v (keep_in (keeper_of next) kept (place_of level moment next) v) ≡ (served no_extra site sent c (begins_at level moment) (both w [])).state.world
+  served_state kept next v is place state keeper =
+      (λ i. done_to (sym state i).world (keep_in (sym keeper i) (is i) (sym place i) (sym state i).world)) ∙ kept_state

@@ -1,0 +1,51 @@
+-- What the code says of an operation that ran.
+use Rattle.std.specs.Prelude.{◌≡◌, ℕ, List, [], Option, Some, None, Result}
+use Rattle.lnfs_outside.specs.declared.event.Moment.{Moment}
+use Rattle.lnfs_arguments.specs.declared.types.Op.{Op}
+use Rattle.lnfs_arguments.specs.declared.types.CreateSession.{CreateSession}
+use Rattle.lnfs_results.specs.declared.types.OpResult.{OpResult}
+use Rattle.lnfs_world.specs.World.{World, client_at}
+use Rattle.lnfs_world.specs.Outcome as world
+use Rattle.lnfs_world.specs.Lawful.{Turn, deed_of}
+use Rattle.lnfs_world.specs.Both.{Both, both, on_world}
+use Rattle.lnfs_operations.specs.Identifiers.{client_named}
+use Rattle.lnfs_operations.specs.Sequence.{Sent}
+use Rattle.lnfs_operations.specs.Served.{Keeper, Nowhere, Slot, Record, Reply, Own, Kept, row}
+use Rattle.lnfs_session.specs.Creates.{kept_reply, or_none}
+use Rattle.lnfs_session.specs.Standing.{Lists}
+use Rattle.lnfs_engine.specs.declared.place.Refusal.{Refusal}
+use Rattle.lnfs_engine.specs.declared.place.Request.{Request}
+use Rattle.lnfs_engine.specs.declared.place.Place.{Place}
+use Rattle.lnfs_engine.specs.declared.reply.Came.{Came}
+use Rattle.lnfs_engine.specs.Places.{place_of, keeper_of}
+use Rattle.lnfs_engine.specs.Replies.{own_of, Says}
+
+abbrev pub sent_of : Request → Sent
+sent_of r = record { arguments = r.bytes.now; size = r.size; count = r.compound.now.count }
+
+-- what an operation of the table comes to, where no further ones are
+abbrev pub turn : Sent → Op → world.Place → World → Turn Reply (Both ⊥)
+turn sent op p w = on_world (deed_of (row sent op)) p (both w [])
+
+-- the own result of a CREATE_SESSION, or the answer that is kept in the record of its client
+abbrev pub made_of : Op → Keeper → Lists → CreateSession → Option (Result OpResult Refusal) → Reply
+made_of op keeper lists args (Some answer) = own_of op keeper answer
+made_of op keeper lists args None = Kept (or_none (kept_reply (client_at lists.clients (client_named args.client))))
+
+-- the keeper that was said first
+abbrev pub first_kept : Keeper → Keeper → Keeper
+first_kept Nowhere other = other
+first_kept (Slot slot sequence) other = Slot slot sequence
+first_kept (Record client) other = Record client
+
+abbrev pub kept_behind : Keeper → Reply → Keeper
+kept_behind keeper (Own own other) = first_kept keeper other
+kept_behind keeper (Kept kept) = keeper
+
+-- An operation of a subject that ran: its place and the next one, the world afterwards, and what was
+-- appended to the result that begins at a mark.
+pub record Performs (subject : ℕ) (moment : Moment) (begin : ℕ) (old new : List ℕ) (here next : Place) (after : World) (t : Turn Reply (Both ⊥)) (came : Came) : Type 0 where
+  pub place : t.place ≡ place_of subject moment next
+  pub state : t.state ≡ both after []
+  pub keeper : kept_behind (keeper_of here) t.answer ≡ keeper_of next
+  pub says : Says begin old new t.answer came

@@ -1,0 +1,156 @@
+//! Whether an operation may run where it stands in its COMPOUND (RFC 8881 section 2.10.6).
+ghost use Rattle.std.specs.Prelude.{◌≡◌, ℕ, List, length, cond, None};
+ghost use Rattle.std.specs.Option.{option_map};
+ghost use Rattle.lnfs_outside.specs.declared.event.Moment.{Moment};
+ghost use Rattle.lnfs_arguments.specs.Further.{nothing_further};
+ghost use Rattle.lnfs_results.specs.declared.types.OpResult.{OpResult};
+ghost use Rattle.lnfs_world.specs.World.{World};
+ghost use Rattle.lnfs_operations.specs.Admission.{unless, place_refusal, room_refusal, admission, used};
+ghost use Rattle.lnfs_operations.specs.Served.{is_served};
+ghost use Rattle.lnfs_operations.specs.declared.Gate.TheVariants as gates;
+ghost use Rattle.lnfs_engine.specs.Places.{refusal_of, place_of, Stands, HasToBeFirst};
+
+use crate::place::{Place, Refusal};
+use lnfs_arguments::statuses::{
+    NFS4ERR_NOT_ONLY_OP, NFS4ERR_OP_NOT_IN_SESSION, NFS4ERR_REP_TOO_BIG, NFS4ERR_SEQUENCE_POS,
+};
+use lnfs_arguments::{Compound, NoExtraGrammar, Op};
+use lnfs_compound::reply_bound;
+use lnfs_operations::Gate;
+use lnfs_operations::numbers::RESERVED_ROOM;
+
+/// Whether an operation is served.
+fn is_served(op: &Op) -> bool
+    ensures { result ≡ is_served nothing_further op.now }
+{
+    matches!(
+        op,
+        Op::ExchangeId { .. }
+            | Op::CreateSession(_)
+            | Op::DestroySession { .. }
+            | Op::Sequence(_)
+            | Op::DestroyClientId { .. }
+            | Op::ReclaimComplete { .. }
+            | Op::Outside { .. }
+    )
+}
+
+/// A refusal by the rules of sessions, where a test fails.
+fn unless(test: bool, status: u32) -> Option<Refusal>
+    ensures { option_map refusal_of result ≡ unless test gates.Session status }
+{
+    if test {
+        return None;
+    }
+    Some(Refusal {
+        gate: Gate::Session,
+        status,
+    })
+}
+
+/// What refuses an operation by its place, behind so many results (RFC 8881 section 2.10.6): SEQUENCE is
+/// the first, those that make and end clients and sessions are the only one, and the others stand behind a
+/// SEQUENCE.
+fn place_refusal(compound: &Compound, done: usize, op: &Op) -> Option<Refusal>
+    ensures refusal { (so_far : List OpResult) → length so_far ≡ done → option_map refusal_of result ≡ place_refusal compound.now so_far op.now }
+    ensures first { result ≡ None → HasToBeFirst op.now → done ≡ 0 }
+{
+    let is_first = done == 0;
+    match op {
+        Op::Sequence(_) => unless(is_first, NFS4ERR_SEQUENCE_POS),
+        Op::ExchangeId { .. }
+        | Op::CreateSession(_)
+        | Op::DestroySession { .. }
+        | Op::DestroyClientId { .. } => {
+            unless(is_first && compound.count == 1, NFS4ERR_NOT_ONLY_OP)
+        }
+        Op::Outside { .. } => None,
+        _ => unless(!is_first, NFS4ERR_OP_NOT_IN_SESSION),
+    }
+}
+
+/// What refuses an operation by the room of a response of its session: what is used, the bound of the
+/// operation's result and what is reserved have to fit (RFC 8881 section 2.10.6.4).
+fn room_refusal(place: &Place, written: usize, op: &Op) -> Option<Refusal>
+    ensures { (subject : ℕ) (moment : Moment) (w : World) (so_far : List OpResult) (c : Compound) → Stands subject w.sessions place.now → used c so_far ≡ written
+        → option_map refusal_of result ≡ room_refusal nothing_further c so_far op.now (place_of subject moment place.now) w }
+{
+    let Place::Session(session) = place else {
+        return None;
+    };
+    let most = (RESERVED_ROOM as usize).saturating_add(written);
+    if most.saturating_add(reply_bound(op, &NoExtraGrammar) as usize) <= session.room as usize {
+        return None;
+    }
+    Some(Refusal {
+        gate: Gate::Room,
+        status: NFS4ERR_REP_TOO_BIG,
+    })
+}
+
+/// What refuses an operation before its own tests: its place, and then the room. One that isn't served fails
+/// without a test.
+pub fn admission(
+    compound: &Compound,
+    place: &Place,
+    done: usize,
+    written: usize,
+    op: &Op,
+) -> Option<Refusal>
+    ensures refusal { (subject : ℕ) (moment : Moment) (w : World) (so_far : List OpResult) → Stands subject w.sessions place.now → length so_far ≡ done → used compound.now so_far ≡ written
+        → option_map refusal_of result ≡ cond (is_served nothing_further op.now) (admission nothing_further compound.now so_far op.now (place_of subject moment place.now) w) None }
+    ensures first { result ≡ None → HasToBeFirst op.now → done ≡ 0 }
+{
+    if !is_served(op) {
+        return None;
+    }
+    place_refusal(compound, done, op).or_else(|| room_refusal(place, written, op))
+}
+
+#[cfg(test)]
+mod tests {
+    use super::*;
+    use crate::place::InSession;
+    use lnfs_lists::{Items, Octets};
+    use lnfs_session::{ClientRef, SessionRef, SlotRef};
+
+    /// In a session whose responses have at most 2,048 bytes.
+    const IN_SESSION: Place = Place::Session(InSession {
+        at: SlotRef {
+            session: SessionRef {
+                level: 0,
+                number: 1,
+            },
+            slot: 0,
+        },
+        sequence: 1,
+        client: ClientRef {
+            level: 0,
+            number: 1,
+        },
+        room: 2048,
+    });
+
+    #[test]
+    fn a_result_leaves_the_reserved_room(rt: HostRuntime) {
+        let compound = Compound {
+            tag: Octets::new(Vec::new(rt.alloc())),
+            minor: 2,
+            count: 2,
+            ops: Items::new(Vec::new(rt.alloc())),
+        };
+        let reclaim = Op::ReclaimComplete { one_fs: false };
+        let destroy = Op::DestroyClientId { client: 1 };
+        // 128 bytes are reserved, and each result has 8. The place is tested first.
+        for (written, op, want) in [
+            (1912, &reclaim, None),
+            (1913, &reclaim, Some((Gate::Room, 10066))),
+            (1912, &destroy, Some((Gate::Session, 10081))),
+            (1913, &destroy, Some((Gate::Session, 10081))),
+        ] {
+            let refusal = admission(&compound, &IN_SESSION, 1, written, op);
+            let told = refusal.map(|why| (why.gate, why.status));
+            assert_eq!(rt; told, want, "at {written}");
+        }
+    }
+}
