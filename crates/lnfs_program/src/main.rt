@@ -10,7 +10,11 @@ mod policy_tests;
 #[cfg(test)]
 mod record_tests;
 mod replay;
+#[cfg(test)]
+mod rows;
 mod run;
+#[cfg(test)]
+mod session_tests;
 mod start;
 mod status;
 mod streams;

@@ -1,262 +1,146 @@
-//! Every kind of record, alone in a recording: its reply and its line. All are laid out by hand, in
-//! words, from RFC 5531, RFC 8881 and RFC 7862.
-use crate::tests::{NONE, run_over};
+//! Records in recordings: their replies and their lines. All are laid out by hand, in words, from
+//! RFC 5531, RFC 4506, RFC 8881 and RFC 7862.
+use crate::rows::{Due, cells_of, frames_of, lines_in, recording_of, rows_of};
+use crate::tests::{gives, run_over};
 use std::alloc::{AllocError, Global};
 use std::process::Abort;
 
-/// A call of a COMPOUND, up to its credential.
-const CALL: &[u32] = &[1, 0, 2, 100_003, 4, 1];
+/// In a table: a name, what is recorded, the replies, and the lines of the audit stream.
+///
+/// Programs, procedures and credentials.
+const CALLS: &str = "
+another version of RPC | 1 0 3 100003 4 1 SYS | 1 1 1 0 2 2 | 1 0 0 V 0
+another program | 1 0 2 100005 4 1 SYS | ACCEPTED 1 | 1 0 0 P 1
+another version of NFS | 1 0 2 100003 3 1 SYS | ACCEPTED 2 4 4 | 1 0 0 P 2
+another procedure | 1 0 2 100003 4 2 SYS | ACCEPTED 3 | 1 0 0 P 3
+NULL | 1 0 2 100003 4 0 SYS | ACCEPTED 0
+NULL with an argument | 1 0 2 100003 4 0 SYS 0 | ACCEPTED 4 | 1 0 0 P 4
+a reply | ACCEPTED 0 |
+seven bytes | 0x00000000000000 |
+a flavor that isn't served | CALL 6 0 0 0 0 2 1 | DENIED 5 | 1 0 0 C 5
+a credential of 401 bytes | CALL 1 401 0 0 0 2 1 | DENIED 1 | 1 0 0 C 1
+an AUTH_SYS body that ends early | CALL 1 4 0 0 0 0 2 0 | DENIED 1 | 1 0 0 C 1
+a caller by AUTH_NONE | CALL 0 0 0 0 0 2 0 | ACCEPTED 0 0 0 0
+user 5 of class 1 | @1 CALL SYS_5 EXCHANGE 'c1' REST | DENIED 5 | 1 0 0 C 5
+";
 
-/// A credential by AUTH_SYS of user 0, and an empty verifier.
-const SYS: &[u32] = &[1, 24, 0, 1, 0x6100_0000, 0, 0, 0, 0, 0];
+/// Operations, their arguments and their number.
+const COMPOUNDS: &str = "
+EXCHANGE_ID | CALL SYS EXCHANGE 'c1' REST | EXCHANGED 0 1 SERVER
+EXCHANGE_ID with a flag that isn't one | CALL SYS EXCHANGE 'c1' 0x0000 0x80000000 0 0 | ACCEPTED 0 22 0 1 42 22 | 1 1 42 S 22
+minor version 1 | CALL SYS 0 1 1 42 | ACCEPTED 0 10021 0 0 | 1 0 0 X 10021
+an operation of the protocol that isn't served | CALL SYS 0 2 1 68 | ACCEPTED 0 10004 0 1 68 10004 | 1 1 68 X 10004
+an operation that the protocol hasn't | CALL SYS 0 2 1 72 | ACCEPTED 0 10044 0 1 10044 10044 | 1 1 72 X 10044
+PUTROOTFH, which isn't served yet, and GETFH | CALL SYS 3 0x61626300 2 2 24 10 | ACCEPTED 0 10004 3 0x61626300 1 24 10004 | 1 1 24 X 10004
+SETATTR, whose result has a bitmap | CALL SYS 0 2 1 34 0 0 0 0 0 0 | ACCEPTED 0 10004 0 1 34 10004 0 | 1 1 34 X 10004
+a boolean of 2 in SEQUENCE | CALL SYS 0 2 1 53 0 0 0 0 0 0 0 2 | ACCEPTED 4 | 1 0 0 P 4
+a word after the last operation | CALL SYS 0 2 1 24 0 | ACCEPTED 4 | 1 0 0 P 4
+an EXCHANGE_ID and a count without end | CALL SYS 0 2 0xffffffff 42 0 0 2 0x63310000 0 0 0 7 | ACCEPTED 0 10081 0 1 42 10081 | 1 1 42 S 10081
+no operation | CALL SYS 0 2 0 | ACCEPTED 0 0 0 0
+";
 
-/// A reply up to its accept_stat.
-const ACCEPTED: &[u32] = &[1, 1, 0, 0, 0];
+/// Three clients of a high level leave no trace in the reply to a low one.
+const HIGH_AND_LOW: &str = "
+three of level 3, and one of level 0 | \
+@1 CALL SYS_300 EXCHANGE 'xx' REST / @1 CALL SYS_300 EXCHANGE 'yy' REST / \
+@1 CALL SYS_300 EXCHANGE 'zz' REST / CALL SYS EXCHANGE 'c1' REST | \
+EXCHANGED 3 1 SERVER / EXCHANGED 3 2 SERVER / EXCHANGED 3 3 SERVER / EXCHANGED 0 1 SERVER
+";
 
-/// The name `labelled-nfs`.
-const NAME: [u32; 4] = [12, 0x6c61_6265, 0x6c6c_6564, 0x2d6e_6673];
+/// Parts of a recording of two events, 272 bytes: how many of its first bytes are there, the status,
+/// the replies and the lines.
+const PREFIXES: &str = "
+0 | 4 | | fault 4 traffic damaged at 0
+7 | 4 | | fault 4 traffic damaged at 0
+8 | 0 |
+271 | 4 | EXCHANGED 0 1 SERVER | fault 4 traffic damaged at 140
+272 | 0 | EXCHANGED 0 1 SERVER / EXCHANGED 0 2 SERVER
+";
 
-/// One record in three parts, its reply in two, and its line.
-#[derive(Clone, Copy, Drop)]
-struct Row {
-    name: &'static str,
-    record: [&'static [u32]; 3],
-    reply: [&'static [u32]; 2],
-    line: &'static [u8],
+/// What cells say is due after a run with a status, where they can be read.
+fn due_of(alloc: Global, status: u8, cells: &[&str]) -> Result<Option<Due>, AllocError> {
+    let Some((replies, told)) = cells.split_first() else {
+        return Ok(None);
+    };
+    let Some(out) = frames_of(alloc, replies)? else {
+        return Ok(None);
+    };
+    let lines = lines_in(alloc, told)?;
+    Ok(Some(Due { status, out, lines }))
 }
 
-fn bytes_of(alloc: Global, parts: &[&[u32]]) -> Result<Vec<u8>, AllocError> {
-    let mut bytes = Vec::new(alloc);
-    for part in parts {
-        for word in *part {
-            bytes.extend_from_slice(&word.to_be_bytes())?;
-        }
-    }
-    Ok(bytes)
+/// Plays what a row has recorded.
+pub fn check_row(rt: &impl Abort, alloc: Global, row: &str) -> Result<(), AllocError> {
+    let cells = cells_of(alloc, row)?;
+    assert!(rt; cells.len() >= 3, "cells of {row}");
+    let due = due_of(alloc, 0, &cells[2..])?.expect(rt, row);
+    let traffic = recording_of(alloc, cells[1])?.expect(rt, row);
+    gives(rt, cells[0], &run_over(alloc, &traffic)?, &due);
+    Ok(())
 }
 
-/// The recording of one event of class 0.
-fn recording_of(alloc: Global, record: &[u8]) -> Result<Vec<u8>, AllocError> {
-    let mut traffic = Vec::from_slice(alloc, b"LNFSTRC1")?;
-    let size = u32::try_from(record.len()).unwrap_or(0);
-    traffic.extend_from_slice(&bytes_of(alloc, &[&[0, 0, 0, 100, 0, size]])?)?;
-    traffic.extend_from_slice(record)?;
-    Ok(traffic)
-}
-
-/// The frame of a reply, and nothing where it has no words.
-fn framed(alloc: Global, reply: &[&[u32]]) -> Result<Vec<u8>, AllocError> {
-    let record = bytes_of(alloc, reply)?;
-    if record.is_empty() {
-        return Ok(record);
-    }
-    let size = u32::try_from(record.len()).unwrap_or(0);
-    let mut frame = bytes_of(alloc, &[&[0x8000_0000 | size]])?;
-    frame.extend_from_slice(&record)?;
-    Ok(frame)
-}
-
-fn check(rt: &impl Abort, alloc: Global, rows: &[Row]) -> Result<(), AllocError> {
-    for row in rows {
-        let record = bytes_of(alloc, &row.record)?;
-        let traffic = recording_of(alloc, &record)?;
-        let frame = framed(alloc, &row.reply)?;
-        let (status, out, audit) = run_over(alloc, "replay p t", &traffic, NONE)?;
-        assert_eq!(rt; status, 0, "status of {}", row.name);
-        assert!(rt; out.bytes() == frame.as_slice(), "out of {}", row.name);
-        assert!(rt; audit.bytes() == row.line, "audit of {}", row.name);
+/// Plays each row of a table, which has so many.
+pub fn check(rt: &impl Abort, alloc: Global, table: &str, count: usize) -> Result<(), AllocError> {
+    let rows = rows_of(alloc, table)?;
+    assert_eq!(rt; rows.len(), count, "rows");
+    for row in &rows {
+        check_row(rt, alloc, row)?;
     }
     Ok(())
 }
 
 #[test]
-fn programs_and_procedures(rt: HostRuntime) -> Result<(), AllocError> {
-    let rows = [
-        Row {
-            name: "another version of RPC",
-            record: [&[1, 0, 3, 100_003, 4, 1], SYS, &[]],
-            reply: [&[1, 1, 1, 0, 2, 2], &[]],
-            line: b"1 0 0 V 0\n",
-        },
-        Row {
-            name: "another program",
-            record: [&[1, 0, 2, 100_005, 4, 1], SYS, &[]],
-            reply: [ACCEPTED, &[1]],
-            line: b"1 0 0 P 1\n",
-        },
-        Row {
-            name: "another version of NFS",
-            record: [&[1, 0, 2, 100_003, 3, 1], SYS, &[]],
-            reply: [ACCEPTED, &[2, 4, 4]],
-            line: b"1 0 0 P 2\n",
-        },
-        Row {
-            name: "another procedure",
-            record: [&[1, 0, 2, 100_003, 4, 2], SYS, &[]],
-            reply: [ACCEPTED, &[3]],
-            line: b"1 0 0 P 3\n",
-        },
-        Row {
-            name: "NULL",
-            record: [&[1, 0, 2, 100_003, 4, 0], SYS, &[]],
-            reply: [ACCEPTED, &[0]],
-            line: b"",
-        },
-        Row {
-            name: "NULL with an argument",
-            record: [&[1, 0, 2, 100_003, 4, 0], SYS, &[0]],
-            reply: [ACCEPTED, &[4]],
-            line: b"1 0 0 P 4\n",
-        },
-        Row {
-            name: "a reply",
-            record: [ACCEPTED, &[0], &[]],
-            reply: [&[], &[]],
-            line: b"",
-        },
-    ];
-    check(&rt, rt.alloc(), &rows)
+fn records(rt: HostRuntime) -> Result<(), AllocError> {
+    check(&rt, rt.alloc(), CALLS, 13)?;
+    check(&rt, rt.alloc(), COMPOUNDS, 11)?;
+    check(&rt, rt.alloc(), HIGH_AND_LOW, 1)
 }
 
-#[test]
-fn credentials(rt: HostRuntime) -> Result<(), AllocError> {
-    let rows = [
-        Row {
-            name: "a flavor that isn't served",
-            record: [CALL, &[6, 0, 0, 0], &[0, 2, 1]],
-            reply: [&[1, 1, 1, 1], &[5]],
-            line: b"1 0 0 C 5\n",
-        },
-        Row {
-            name: "a credential of 401 bytes",
-            record: [CALL, &[1, 401, 0, 0], &[0, 2, 1]],
-            reply: [&[1, 1, 1, 1], &[1]],
-            line: b"1 0 0 C 1\n",
-        },
-        Row {
-            name: "an AUTH_SYS body that ends early",
-            record: [CALL, &[1, 4, 0, 0, 0], &[0, 2, 0]],
-            reply: [&[1, 1, 1, 1], &[1]],
-            line: b"1 0 0 C 1\n",
-        },
-        Row {
-            name: "a caller by AUTH_NONE",
-            record: [CALL, &[0, 0, 0, 0], &[0, 2, 0]],
-            reply: [ACCEPTED, &[0, 0, 0, 0]],
-            line: b"",
-        },
-    ];
-    check(&rt, rt.alloc(), &rows)
+/// The first bytes of a recording, of which a row tells the number.
+fn prefix<'a>(whole: &'a [u8], cells: &[&str]) -> Option<&'a [u8]> {
+    let size = cells.first()?.parse::<usize>().ok()?;
+    whole.get(..size)
 }
 
-#[test]
-fn short_record(rt: HostRuntime) -> Result<(), AllocError> {
-    let traffic = recording_of(rt.alloc(), &[0; 7])?;
-    let (status, out, audit) = run_over(rt.alloc(), "replay p t", &traffic, NONE)?;
-    assert_eq!(rt; status, 0);
-    assert!(rt; out.bytes().is_empty(), "out");
-    assert!(rt; audit.bytes().is_empty(), "audit");
+fn check_prefix(rt: &impl Abort, alloc: Global, whole: &[u8], row: &str) -> Result<(), AllocError> {
+    let cells = cells_of(alloc, row)?;
+    assert!(rt; cells.len() >= 3, "cells of {row}");
+    let traffic = prefix(whole, &cells).expect(rt, row);
+    let status = cells[1].parse::<u8>().ok().expect(rt, row);
+    let due = due_of(alloc, status, &cells[2..])?.expect(rt, row);
+    gives(rt, row, &run_over(alloc, traffic)?, &due);
     Ok(())
 }
 
 #[test]
-fn operations(rt: HostRuntime) -> Result<(), AllocError> {
-    let rows = [
-        Row {
-            name: "EXCHANGE_ID",
-            record: [CALL, SYS, &[0, 2, 1, 42, 0, 0, 2, 0x6331_0000, 0, 0, 0]],
-            reply: [
-                &[
-                    1,
-                    1,
-                    0,
-                    0,
-                    0,
-                    0,
-                    0,
-                    0,
-                    1,
-                    42,
-                    0,
-                    0,
-                    1,
-                    1,
-                    0x0001_0000,
-                    0,
-                    0,
-                    0,
-                ],
-                &[
-                    NAME[0], NAME[1], NAME[2], NAME[3], NAME[0], NAME[1], NAME[2], NAME[3], 0,
-                ],
-            ],
-            line: b"",
-        },
-        Row {
-            name: "minor version 1",
-            record: [CALL, SYS, &[0, 1, 1, 42]],
-            reply: [ACCEPTED, &[0, 10_021, 0, 0]],
-            line: b"1 0 0 X 10021\n",
-        },
-        Row {
-            name: "an operation of the protocol that isn't served",
-            record: [CALL, SYS, &[0, 2, 1, 68]],
-            reply: [ACCEPTED, &[0, 10_004, 0, 1, 68, 10_004]],
-            line: b"1 1 68 X 10004\n",
-        },
-        Row {
-            name: "an operation that the protocol hasn't",
-            record: [CALL, SYS, &[0, 2, 1, 72]],
-            reply: [ACCEPTED, &[0, 10_044, 0, 1, 10_044, 10_044]],
-            line: b"1 1 72 X 10044\n",
-        },
-        Row {
-            name: "PUTROOTFH, which isn't served yet, and GETFH",
-            record: [CALL, SYS, &[3, 0x6162_6300, 2, 2, 24, 10]],
-            reply: [ACCEPTED, &[0, 10_004, 3, 0x6162_6300, 1, 24, 10_004]],
-            line: b"1 1 24 X 10004\n",
-        },
-        Row {
-            name: "SETATTR, whose result has a bitmap",
-            record: [CALL, SYS, &[0, 2, 1, 34, 0, 0, 0, 0, 0, 0]],
-            reply: [ACCEPTED, &[0, 10_004, 0, 1, 34, 10_004, 0]],
-            line: b"1 1 34 X 10004\n",
-        },
-    ];
-    check(&rt, rt.alloc(), &rows)
+fn parts_of_a_recording(rt: HostRuntime) -> Result<(), AllocError> {
+    let events = "CALL SYS EXCHANGE 'c1' REST / CALL SYS EXCHANGE 'c1' REST";
+    let whole = recording_of(rt.alloc(), events)?.expect(&rt, events);
+    assert_eq!(rt; whole.len(), 272);
+    let rows = rows_of(rt.alloc(), PREFIXES)?;
+    assert_eq!(rt; rows.len(), 5, "rows");
+    for row in &rows {
+        check_prefix(&rt, rt.alloc(), &whole, row)?;
+    }
+    Ok(())
 }
 
+/// The row of a level that is full.
+fn full_level(alloc: Global) -> Result<String, AllocError> {
+    let mut row = String::from_str(alloc, "a full level | ")?;
+    for i in 1..65u8 {
+        write!(row, "CALL SYS EXCHANGE 0x63{i:02x} REST / ")?;
+    }
+    row.push_str("CALL SYS EXCHANGE 0x6401 REST / CALL SYS EXCHANGE 0x6301 REST | ")?;
+    for i in 1..65u8 {
+        write!(row, "EXCHANGED 0 {i} SERVER / ")?;
+    }
+    row.push_str("ACCEPTED 0 28 0 1 42 28 / EXCHANGED 0 65 SERVER | 65 1 42 S 28")?;
+    Ok(row)
+}
+
+/// The sixty-fifth owner of a level finds no room, and an owner that was there does.
 #[test]
-fn arguments_and_counts(rt: HostRuntime) -> Result<(), AllocError> {
-    let rows = [
-        Row {
-            name: "a boolean of 2 in SEQUENCE",
-            record: [CALL, SYS, &[0, 2, 1, 53, 0, 0, 0, 0, 0, 0, 0, 2]],
-            reply: [ACCEPTED, &[4]],
-            line: b"1 0 0 P 4\n",
-        },
-        Row {
-            name: "a word after the last operation",
-            record: [CALL, SYS, &[0, 2, 1, 24, 0]],
-            reply: [ACCEPTED, &[4]],
-            line: b"1 0 0 P 4\n",
-        },
-        Row {
-            name: "an EXCHANGE_ID and a count without end",
-            record: [
-                CALL,
-                SYS,
-                &[0, 2, 0xffff_ffff, 42, 0, 0, 2, 0x6331_0000, 0, 0, 0, 7],
-            ],
-            reply: [ACCEPTED, &[0, 10_081, 0, 1, 42, 10_081]],
-            line: b"1 1 42 S 10081\n",
-        },
-        Row {
-            name: "no operation",
-            record: [CALL, SYS, &[0, 2, 0]],
-            reply: [ACCEPTED, &[0, 0, 0, 0]],
-            line: b"",
-        },
-    ];
-    check(&rt, rt.alloc(), &rows)
+fn a_level_is_full(rt: HostRuntime) -> Result<(), AllocError> {
+    check_row(&rt, rt.alloc(), &full_level(rt.alloc())?)
 }

@@ -12,13 +12,13 @@ use Rattle.lnfs_arguments.specs.Further.{Further}
 use Rattle.lnfs_step.specs.declared.numbers.TheConstants.{PROC_NULL}
 use Rattle.lnfs_step.specs.Request.{Cause, asked_as, asked_by, asked_in, asked_of, null_call, user_of, request_with, level_in}
 
-as_level : (level xid : ℕ) (r : Result Compound (List ℕ)) → level_in (asked_as level xid r) ≡ Some level
-as_level level xid (Ok c) = refl
-as_level level xid (Err stuck) = refl
+as_level : (level xid : ℕ) (args : List ℕ) (r : Result Compound (List ℕ)) → level_in (asked_as level xid args r) ≡ Some level
+as_level level xid args (Ok c) = refl
+as_level level xid args (Err stuck) = refl
 
 by_level : (g : Further) (o : Option ℕ) (xid : ℕ) (args : List ℕ) → level_in (asked_by g o xid args) ≡ o
 by_level g None xid args = refl
-by_level g (Some level) xid args = as_level level xid (parse (compound g) args)
+by_level g (Some level) xid args = as_level level xid args (parse (compound g) args)
 
 module _ (g h : Further) (p : Policy) (class : ℕ) where
   in_level : (call : CallMessage) (user : Result (Option ℕ) Cause) → level_in (asked_in g p class call user) ≡ level_in (asked_in h p class call user)

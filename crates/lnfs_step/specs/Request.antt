@@ -30,8 +30,8 @@ pub data Request : Type 0 where
   Refused : (level : Option ℕ) (xid : ℕ) (cause : Cause) → Request
   -- NULL
   Nothing : (xid : ℕ) → Request
-  -- a COMPOUND of a level
-  Asked : (level xid : ℕ) → Compound → Request
+  -- a COMPOUND of a level, with the bytes of its arguments
+  Asked : (level xid : ℕ) (arguments : List ℕ) → Compound → Request
 
 -- ---- the caller
 
@@ -56,14 +56,14 @@ abbrev pub null_call : (xid : ℕ) → List ℕ → Request
 null_call xid [] = Nothing xid
 null_call xid (b ∷ bytes) = Refused None xid (called GARBAGE_ARGS)
 
-abbrev pub asked_as : (level xid : ℕ) → Result Compound (List ℕ) → Request
-asked_as level xid (Ok c) = Asked level xid c
-asked_as level xid (Err stuck) = Refused (Some level) xid (called GARBAGE_ARGS)
+abbrev pub asked_as : (level xid : ℕ) (arguments : List ℕ) → Result Compound (List ℕ) → Request
+asked_as level xid arguments (Ok c) = Asked level xid arguments c
+asked_as level xid arguments (Err stuck) = Refused (Some level) xid (called GARBAGE_ARGS)
 
 -- The caller is judged before the arguments.
 abbrev pub asked_by : Further → Option ℕ → (xid : ℕ) → List ℕ → Request
 asked_by g None xid args = Refused None xid (caller AUTH_TOOWEAK)
-asked_by g (Some level) xid args = asked_as level xid (parse (compound g) args)
+asked_by g (Some level) xid args = asked_as level xid args (parse (compound g) args)
 
 abbrev pub asked_in : Further → Policy → (class : ℕ) → CallMessage → Result (Option ℕ) Cause → Request
 asked_in g p class call (Err cause) = Refused None call.xid cause
@@ -91,7 +91,7 @@ abbrev pub level_in : Request → Option ℕ
 level_in Silent = None
 level_in (Refused level xid cause) = level
 level_in (Nothing xid) = None
-level_in (Asked level xid c) = Some level
+level_in (Asked level xid arguments c) = Some level
 
 -- The level of an event, by its class and its record, whatever further operations are read.
 abbrev pub level_of : Policy → (class : ℕ) → List ℕ → Option ℕ

@@ -1,20 +1,21 @@
--- The step that an event makes: the world and the rows of further operations afterwards, the reply if one is due, and the audit line if
--- something was refused.
+-- The step that an event makes: the world and the rows of further operations afterwards, the reply if one is
+-- due, and the audit line if something was refused.
 use Rattle.std.specs.Prelude.{ℕ, List, [], length, Option, Some, None, codes, option_map}
 use Rattle.lnfs_outside.specs.declared.event.Event.{Event}
-use Rattle.lnfs_outside.specs.declared.event.Moment.{Moment}
 use Rattle.lnfs_rpc.specs.Replies.{reply_text}
 use Rattle.lnfs_arguments.specs.declared.types.Compound.{Compound}
-use Rattle.lnfs_results.specs.Texts.{results_text}
 use Rattle.lnfs_policy.specs.Policy.{Policy, dominance, limit_of}
 use Rattle.lnfs_world.specs.Outcome.{Site, begins_at}
+use Rattle.lnfs_world.specs.Lawful.{Turn}
 use Rattle.lnfs_world.specs.Both.{Both}
 use Rattle.lnfs_operations.specs.declared.Rule.{Rule}
 use Rattle.lnfs_operations.specs.declared.Rule.TheVariants as rules
 use Rattle.lnfs_operations.specs.declared.Gate.{Gate}
 use Rattle.lnfs_operations.specs.declared.Gate.TheVariants.{Session, Room, Argument, Outside, Namespace, Monitor, Open, Quota}
 use Rattle.lnfs_operations.specs.Extra.{Extra}
-use Rattle.lnfs_operations.specs.Compound.{Denial, Ran, deed_in, run as run_of, results_of}
+use Rattle.lnfs_operations.specs.Results.{Denial}
+use Rattle.lnfs_operations.specs.Sequence.{Sent}
+use Rattle.lnfs_operations.specs.SlotRule.{Answer, served}
 use Rattle.lnfs_step.specs.declared.numbers.TheConstants.{SUCCESS}
 use Rattle.lnfs_step.specs.First.{is_limited}
 use Rattle.lnfs_step.specs.Request.{Cause, caller, called, version, Request, Silent, Refused, Nothing, Asked, request_with, plainly, head_of, results_in}
@@ -76,19 +77,23 @@ pub record Step (S : Type 0) : Type 0 where
   pub reply : Option (List ℕ)
   pub line : Option Line
 
-abbrev pub answered : {S : Type 0} → (xid : ℕ) → Compound → Ran S → Step S
-answered xid c r = record {
-  state = r.state;
-  reply = Some (reply_text xid (plainly SUCCESS) (results_text (results_of c r)));
-  line = option_map line_of r.denial;
+-- A COMPOUND as it was sent: its arguments, the length of the whole record, and how many operations it counts.
+abbrev pub sent_of : Event → (arguments : List ℕ) → Compound → Sent
+sent_of event arguments c = record { arguments = arguments; size = length event.message; count = c.count }
+
+abbrev pub answered : {S : Type 0} → (xid : ℕ) → Turn Answer S → Step S
+answered xid t = record {
+  state = t.state;
+  reply = Some (reply_text xid (plainly SUCCESS) t.answer.result);
+  line = option_map line_of t.answer.denial;
 }
 
-abbrev pub step_of : (X : Extra) → Policy → Moment → Both X.Row → Request → Step (Both X.Row)
-step_of X p moment b Silent = record { state = b; reply = None; line = None }
-step_of X p moment b (Refused level xid cause) = record { state = b; reply = Some (reply_text xid (head_of cause) (results_in cause)); line = Some (line_of_cause cause) }
-step_of X p moment b (Nothing xid) = record { state = b; reply = Some (reply_text xid (plainly SUCCESS) []); line = None }
-step_of X p moment b (Asked level xid c) = answered xid c (run_of (deed_in X (site_of p) c) c (begins_at level moment) b)
+abbrev pub step_of : (X : Extra) → Policy → Both X.Row → Event → Request → Step (Both X.Row)
+step_of X p b event Silent = record { state = b; reply = None; line = None }
+step_of X p b event (Refused level xid cause) = record { state = b; reply = Some (reply_text xid (head_of cause) (results_in cause)); line = Some (line_of_cause cause) }
+step_of X p b event (Nothing xid) = record { state = b; reply = Some (reply_text xid (plainly SUCCESS) []); line = None }
+step_of X p b event (Asked level xid arguments c) = answered xid (served X (site_of p) (sent_of event arguments c) c (begins_at level event.moment) b)
 
 -- the step with further operations
 unfoldable pub step_with : (X : Extra) → Policy → Both X.Row → Event → Step (Both X.Row)
-step_with X p b event = step_of X p event.moment b (request_with X.grammar p event.class event.message)
+step_with X p b event = step_of X p b event (request_with X.grammar p event.class event.message)

@@ -1,13 +1,12 @@
 //! The laws over events and journals, as contracts of functions that do nothing.
-ghost use Rattle.std.specs.Prelude.{◌≡◌, ◌≤◌, ℕ, List, Some, true, false, length, IfSome, []};
+ghost use Rattle.std.specs.Prelude.{◌≡◌, ◌≤◌, ℕ, List, Some, true, false, length, IfSome};
 ghost use Rattle.lnfs_calipso.specs.Label.{IsPreorderWithBottom};
 ghost use Rattle.lnfs_lists.specs.declared.limits.TheConstants.{RECORD_LIMIT};
 ghost use Rattle.lnfs_outside.specs.declared.event.Event.{Event};
 ghost use Rattle.lnfs_policy.specs.Policy.{Policy, dominance};
-ghost use Rattle.lnfs_world.specs.World.{World};
 ghost use Rattle.lnfs_world.specs.Facts.{Facts};
-ghost use Rattle.lnfs_world.specs.Both.{Both, both};
-ghost use Rattle.lnfs_operations.specs.Extra.{no_extra};
+ghost use Rattle.lnfs_world.specs.Both.{Both};
+ghost use Rattle.lnfs_operations.specs.Sizes.{Sizes};
 ghost use Rattle.lnfs_step.specs.First.{first_world};
 ghost use Rattle.lnfs_step.specs.Request.{level_of};
 ghost use Rattle.lnfs_step.specs.Step.{step_with};
@@ -44,7 +43,10 @@ pub fn purge()
     ensures first { (p : Policy) → IsPreorderWithBottom (dominance p) → Facts (dominance p) (first_world p) }
     ensures facts { (p : Policy) → IsPreorderWithBottom (dominance p) → (journal : List Event) →
         Facts (dominance p) (world_after p journal) }
+    // What its sessions grant and the lengths of kept results stay within the limits of the server.
+    ensures sizes { (p : Policy) → IsPreorderWithBottom (dominance p) → (journal : List Event) →
+        Sizes (world_after p journal) }
     // A reply is a record that a fragment holds.
-    ensures short { (p : Policy) (w : World) (event : Event) →
-        IfSome (step_with no_extra p (both w []) event).reply (λ reply. length reply ≤ RECORD_LIMIT) }
+    ensures short { (p : Policy) → IsPreorderWithBottom (dominance p) → (journal : List Event) (event : Event) →
+        IfSome (reply_at p journal event) (λ reply. length reply ≤ RECORD_LIMIT) }
 {}

@@ -1,5 +1,3 @@
-pub mod Mapped
-pub mod Placing
-pub mod Exchanging
-pub mod Running
 pub mod Keeping
+pub mod Replies
+pub mod Retrying

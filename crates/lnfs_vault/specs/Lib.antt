@@ -1,9 +1,5 @@
-pub mod Listed
-pub mod Standing
-pub mod Places
-pub mod Answers
 pub mod Requests
 pub mod Lines
 pub mod Kept
 pub mod Says
-pub mod Runs
+pub mod Retried

@@ -20,9 +20,9 @@ abbrev pub seen_asked : code.Asked → Request
 seen_asked asked.Silent = request.Silent
 seen_asked (asked.Refused level xid c) = request.Refused (option_map (λ l. l.0) level) xid (seen_cause c)
 seen_asked (asked.Nothing xid) = request.Nothing xid
-seen_asked (asked.Run level xid compound) = request.Asked level.0 xid compound
+seen_asked (asked.Run r) = request.Asked r.level.0 r.xid r.arguments.now r.compound
 
 -- what was read has a tag of at most 1,024 bytes, and at most 32 operations
 abbrev pub IsShortly : code.Asked → Type 0
-IsShortly (asked.Run level xid compound) = (length compound.tag ≤ 1024) × (length compound.ops ≤ 32)
+IsShortly (asked.Run r) = (length r.compound.tag ≤ 1024) × (length r.compound.ops ≤ 32)
 IsShortly _ = Unit {0}

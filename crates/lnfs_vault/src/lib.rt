@@ -2,11 +2,7 @@
 #![tactic(auto)]
 
 mod audit;
-mod clients;
 mod request;
-mod results;
-mod rows;
-mod run;
 mod step;
 mod vault;
 

@@ -26,9 +26,19 @@ pub enum Cause {
     Version,
 }
 
+/// A COMPOUND of a level.
+#[derive(Debug, Drop)]
+pub struct Run<'a> {
+    pub level: Level,
+    pub xid: u32,
+    /// The bytes of its arguments.
+    pub arguments: &'a [u8],
+    pub compound: Compound,
+}
+
 /// What a record asks.
 #[derive(Debug, Drop)]
-pub enum Asked {
+pub enum Asked<'a> {
     /// Nothing: it is no call, and no reply is due.
     Silent,
     /// A call that is refused as a whole, with the level of its caller where it has one.
@@ -41,12 +51,7 @@ pub enum Asked {
     Nothing {
         xid: u32,
     },
-    /// A COMPOUND of a level.
-    Run {
-        level: Level,
-        xid: u32,
-        compound: Compound,
-    },
+    Run(Run<'a>),
 }
 
 /// The user id of a caller: by AUTH_NONE there is none.
@@ -66,7 +71,7 @@ fn user_of(credential: &Auth<'_>) -> Result<Option<u32>, Cause>
 }
 
 /// NULL has no arguments.
-fn null_call(xid: u32, args: &[u8]) -> Asked
+fn null_call<'a>(xid: u32, args: &[u8]) -> Asked<'a>
     ensures { seen_asked result ≡ null_call xid args.now }
 {
     if args.is_empty() {
@@ -81,7 +86,12 @@ fn null_call(xid: u32, args: &[u8]) -> Asked
 }
 
 /// A COMPOUND of a caller whose level is known, or isn't.
-fn asked_by(alloc: Global, level: Option<Level>, xid: u32, args: &[u8]) -> Result<Asked, AllocError>
+fn asked_by<'a>(
+    alloc: Global,
+    level: Option<Level>,
+    xid: u32,
+    args: &'a [u8],
+) -> Result<Asked<'a>, AllocError>
     ensures asked { IfOk result (λ asked. seen_asked asked ≡ asked_by nothing_further (option_map (λ l. l.0) level) xid args.now) }
     ensures short { IfOk result IsShortly }
 {
@@ -93,11 +103,12 @@ fn asked_by(alloc: Global, level: Option<Level>, xid: u32, args: &[u8]) -> Resul
         });
     };
     match read_compound(alloc, args, &NoExtraGrammar) {
-        Ok(compound) => Ok(Asked::Run {
+        Ok(compound) => Ok(Asked::Run(Run {
             level,
             xid,
+            arguments: args,
             compound,
-        }),
+        })),
         Err(CompoundError::Garbage { .. }) => Ok(Asked::Refused {
             level: Some(level),
             xid,
@@ -108,12 +119,12 @@ fn asked_by(alloc: Global, level: Option<Level>, xid: u32, args: &[u8]) -> Resul
 }
 
 /// What a call asks. The caller is judged before the arguments.
-fn asked_in(
+fn asked_in<'a>(
     alloc: Global,
     policy: &Policy,
     class: u32,
-    call: &Call<'_>,
-) -> Result<Asked, AllocError>
+    call: &Call<'a>,
+) -> Result<Asked<'a>, AllocError>
     ensures asked { IfOk result (λ asked. seen_asked asked ≡ asked_in nothing_further policy.now class (seen_call call.now) (user_of (seen_auth call.now.cred))) }
     ensures short { IfOk result IsShortly }
 {
@@ -134,7 +145,7 @@ fn asked_in(
 }
 
 /// The refusal of a record that is no call that is served.
-fn refused(error: CallError) -> Asked
+fn refused<'a>(error: CallError) -> Asked<'a>
     ensures asked { (policy : Policy) (class : ℕ) → seen_asked result ≡ asked_of nothing_further policy class (Err error) }
     ensures short { IsShortly result }
 {
@@ -153,12 +164,12 @@ fn refused(error: CallError) -> Asked
 
 /// What a record of a class asks under a policy.
 #[tactic(auto, unfolding(lnfs_step::specs::Request::request_with))]
-pub fn request_of(
+pub fn request_of<'a>(
     alloc: Global,
     policy: &Policy,
     class: u32,
-    message: &[u8],
-) -> Result<Asked, AllocError>
+    message: &'a [u8],
+) -> Result<Asked<'a>, AllocError>
     ensures asked { IfOk result (λ asked. seen_asked asked ≡ request_of policy.now class message.now) }
     ensures short { IfOk result IsShortly }
 {

@@ -1,6 +1,5 @@
 //! The step that an event makes: its reply and its audit line.
 ghost use Rattle.std.specs.Prelude.{◌≡◌, ◌≤◌, [], Some, None, length, IfOk, option_map};
-ghost use Rattle.lnfs_outside.specs.declared.event.Moment.{Moment};
 ghost use Rattle.lnfs_rpc.specs.Replies.{reply_text, seen_head};
 ghost use Rattle.lnfs_world.specs.World.{World};
 ghost use Rattle.lnfs_world.specs.Both.{both};
@@ -10,22 +9,20 @@ ghost use Rattle.lnfs_step.specs.Step.{step_with, step_of, rule_name, letter, li
 ghost use Rattle.lnfs_step.specs.declared.numbers.TheConstants.{SUCCESS};
 ghost use Rattle.lnfs_vault.specs.Lines.{IsLineOf};
 ghost use Rattle.lnfs_vault.specs.Requests.{seen_cause};
-ghost use Rattle.lnfs_vault.specs.Runs.{seen_denial};
 ghost use Rattle.lnfs_vault.specs.Says.{Says};
-ghost use Rattle.lnfs_vault.specs.Standing.{standing};
+ghost use Rattle.lnfs_session.specs.Standing.{standing};
+ghost use Rattle.lnfs_engine.specs.Runs.{denial_of};
+ghost use Rattle.lnfs_policy.specs.Policy.{Policy};
+ghost use Rattle.lnfs_outside.specs.Moments.{Fits};
 
 use crate::audit::AuditLine;
-use crate::clients::Clients;
-use crate::request::{Asked, Cause, request_of};
-use crate::results::results_of;
-use crate::run::{Denial, run};
-use lnfs_arguments::Compound;
-use lnfs_calipso::Level;
+use crate::request::{Asked, Cause, Run, request_of};
+use lnfs_engine::{Denial, Engine, room_of};
 use lnfs_lists::Octets;
 use lnfs_operations::{Gate, Rule};
 use lnfs_outside::Event;
 use lnfs_policy::Policy;
-use lnfs_rpc::{Auth, Head, write_reply};
+use lnfs_rpc::{Auth, Head, begin_reply, write_reply};
 use lnfs_step::numbers::{AUTH_NONE, NFS_VERSION, PROG_MISMATCH, SUCCESS};
 use lnfs_xdr::XdrWriter;
 use std::alloc::{AllocError, Global};
@@ -151,7 +148,7 @@ fn letter(gate: Gate) -> &'static [u8]
 
 /// The line of a COMPOUND, where one of its operations was refused, or it as a whole.
 fn line_of(alloc: Global, at: u64, denial: &Option<Denial>) -> Result<Option<AuditLine>, AllocError>
-    ensures { IfOk result (IsLineOf at (option_map line_of (option_map seen_denial denial.now))) }
+    ensures { IfOk result (IsLineOf at (option_map line_of (option_map denial_of denial.now))) }
 {
     let Some(denial) = denial else {
         return Ok(None);
@@ -160,39 +157,32 @@ fn line_of(alloc: Global, at: u64, denial: &Option<Denial>) -> Result<Option<Aud
         event: at,
         place: denial.place,
         number: denial.number,
-        gate: Octets::from_slice(alloc, letter(denial.refusal.gate))?,
-        status: denial.refusal.status,
+        gate: Octets::from_slice(alloc, letter(denial.gate))?,
+        status: denial.status,
     }))
 }
 
-/// Runs a COMPOUND, and answers it.
+/// Runs the COMPOUND of an event, and answers it. Its result is built in the reply's buffer.
 fn compound(
     alloc: Global,
-    policy: &Policy,
-    clients: &mut Clients,
+    engine: &mut Engine,
     at: u64,
-    level: Level,
-    xid: u32,
-    compound: &Compound,
+    event: &Event,
+    run: &Run<'_>,
 ) -> Result<Said, AllocError>
-    requires tag { length compound.now.tag ≤ 1024 }
-    requires few { length compound.now.ops ≤ 32 }
-    ensures { IfOk result (λ said. (moment : Moment) (rest : World) →
-        Says at (standing rest clients.new) (step_of no_extra policy.now moment (both (standing rest clients.old) []) (asked level.0 xid compound.now)) said) }
+    requires event { Fits event.now }
+    requires tag { length run.now.compound.tag ≤ 1024 }
+    requires few { length run.now.compound.ops ≤ 32 }
+    ensures { IfOk result (λ said. (policy : Policy) (rest : World) → rest.opens ≡ [] →
+        Says at (standing rest engine.new) (step_of no_extra policy (both (standing rest engine.old) []) event.now (asked run.now.level.0 run.now.xid run.now.arguments.now run.now.compound)) said) }
 {
-    let mut out = XdrWriter::new(alloc);
-    let ended = run(alloc, clients, level.0, compound, &mut out)?;
-    let results = results_of(
-        alloc,
-        ended.status,
-        compound.tag.as_slice(),
-        ended.count,
-        &out.into_bytes(),
-    )?;
-    let reply = write_reply(alloc, xid, &plainly(SUCCESS), &results)?;
-    let line = line_of(alloc, at, &ended.denial)?;
+    let size = event.message.len() as u32;
+    let room = room_of(&run.compound);
+    let out = begin_reply(alloc, run.xid, &plainly(SUCCESS), room)?;
+    let ran = engine.run(run.level, size, run.arguments, &run.compound, out)?;
+    let line = line_of(alloc, at, &ran.denial)?;
     Ok(Said {
-        reply: Some(Octets::new(reply)),
+        reply: Some(Octets::new(ran.reply)),
         line,
     })
 }
@@ -202,12 +192,13 @@ fn compound(
 pub fn say(
     alloc: Global,
     policy: &Policy,
-    clients: &mut Clients,
+    engine: &mut Engine,
     at: u64,
     event: &Event,
 ) -> Result<Said, AllocError>
-    ensures { IfOk result (λ said. (rest : World) →
-        Says at (standing rest clients.new) (step_with no_extra policy.now (both (standing rest clients.old) []) event.now) said) }
+    requires { Fits event.now }
+    ensures { IfOk result (λ said. (rest : World) → rest.opens ≡ [] →
+        Says at (standing rest engine.new) (step_with no_extra policy.now (both (standing rest engine.old) []) event.now) said) }
 {
     match request_of(alloc, policy, event.class, event.message.as_slice())? {
         Asked::Silent => Ok(Said {
@@ -216,10 +207,6 @@ pub fn say(
         }),
         Asked::Refused { xid, cause, .. } => refuse(alloc, at, xid, cause),
         Asked::Nothing { xid } => nothing(alloc, xid),
-        Asked::Run {
-            level,
-            xid,
-            compound: asked,
-        } => compound(alloc, policy, clients, at, level, xid, &asked),
+        Asked::Run(run) => compound(alloc, engine, at, event, &run),
     }
 }

@@ -1,25 +1,31 @@
 //! The vault.
-ghost use Rattle.std.specs.Prelude.{◌≡◌, ◌+◌, ◌≤◌, [], ◌∷◌, ◌++◌, true, false, length, IfOk, IfSome, OnOk, OnErr, IsErr};
+ghost use Rattle.std.specs.Prelude.{◌≡◌, ◌+◌, ◌≤◌, ℕ, List, [], ◌∷◌, ◌++◌, Some, true, false, length, IfOk, IfSome, OnOk, OnErr, IsErr};
 ghost use Rattle.lnfs_lists.specs.declared.limits.TheConstants.{RECORD_LIMIT};
 ghost use Rattle.lnfs_outside.specs.Moments.{Fits};
 ghost use Rattle.lnfs_policy.specs.Policy.{dominance};
 ghost use Rattle.lnfs_world.specs.Facts.{Facts};
-ghost use Rattle.lnfs_world.specs.World.{World};
+ghost use Rattle.lnfs_arguments.specs.declared.types.Compound.{Compound};
+ghost use Rattle.lnfs_arguments.specs.declared.types.CreateSession.{CreateSession};
+ghost use Rattle.lnfs_arguments.specs.declared.types.Sequence.{Sequence};
+ghost use Rattle.lnfs_world.specs.World.{Client, Session, Slot, World};
 ghost use Rattle.lnfs_world.specs.Both.{both};
 ghost use Rattle.lnfs_operations.specs.Extra.{no_extra};
+ghost use Rattle.lnfs_operations.specs.InOrder.{sequence_before};
 ghost use Rattle.lnfs_step.specs.Step.{step_with};
 ghost use Rattle.lnfs_step.specs.Journal.{world_after, reply_at, line_at, answer};
+ghost use Rattle.lnfs_step.specs.Sessions.{ComesOnSlot, ComesToClient};
 ghost use Rattle.lnfs_vault.specs.Lines.{IsLineOf};
+ghost use Rattle.lnfs_vault.specs.Retried.{IsRetried};
 ghost use Rattle.lnfs_vault.specs.Says.{SaysServed};
-ghost use Rattle.lnfs_vault.specs.Standing.{standing};
+ghost use Rattle.lnfs_session.specs.Standing.{standing};
 
 use crate::audit::AuditLine;
-use crate::clients::Clients;
 use crate::step::say;
+use lnfs_engine::Engine;
 use lnfs_lists::Octets;
 use lnfs_outside::Event;
 use lnfs_policy::Policy;
-use lnfs_step::purge;
+use lnfs_step::{purge, sessions};
 use std::alloc::{AllocError, Global};
 use std::marker::Model;
 
@@ -38,18 +44,19 @@ pub struct Served {
 fn attempt(
     alloc: Global,
     policy: &Policy,
-    clients: &mut Clients,
+    engine: &mut Engine,
     journal: &mut Vec<Event>,
     event: Event,
 ) -> Result<Served, AllocError>
-    ensures says { IfOk result (λ served. (rest : World) →
-        SaysServed (length journal.old.items + 1) (standing rest clients.new) (step_with no_extra policy.now (both (standing rest clients.old) []) event) served) }
+    requires { Fits event }
+    ensures says { IfOk result (λ served. (rest : World) → rest.opens ≡ [] →
+        SaysServed (length journal.old.items + 1) (standing rest engine.new) (step_with no_extra policy.now (both (standing rest engine.old) []) event) served) }
     ensures ok { OnOk result (journal.new.items ≡ journal.old.items ++ event ∷ []) }
     ensures err { OnErr result (journal.new.items ≡ journal.old.items) }
 {
     journal.reserve(1)?;
     let at = journal.len() as u64 + 1;
-    let said = say(alloc, policy, clients, at, &event)?;
+    let said = say(alloc, policy, engine, at, &event)?;
     journal.push(event)?;
     Ok(Served {
         reply: said.reply,
@@ -63,7 +70,7 @@ fn attempt(
 pub struct Vault {
     alloc: Global,
     policy: Policy,
-    clients: Clients,
+    engine: Engine,
     journal: Vec<Event>,
     stopped: bool,
 }
@@ -76,12 +83,12 @@ impl Model for Vault {
 
     ghost use Rattle.lnfs_step.specs.First.{first_world};
     ghost use Rattle.lnfs_step.specs.Journal.{world_after};
-    ghost use Rattle.lnfs_vault.specs.Standing.{standing};
+    ghost use Rattle.lnfs_session.specs.Standing.{standing};
 
     ghost view = { λ v. record { policy = v.policy; journal = v.journal.items; stopped = v.stopped } };
 
     // what stands is the world after the journal
-    ghost invariant = { λ v. v.stopped ≡ false → standing (first_world v.policy) v.clients ≡ world_after v.policy v.journal.items };
+    ghost invariant = { λ v. v.stopped ≡ false → standing (first_world v.policy) v.engine ≡ world_after v.policy v.journal.items };
 }
 
 impl Vault {
@@ -92,7 +99,7 @@ impl Vault {
         Ok(Vault {
             alloc,
             policy,
-            clients: Clients::new(alloc),
+            engine: Engine::new(alloc),
             journal: Vec::new(alloc),
             stopped: false,
         })
@@ -124,6 +131,21 @@ impl Vault {
         // The reply is the one that its requester would get with every event outside its dominance
         // purged from the journal.
         ensures answer { IfOk result (λ served. served.reply ≡ answer self.old.policy self.old.journal event) }
+        // A COMPOUND that comes again on its slot, with the arguments that the slot keeps, gets the result of
+        // the first time (RFC 8881 section 2.10.6.1).
+        ensures retry { (level xid : ℕ) (arguments : List ℕ) (c : Compound) (args : Sequence) (x : Session) (slot : Slot) (first : List ℕ) →
+            ComesOnSlot self.old.policy self.old.journal event level xid arguments c args x slot →
+            slot ≡ record { sequence = args.sequence; kept = Some (record { arguments = arguments; reply = first }) } →
+            IfOk result (IsRetried self.old self.new xid first) }
+        // So does a CREATE_SESSION, with those that its client's record keeps (RFC 8881 section 18.36.4).
+        ensures created { (level xid : ℕ) (arguments : List ℕ) (c : Compound) (args : CreateSession) (client : Client) (first : List ℕ) →
+            ComesToClient self.old.policy self.old.journal event level xid arguments c args client →
+            args.sequence ≡ sequence_before client.sequence → client.kept ≡ Some (record { arguments = arguments; reply = first }) →
+            IfOk result (IsRetried self.old self.new xid first) }
+        // The reply to a COMPOUND on a slot has no more bytes than its session's responses.
+        ensures room { (level xid : ℕ) (arguments : List ℕ) (c : Compound) (args : Sequence) (x : Session) (slot : Slot) →
+            ComesOnSlot self.old.policy self.old.journal event level xid arguments c args x slot →
+            IfOk result (λ served. IfSome served.reply (λ reply. length reply ≤ x.channel.max_response)) }
         ensures short { IfOk result (λ served. IfSome served.reply (λ reply. length reply ≤ RECORD_LIMIT)) }
         ensures at { IfOk result (λ served. served.at ≡ length self.old.journal + 1) }
         ensures kept { OnOk result (self.new ≡ record self.old { journal = self.old.journal ++ event ∷ [] }) }
@@ -133,6 +155,7 @@ impl Vault {
         ensures facts { Facts (dominance self.new.policy) (world_after self.new.policy self.new.journal) }
     {
         purge();
+        sessions();
         self.policy.is_preordered();
         if self.stopped {
             return Err(AllocError);
@@ -141,7 +164,7 @@ impl Vault {
         let served = attempt(
             self.alloc,
             &self.policy,
-            &mut self.clients,
+            &mut self.engine,
             &mut self.journal,
             event,
         )?;

@@ -1,7 +1,7 @@
 use Rattle.std.proofs.Common.{ap, ◌∙◌, sym}
 use Rattle.lnfs_step.specs.First.{first_world}
 use Rattle.lnfs_step.specs.Journal.{state_from, world_after}
-use Rattle.lnfs_vault.specs.Standing.{standing}
+use Rattle.lnfs_session.specs.Standing.{standing}
 use Rattle.lnfs_vault.proofs.Keeping.{first_stands}
 use Rattle.lnfs_vault.proofs.vault.Vault.new.Goals as goal
 

@@ -1,0 +1,10 @@
+use Rattle.lnfs_step.proofs.Slots.{retry_answered, created_answered, once_answered, room_left}
+use Rattle.lnfs_step.proofs.session_laws.sessions.Goals as goal
+
+pub returns : goal.returns
+returns c = record {
+  retry = λ p journal event level xid arguments compound args x slot result comes same. retry_answered p journal event level xid arguments compound args x slot result comes same;
+  created = λ p journal event level xid arguments compound args client result comes last kept. created_answered p journal event level xid arguments compound args client result comes last kept;
+  once = λ p lattice journal event again level xid other arguments compound args x slot comes next asked size. once_answered p lattice journal event again level xid other arguments compound args x slot comes next asked size;
+  room = λ p lattice journal event level xid arguments compound args x slot comes. room_left p lattice journal event level xid arguments compound args x slot comes;
+}

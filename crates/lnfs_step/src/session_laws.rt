@@ -1,0 +1,42 @@
+//! The laws of requests that come again, as the contract of a function that does nothing.
+ghost use Rattle.std.specs.Prelude.{◌≡◌, ◌≤◌, ℕ, List, [], ◌∷◌, ◌++◌, Some, length, IfSome};
+ghost use Rattle.lnfs_calipso.specs.Label.{IsPreorderWithBottom};
+ghost use Rattle.lnfs_outside.specs.declared.event.Event.{Event};
+ghost use Rattle.lnfs_rpc.specs.Replies.{reply_text};
+ghost use Rattle.lnfs_arguments.specs.declared.types.Compound.{Compound};
+ghost use Rattle.lnfs_arguments.specs.declared.types.CreateSession.{CreateSession};
+ghost use Rattle.lnfs_arguments.specs.declared.types.Sequence.{Sequence};
+ghost use Rattle.lnfs_policy.specs.Policy.{Policy, dominance};
+ghost use Rattle.lnfs_world.specs.World.{Client, Slot, Session};
+ghost use Rattle.lnfs_operations.specs.InOrder.{sequence_before};
+ghost use Rattle.lnfs_operations.specs.Keeping.{next_sequence};
+ghost use Rattle.lnfs_step.specs.declared.numbers.TheConstants.{SUCCESS};
+ghost use Rattle.lnfs_step.specs.Request.{Asked, request_of, plainly};
+ghost use Rattle.lnfs_step.specs.Journal.{reply_at};
+ghost use Rattle.lnfs_step.specs.Sessions.{ComesOnSlot, ComesToClient, IsAnswered};
+
+/// Sessions over journals: a COMPOUND that comes again gets the result that it got, and acts once.
+pub fn sessions()
+    // The COMPOUND whose result its slot keeps gets that result (RFC 8881 section 2.10.6.1).
+    ensures retry { (p : Policy) (journal : List Event) (event : Event) (level xid : ℕ) (arguments : List ℕ) (c : Compound) (args : Sequence) (x : Session) (slot : Slot) (result : List ℕ) →
+        ComesOnSlot p journal event level xid arguments c args x slot →
+        slot ≡ record { sequence = args.sequence; kept = Some (record { arguments = arguments; reply = result }) } →
+        IsAnswered p journal event xid result }
+    // So does the CREATE_SESSION whose result its client's record keeps (RFC 8881 section 18.36.4).
+    ensures created { (p : Policy) (journal : List Event) (event : Event) (level xid : ℕ) (arguments : List ℕ) (c : Compound) (args : CreateSession) (client : Client) (result : List ℕ) →
+        ComesToClient p journal event level xid arguments c args client →
+        args.sequence ≡ sequence_before client.sequence → client.kept ≡ Some (record { arguments = arguments; reply = result }) →
+        IsAnswered p journal event xid result }
+    // A new COMPOUND under the next sequence of its slot acts once. Whatever event of its level asks the same
+    // directly behind it, under any transaction and of any class, gets its result, and the world stays what the
+    // first one left.
+    ensures once { (p : Policy) → IsPreorderWithBottom (dominance p) → (journal : List Event) (event again : Event) (level xid other : ℕ) (arguments : List ℕ) (c : Compound) (args : Sequence) (x : Session) (slot : Slot) →
+        ComesOnSlot p journal event level xid arguments c args x slot → args.sequence ≡ next_sequence slot.sequence →
+        request_of p again.class again.message ≡ Asked level other arguments c → length again.message ≤ x.channel.max_request →
+        (result : List ℕ) × (reply_at p journal event ≡ Some (reply_text xid (plainly SUCCESS) result)) × IsAnswered p (journal ++ event ∷ []) again other result }
+    // The reply to a COMPOUND on a slot has no more bytes than its session's responses, be the COMPOUND new, a
+    // retry or out of order (RFC 8881 section 2.10.6.4).
+    ensures room { (p : Policy) → IsPreorderWithBottom (dominance p) → (journal : List Event) (event : Event) (level xid : ℕ) (arguments : List ℕ) (c : Compound) (args : Sequence) (x : Session) (slot : Slot) →
+        ComesOnSlot p journal event level xid arguments c args x slot →
+        IfSome (reply_at p journal event) (λ reply. length reply ≤ x.channel.max_response) }
+{}

@@ -1,0 +1,24 @@
+-- What an event that is answered again is to who served it.
+use Rattle.std.proofs.Common.{◌≡◌, ◌+◌, ℕ, List, [], ◌∷◌, ◌++◌, length, Option, Some, None, refl, ◌∙◌}
+use Rattle.lnfs_outside.specs.declared.event.Event.{Event}
+use Rattle.lnfs_step.specs.Step.{Line}
+use Rattle.lnfs_step.specs.Journal.{world_after, reply_at, line_at}
+use Rattle.lnfs_step.specs.Sessions.{IsAnswered}
+use Rattle.lnfs_vault.specs.Kept.{Kept}
+use Rattle.lnfs_vault.specs.Lines.{IsLineOf}
+use Rattle.lnfs_vault.specs.Retried.{IsRetried}
+use Rattle.lnfs_vault.specs.declared.audit.AuditLine.{AuditLine}
+use Rattle.lnfs_vault.specs.declared.vault.Served.{Served}
+
+no_line : (event : ℕ) (line : Option Line) (told : Option AuditLine) → IsLineOf event line told → line ≡ None → told ≡ None
+no_line event line None is none = refl
+no_line event line (Some l) is none = absurd (let some = is.0 in cc)
+
+pub retried : (old new : Kept) (event : Event) (xid : ℕ) (first : List ℕ) (served : Served) →
+    served.reply ≡ reply_at old.policy old.journal event → IsLineOf (length old.journal + 1) (line_at old.policy old.journal event) served.line →
+    new.policy ≡ old.policy → new.journal ≡ old.journal ++ event ∷ [] → IsAnswered old.policy old.journal event xid first → IsRetried old new xid first served
+retried old new event xid first served reply line policy journal answered = record {
+  reply = reply ∙ answered.reply;
+  line = no_line (length old.journal + 1) (line_at old.policy old.journal event) served.line line answered.line;
+  world = (λ i. world_after (policy i) (journal i)) ∙ answered.world;
+}
