@@ -1,8 +1,9 @@
 //! A plain program that answers the recordings of bench/replay as `lnfs replay` does, to compare times with.
 //!
 //! It takes the guests of a policy file, reads a recording whole, keeps every event, and writes the frames of the
-//! replies: to an EXCHANGE_ID that stands alone its result, to any other COMPOUND the refusal of its first operation.
-//! It answers nothing else, checks no more than it must to find its way, and proves nothing.
+//! replies: to an EXCHANGE_ID or a CREATE_SESSION that stands alone its result; to a SEQUENCE with a RECLAIM_COMPLETE
+//! theirs, which it keeps in the slot for when the request comes again; to any other COMPOUND the refusal of its first
+//! operation. It answers nothing else, checks no more than it must to find its way, and proves nothing.
 
 use std::collections::BTreeMap;
 use std::io::{BufWriter, Read, Write};
@@ -15,6 +16,13 @@ struct Event {
 struct Client {
     number: u32,
     verifier: [u8; 8],
+}
+
+/// The last sequence of a slot, and the arguments that came under it with their result.
+#[derive(Clone, Default)]
+struct Slot {
+    sequence: u32,
+    kept: Option<(Vec<u8>, Vec<u8>)>,
 }
 
 struct Reader<'a>(&'a [u8]);
@@ -61,6 +69,8 @@ struct Server {
     guests: Vec<(u32, Option<u32>, u32)>,
     clients: BTreeMap<(u32, Vec<u8>), Client>,
     last: BTreeMap<u32, u32>,
+    sessions: BTreeMap<(u32, u64), Vec<Slot>>,
+    last_session: BTreeMap<u32, u64>,
     journal: Vec<Event>,
 }
 
@@ -79,6 +89,7 @@ impl Server {
         let uid = body.word()?;
         call.word()?;
         call.opaque()?;
+        let arguments = call.0;
         let tag = call.opaque()?;
         call.word()?;
         let count = call.word()?;
@@ -101,6 +112,19 @@ impl Server {
             opaque_to(out, b"labelled-nfs");
             opaque_to(out, b"labelled-nfs");
             out.extend(0u32.to_be_bytes());
+        } else if number == 43 && count == 1 {
+            call.take(8)?;
+            let sequence = call.word()?;
+            call.word()?;
+            let channels: Vec<u32> = (0..14).map_while(|_| call.word()).collect();
+            let session = self.create(level, *channels.get(5)? as usize);
+            out.extend(0u32.to_be_bytes());
+            opaque_to(out, tag);
+            for word in [1, 43, 0, level, 0, session as u32, 0, sequence, 0].iter().chain(&channels) {
+                out.extend(u32::to_be_bytes(*word));
+            }
+        } else if number == 53 {
+            self.sequence(tag, arguments, &mut call, out)?;
         } else {
             out.extend(10004u32.to_be_bytes());
             opaque_to(out, tag);
@@ -110,6 +134,43 @@ impl Server {
         }
         let head = 0x8000_0000 | (out.len() - 4) as u32;
         out[..4].copy_from_slice(&head.to_be_bytes());
+        Some(())
+    }
+
+    /// The number of a new session of so many slots.
+    fn create(&mut self, level: u32, slots: usize) -> u64 {
+        let last = self.last_session.entry(level).or_insert(0);
+        *last += 1;
+        self.sessions.insert((level, *last), vec![Slot::default(); slots]);
+        *last
+    }
+
+    /// Appends the result of a COMPOUND of SEQUENCE and RECLAIM_COMPLETE, the first time or again.
+    fn sequence(&mut self, tag: &[u8], arguments: &[u8], call: &mut Reader<'_>, out: &mut Vec<u8>) -> Option<()> {
+        let id = call.take(16)?;
+        let (sequence, at) = (call.word()?, call.word()?);
+        let level = u32::from_be_bytes(id[..4].try_into().ok()?);
+        let slots = self.sessions.get_mut(&(level, u64::from_be_bytes(id[4..12].try_into().ok()?)))?;
+        let highest = slots.len() as u32 - 1;
+        let slot = slots.get_mut(at as usize)?;
+        if let Some((kept, result)) = &slot.kept {
+            if slot.sequence == sequence {
+                out.extend(if kept == arguments { result } else { return None });
+                return Some(());
+            }
+        }
+        if sequence != slot.sequence + 1 {
+            return None;
+        }
+        let begin = out.len();
+        out.extend(0u32.to_be_bytes());
+        opaque_to(out, tag);
+        out.extend([0, 0, 0, 2, 0, 0, 0, 53, 0, 0, 0, 0]);
+        out.extend(id);
+        for word in [sequence, at, highest, highest, 0, 58, 0] {
+            out.extend(u32::to_be_bytes(word));
+        }
+        *slot = Slot { sequence, kept: Some((arguments.to_vec(), out[begin..].to_vec())) };
         Some(())
     }
 
