@@ -1,22 +1,21 @@
 -- The operations change rows of clients and sessions alone, so that the other rows of a world stay.
 use Rattle.std.proofs.Common.{◌≡◌, ℕ, Bool, true, false, ◌&&◌, not, List, [], ◌∷◌, ◌++◌, Option, Some, None, refl, sym, subst}
-use Rattle.std.specs.Prelude.{◌==◌, nat_lt, find, filter}
+use Rattle.std.specs.Prelude.{◌==◌, find, filter}
 use Rattle.lnfs_outside.specs.declared.event.Moment.{Moment}
 use Rattle.lnfs_arguments.specs.declared.types.CreateSession.{CreateSession}
-use Rattle.lnfs_world.specs.World.{Id, Kept, Client, Slot, Session, Open, World, client_at, session_at, last_of}
+use Rattle.lnfs_world.specs.World.{Id, Kept, Client, Slot, Session, Open, World, client_at, session_at}
 use Rattle.lnfs_world.specs.Change.{Change, AddClient, SetClient, DropClient, AddSession, SetSession, DropSession, apply, apply_all, is_open_of}
 use Rattle.lnfs_world.specs.Outcome.{Place, Outcome, begins_at, done_to}
-use Rattle.lnfs_operations.specs.declared.numbers.TheConstants.{EXCHGID4_FLAG_CONFIRMED_R, EXCHGID4_FLAG_UPD_CONFIRMED_REC_A, CLIENTS_OF_A_LEVEL, SESSIONS_OF_A_LEVEL, LAST_NUMBER}
-use Rattle.lnfs_operations.specs.Chain.{done, demand, where_there}
 use Rattle.lnfs_operations.specs.Identifiers.{client_named, session_named, session_under}
-use Rattle.lnfs_operations.specs.InOrder.{sequence_before}
-use Rattle.lnfs_operations.specs.ExchangeId.{Arguments, has_flag, is_confirmed_as, is_pending, others_of, dropped, exchange_id}
-use Rattle.lnfs_operations.specs.CreateSession.{Again, is_large_enough, is_replaced, sessions_of, made, created, create_session}
+use Rattle.lnfs_operations.specs.ExchangeId.{Arguments, is_pending, dropped, exchange_id}
+use Rattle.lnfs_operations.specs.CreateSession.{is_replaced, created, create_session}
 use Rattle.lnfs_operations.specs.DestroySession.{destroy_session}
 use Rattle.lnfs_operations.specs.DestroyClientId.{is_busy, destroy_clientid}
 use Rattle.lnfs_operations.specs.ReclaimComplete.{reclaim_complete}
 use Rattle.lnfs_operations.specs.Keeping.{kept_in, kept_under, keep_result, kept_of, keep_created}
-use Rattle.lnfs_operations.proofs.Chains.{in_order_any}
+use Rattle.lnfs_operations.proofs.Chains.{demand_any, where_any}
+use Rattle.lnfs_operations.proofs.ExchangeIdLaws.{exchange_id_any}
+use Rattle.lnfs_operations.proofs.CreateSessionLaws.{created_any}
 use Rattle.lnfs_operations.proofs.Once.{reclaim_any}
 use Rattle.lnfs_session.specs.Standing.{Lists, lists_of, standing}
 
@@ -67,14 +66,6 @@ pub record IsOwn {A : Type 0} (next : Place) (o : Outcome A) : Type 0 where
   pub own : are_own o.changes ≡ true
   pub place : o.place ≡ next
 
-demand_own : {A : Type 0} (next : Place) (test : Bool) (refusal passed : Outcome A) → IsOwn next refusal → IsOwn next passed → IsOwn next (demand test refusal passed)
-demand_own next true refusal passed a b = b
-demand_own next false refusal passed a b = a
-
-where_own : {X A : Type 0} (next : Place) (o : Option X) (found : X → Outcome A) (absent : Outcome A) → ((x : X) → IsOwn next (found x)) → IsOwn next absent → IsOwn next (where_there o found absent)
-where_own next None found absent a b = b
-where_own next (Some x) found absent a b = a x
-
 stays_own : {A : Type 0} (p : Place) (answer : A) → IsOwn p (record { answer = answer; place = p; changes = [] })
 stays_own p answer = record { own = refl; place = refl }
 
@@ -83,42 +74,33 @@ dropped_own None cs own = own
 dropped_own (Some c) cs own = own
 
 pub exchange_id_own : (args : Arguments) (p : Place) (w : World) → IsOwn p (exchange_id args p w)
-exchange_id_own args p w =
-    demand_own p (not (has_flag args.flags EXCHGID4_FLAG_CONFIRMED_R)) _ _ (stays_own p _) (
-    demand_own p (not (has_flag args.flags EXCHGID4_FLAG_UPD_CONFIRMED_REC_A)) _ _ (stays_own p _) (
-    where_own p (find (is_confirmed_as p.subject args.owner args.verifier) w.clients) _ _ (λ c. stays_own p _) (
-    demand_own p (nat_lt (others_of p.subject args.owner w.clients) CLIENTS_OF_A_LEVEL) _ _ (stays_own p _) (
-    demand_own p (nat_lt (last_of p.subject w.lasts.clients) LAST_NUMBER) _ _ (stays_own p _)
-    (record { own = dropped_own (find (is_pending p.subject args.owner) w.clients) _ refl; place = refl })))))
+exchange_id_own args p w = exchange_id_any (IsOwn p) args p w (λ gate status. stays_own p _) (λ told. stays_own p _)
+    (record { own = dropped_own (find (is_pending p.subject args.owner) w.clients) _ refl; place = refl })
 
 -- at the place of the first operation
 module _ (level : ℕ) (moment : Moment) (w : World) where
   abbrev at : Place
   at = begins_at level moment
 
-  made_own : (args : CreateSession) (c : Client) → IsOwn at (made args at w c)
-  made_own args c =
-      demand_own at (is_large_enough args.fore) _ _ (stays_own at _) (
-      demand_own at (nat_lt (sessions_of level w.sessions) SESSIONS_OF_A_LEVEL) _ _ (stays_own at _) (
-      demand_own at (nat_lt (last_of level w.lasts.sessions) LAST_NUMBER) _ _ (stays_own at _)
-      (record { own = dropped_own (find (is_replaced c) w.clients) _ refl; place = refl })))
-
   pub create_session_own : (args : CreateSession) (arguments : List ℕ) → IsOwn at (create_session args arguments at w)
   create_session_own args arguments =
-      demand_own at ((client_named args.client).level == level) _ _ (stays_own at _) (
-      where_own at (client_at w.clients (client_named args.client)) (created args arguments at w) _ (λ c.
-      in_order_any (IsOwn at) at (sequence_before c.sequence) c.sequence c.kept args.sequence arguments (λ reply. done at (Again reply) []) (made args at w c) (λ status. stays_own at _) (λ k kept. stays_own at _) (λ next. made_own args c))
+      demand_any (IsOwn at) ((client_named args.client).level == level) _ _ (stays_own at _) (λ own.
+      where_any (IsOwn at) (client_at w.clients (client_named args.client)) (created args arguments at w) _ (λ c found.
+      created_any (IsOwn at) args arguments at w c (λ gate status. stays_own at _) (λ kept there. stays_own at _)
+      (λ large. record { own = dropped_own (find (is_replaced c) w.clients) _ refl; place = refl }))
       (stays_own at _))
 
   pub destroy_session_own : (session : List ℕ) → IsOwn at (destroy_session session at w)
   destroy_session_own session =
-      demand_own at ((session_named session).level == level) _ _ (stays_own at _) (
-      where_own at (session_under session w.sessions) _ _ (λ x. record { own = refl; place = refl }) (stays_own at _))
+      demand_any (IsOwn at) ((session_named session).level == level) _ _ (stays_own at _) (λ own.
+      where_any (IsOwn at) (session_under session w.sessions) _ _ (λ x found. record { own = refl; place = refl }) (stays_own at _))
 
   pub destroy_clientid_own : (client : ℕ) → IsOwn at (destroy_clientid client at w)
   destroy_clientid_own client =
-      demand_own at ((client_named client).level == level) _ _ (stays_own at _) (
-      where_own at (client_at w.clients (client_named client)) _ _ (λ c. demand_own at (not (is_busy c.id w)) _ _ (stays_own at _) (record { own = refl; place = refl })) (stays_own at _))
+      demand_any (IsOwn at) ((client_named client).level == level) _ _ (stays_own at _) (λ own.
+      where_any (IsOwn at) (client_at w.clients (client_named client)) _ _
+      (λ c found. demand_any (IsOwn at) (not (is_busy c.id w)) _ _ (stays_own at _) (λ idle. record { own = refl; place = refl }))
+      (stays_own at _))
 
 pub reclaim_complete_own : (one_fs : Bool) (p : Place) (w : World) → IsOwn p (reclaim_complete one_fs p w)
 reclaim_complete_own one_fs p w = reclaim_any (IsOwn p) one_fs p w (λ status. stays_own p _) (stays_own p _) (λ c. record { own = refl; place = refl })

@@ -1,5 +1,5 @@
 -- The ends of a SEQUENCE, by what the clients answered.
-use Rattle.std.proofs.Common.{◌≡◌, ◌-◌, ℕ, List, Bool, true, false, [], Option, Some, None, Ok, Err, refl, sym, ap, ◌∙◌, subst, arith}
+use Rattle.std.proofs.Common.{◌≡◌, ◌-◌, ℕ, List, [], Some, Ok, Err, refl, sym, ap, ◌∙◌, subst, arith}
 use Rattle.std.specs.Prelude.{◌==◌, nat_le, slice_get, option_map}
 use Rattle.std.proofs.lemmas.Bool.Decides.{nat_tests}
 use Rattle.lnfs_outside.specs.declared.event.Moment.{Moment}
@@ -10,11 +10,11 @@ use Rattle.lnfs_world.specs.Outcome.{Place, Outcome, begins_at, done_to}
 use Rattle.lnfs_world.specs.Change.{apply_all}
 use Rattle.lnfs_operations.specs.declared.Gate.{Gate}
 use Rattle.lnfs_operations.specs.declared.Gate.TheVariants as gates
-use Rattle.lnfs_operations.specs.Chain.{Answer, Done, Refused, Refusal, refuse, done, demand, where_there}
+use Rattle.lnfs_operations.specs.Chain.{Answer, Done, Refused, Refusal, refuse, done}
 use Rattle.lnfs_operations.specs.Identifiers.{session_named, session_under}
 use Rattle.lnfs_operations.specs.Keeping.{next_sequence}
 use Rattle.lnfs_operations.specs.Sequence.{Sent, Sequenced, New, Again, in_session, on_slot, under_session, sequence}
-use Rattle.lnfs_operations.proofs.Chains.{in_order_any}
+use Rattle.lnfs_operations.proofs.Chains.{demand_any, where_any, in_order_any}
 use Rattle.lnfs_operations.proofs.SessionLaws.{session_at-id, session_under-at}
 use Rattle.lnfs_operations.specs.Served as Keep
 use Rattle.lnfs_operations.specs.Served.{reply_of, sequence_reply, row}
@@ -33,25 +33,17 @@ use Rattle.lnfs_engine.specs.Results.{sequence_result}
 module _ (args : Sequence) (sent : Sent) (p : Place) (w : World) (P : Outcome (Answer Sequenced) → Type 0)
     (refused : (gate : Gate) (status : ℕ) → P (refuse p gate status)) (again : (reply : List ℕ) → P (done p (Again reply) []))
     (new : (x : Session) → x.id.level ≡ p.subject → session_at w.sessions x.id ≡ Some x → P (done (in_session p x) (New x) [])) where
-  either : (test : Bool) (x y : Outcome (Answer Sequenced)) → P x → (test ≡ true → P y) → P (demand test x y)
-  either true x y a b = b refl
-  either false x y a b = a
-
-  found_or : {X : Type 0} (o : Option X) (found : X → Outcome (Answer Sequenced)) (absent : Outcome (Answer Sequenced)) → ((x : X) → o ≡ Some x → P (found x)) → P absent → P (where_there o found absent)
-  found_or None found absent a b = b
-  found_or (Some x) found absent a b = a x refl
-
   -- what holds of each end holds of the outcome
   pub sequence_any : P (sequence args sent p w)
   sequence_any =
-      either ((session_named args.session).level == p.subject) _ _ (refused _ _) (λ own.
-      found_or (session_under args.session w.sessions) (under_session args sent p) _ (λ x found.
+      demand_any P ((session_named args.session).level == p.subject) _ _ (refused _ _) (λ own.
+      where_any P (session_under args.session w.sessions) (under_session args sent p) _ (λ x found.
       let at = session_under-at args.session w.sessions x found in
       let id : x.id ≡ session_named args.session = session_at-id (session_named args.session) w.sessions x at in
       let level : x.id.level ≡ p.subject = grind (arith, nat_tests, own, id) in
-      either (nat_le sent.size x.channel.max_request) _ _ (refused _ _) (λ short.
-      either (nat_le sent.count x.channel.max_operations) _ _ (refused _ _) (λ few.
-      found_or (slice_get x.slots args.slot) (on_slot args sent p x) _ (λ slot there.
+      demand_any P (nat_le sent.size x.channel.max_request) _ _ (refused _ _) (λ short.
+      demand_any P (nat_le sent.count x.channel.max_operations) _ _ (refused _ _) (λ few.
+      where_any P (slice_get x.slots args.slot) (on_slot args sent p x) _ (λ slot there.
       in_order_any P p slot.sequence (next_sequence slot.sequence) slot.kept args.sequence sent.arguments (λ reply. done p (Again reply) []) (done (in_session p x) (New x) [])
       (λ status. refused gates.Session status) (λ k kept. again k.reply) (λ next. new x level (ap (session_at w.sessions) id ∙ at)))
       (refused _ _))))

@@ -9,7 +9,7 @@ use Rattle.lnfs_results.specs.Numbered.{status_of_all}
 use Rattle.lnfs_results.specs.Texts.{result_text}
 use Rattle.lnfs_world.specs.World.{World}
 use Rattle.lnfs_world.specs.Both.{Both, both}
-use Rattle.lnfs_operations.specs.Results as compound
+use Rattle.lnfs_operations.specs.Results as operations
 use Rattle.lnfs_operations.specs.SlotRule.{Ran}
 use Rattle.lnfs_engine.specs.declared.place.Place.{Place}
 use Rattle.lnfs_engine.specs.declared.run.Denial.{Denial}
@@ -17,7 +17,7 @@ use Rattle.lnfs_engine.specs.declared.run.Ended.{Ended}
 use Rattle.lnfs_engine.specs.declared.run.Ended.TheVariants as ended
 use Rattle.lnfs_engine.specs.Places.{place_of, keeper_of}
 
-abbrev pub denial_of : Denial → compound.Denial
+abbrev pub denial_of : Denial → operations.Denial
 denial_of d = record { place = d.place; number = d.number; gate = d.gate; status = d.status }
 
 -- the status of a new result: that of the last operation, unless another minor version is refused

@@ -1,5 +1,5 @@
 //! One operation in its COMPOUND.
-ghost use Rattle.std.specs.Prelude.{◌≡◌, ◌-◌, [], List, ℕ, length, IfOk};
+ghost use Rattle.std.specs.Prelude.{◌≡◌, ◌-◌, [], List, length, IfOk};
 ghost use Rattle.lnfs_outside.specs.declared.event.Moment.{Moment};
 ghost use Rattle.lnfs_arguments.specs.declared.types.Op.TheVariants as ops;
 ghost use Rattle.lnfs_results.specs.declared.types.OpResult.{OpResult};

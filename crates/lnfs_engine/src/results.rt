@@ -1,14 +1,10 @@
 //! The results of the operations of a COMPOUND (RFC 8881 section 16.2.2).
-ghost use Rattle.std.specs.Prelude.{◌≡◌, ◌-◌, None, Some, IfOk};
-ghost use Rattle.lnfs_arguments.specs.declared.types.Op.TheVariants as ops;
+ghost use Rattle.std.specs.Prelude.{◌≡◌, IfOk};
 ghost use Rattle.lnfs_results.specs.Fits.{ResultSized};
 ghost use Rattle.lnfs_results.specs.Numbered.{status_of};
 ghost use Rattle.lnfs_session.specs.Answers.{told_of};
-ghost use Rattle.lnfs_session.specs.Listed.{channel_of};
-ghost use Rattle.lnfs_operations.specs.CreateSession as create;
 ghost use Rattle.lnfs_operations.specs.Identifiers.{client_id, session_id};
 ghost use Rattle.lnfs_operations.specs.Results.{flags_of, told_result, failed};
-ghost use Rattle.lnfs_operations.specs.Served.{sizes_of};
 ghost use Rattle.lnfs_engine.specs.Results.{created_result, sequence_result};
 
 use lnfs_arguments::{Channel, CreateSession, Op, Sequence};

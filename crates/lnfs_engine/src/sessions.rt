@@ -1,6 +1,6 @@
 //! The operations on sessions: CREATE_SESSION, DESTROY_SESSION and SEQUENCE (RFC 8881 sections 18.36,
 //! 18.37 and 18.46).
-ghost use Rattle.std.specs.Prelude.{◌≡◌, ◌++◌, [], List, ℕ, IfOk, MatchOption};
+ghost use Rattle.std.specs.Prelude.{◌≡◌, [], List, ℕ, IfOk, MatchOption};
 ghost use Rattle.lnfs_outside.specs.declared.event.Moment.{Moment};
 ghost use Rattle.lnfs_arguments.specs.declared.types.Op.TheVariants as ops;
 ghost use Rattle.lnfs_world.specs.World.{Session, World, client_at};

@@ -17,7 +17,7 @@ abbrev pub as_run : Found → Run
 as_run run = record { first = run.first; last = run.last }
 
 -- c is the first compartment from a number on
-pub record IsFirstFrom (comps : List ℕ) (from c : ℕ) : Type 0 where
+pub record HasOriginFrom (comps : List ℕ) (from c : ℕ) : Type 0 where
   pub least : from ≤ c
   pub below : c < COMPARTMENTS
   pub member : has_comp comps c ≡ true

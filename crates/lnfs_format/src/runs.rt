@@ -4,7 +4,7 @@ ghost use Rattle.std.specs.Prelude.{◌≡◌, ℕ, ◌+◌, ◌<◌, ◌≤◌,
 ghost use Rattle.lnfs_calipso.specs.Label.{has_comp};
 ghost use Rattle.std.specs.Fmt.{decimal};
 ghost use Rattle.lnfs_format.specs.Text.{comp_text, separator, run_text, comps_text};
-ghost use Rattle.lnfs_format.specs.Runs.{HasRun, IsFirstFrom, IsRun, as_run};
+ghost use Rattle.lnfs_format.specs.Runs.{HasRun, HasOriginFrom, IsRun, as_run};
 
 use lnfs_calipso::{COMPARTMENTS, Label};
 use std::alloc::AllocError;
@@ -67,7 +67,7 @@ fn put_run(text: &mut Vec<u8>, run: Run) -> Result<(), AllocError>
 fn first_from(label: &Label, from: u16) -> Option<u16>
     requires { from ≤ COMPARTMENTS }
     ensures { MatchOption result ((c : ℕ) → from ≤ c → c < COMPARTMENTS → has_comp label.now.comps c ≡ false)
-        (IsFirstFrom label.now.comps from) }
+        (HasOriginFrom label.now.comps from) }
 {
     for comp in from..COMPARTMENTS {
         if label.has(comp) {

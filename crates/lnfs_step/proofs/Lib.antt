@@ -5,3 +5,5 @@ pub mod Compounds
 pub mod Steps
 pub mod Lengths
 pub mod Slots
+pub mod Keeping
+pub mod Origins

@@ -29,13 +29,13 @@ use Rattle.lnfs_step.specs.Sessions.{ComesOnSlot, ComesToClient, IsAnswered}
 use Rattle.lnfs_operations.proofs.SizeLaws.{fits_named}
 
 -- the step of a COMPOUND
-step_is : (p : Policy) (b : Both ⊥) (event : Event) (level xid : ℕ) (arguments : List ℕ) (c : Compound) → request_of p event.class event.message ≡ Asked level xid arguments c →
+pub step_is : (p : Policy) (b : Both ⊥) (event : Event) (level xid : ℕ) (arguments : List ℕ) (c : Compound) → request_of p event.class event.message ≡ Asked level xid arguments c →
     step_with no_extra p b event ≡ answered xid (served no_extra (site_of p) (sent_of event arguments c) c (begins_at level event.moment) b)
 unfolding step_with
 step_is p b event level xid arguments c asked = ap (step_of no_extra p b event) asked
 
 -- the state after one more event
-state_next : (p : Policy) (journal : List Event) (event : Event) → state_after no_extra p (journal ++ event ∷ []) ≡ (step_with no_extra p (state_after no_extra p journal) event).state
+pub state_next : (p : Policy) (journal : List Event) (event : Event) → state_after no_extra p (journal ++ event ∷ []) ≡ (step_with no_extra p (state_after no_extra p journal) event).state
 state_next p journal event = state_from-append no_extra p (first_state no_extra p) journal event
 
 -- an event that is answered again, by what is served

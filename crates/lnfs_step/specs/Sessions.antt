@@ -1,5 +1,5 @@
--- A COMPOUND that comes on a slot of a session, or as a CREATE_SESSION to the record of its client, and one that is
--- answered again.
+-- A COMPOUND that comes on a slot of a session, or as a CREATE_SESSION to the record of its client, one that is
+-- answered again, and one that got what is kept.
 use Rattle.std.specs.Prelude.{◌≡◌, ℕ, List, [], ◌∷◌, ◌++◌, Some, None}
 use Rattle.lnfs_outside.specs.declared.event.Event.{Event}
 use Rattle.lnfs_rpc.specs.Replies.{reply_text}
@@ -9,7 +9,7 @@ use Rattle.lnfs_arguments.specs.declared.types.Compound.{Compound}
 use Rattle.lnfs_arguments.specs.declared.types.CreateSession.{CreateSession}
 use Rattle.lnfs_arguments.specs.declared.types.Sequence.{Sequence}
 use Rattle.lnfs_policy.specs.Policy.{Policy}
-use Rattle.lnfs_world.specs.World.{Client, Slot, Session, client_at}
+use Rattle.lnfs_world.specs.World.{Client, Kept, Slot, Session, client_at}
 use Rattle.lnfs_operations.specs.Identifiers.{client_named}
 use Rattle.lnfs_operations.specs.Retries.{Names}
 use Rattle.lnfs_step.specs.declared.numbers.TheConstants.{SUCCESS}
@@ -41,3 +41,14 @@ pub record IsAnswered (p : Policy) (journal : List Event) (event : Event) (xid :
   pub reply : reply_at p journal event ≡ Some (reply_text xid (plainly SUCCESS) result)
   pub world : world_after p (journal ++ event ∷ []) ≡ world_after p journal
   pub line : line_at p journal event ≡ None
+
+-- An event of a journal asked these arguments at a level, and got this result.
+pub record HasOrigin (p : Policy) (journal : List Event) (level : ℕ) (kept : Kept) : Type 0 where
+  pub before : List Event
+  pub event : Event
+  pub behind : List Event
+  pub place : journal ≡ before ++ event ∷ behind
+  pub xid : ℕ
+  pub compound : Compound
+  pub request : request_of p event.class event.message ≡ Asked level xid kept.arguments compound
+  pub reply : reply_at p before event ≡ Some (reply_text xid (plainly SUCCESS) kept.reply)

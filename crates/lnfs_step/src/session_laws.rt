@@ -1,5 +1,5 @@
 //! The laws of requests that come again, as the contract of a function that does nothing.
-ghost use Rattle.std.specs.Prelude.{◌≡◌, ◌≤◌, ℕ, List, [], ◌∷◌, ◌++◌, Some, length, IfSome};
+ghost use Rattle.std.specs.Prelude.{◌≡◌, ◌≤◌, ℕ, List, [], ◌∷◌, ◌++◌, Some, length, IfSome, slice_get};
 ghost use Rattle.lnfs_calipso.specs.Label.{IsPreorderWithBottom};
 ghost use Rattle.lnfs_outside.specs.declared.event.Event.{Event};
 ghost use Rattle.lnfs_rpc.specs.Replies.{reply_text};
@@ -7,15 +7,16 @@ ghost use Rattle.lnfs_arguments.specs.declared.types.Compound.{Compound};
 ghost use Rattle.lnfs_arguments.specs.declared.types.CreateSession.{CreateSession};
 ghost use Rattle.lnfs_arguments.specs.declared.types.Sequence.{Sequence};
 ghost use Rattle.lnfs_policy.specs.Policy.{Policy, dominance};
-ghost use Rattle.lnfs_world.specs.World.{Client, Slot, Session};
+ghost use Rattle.lnfs_world.specs.World.{Id, Kept, Client, Slot, Session, client_at, session_at};
 ghost use Rattle.lnfs_operations.specs.InOrder.{sequence_before};
 ghost use Rattle.lnfs_operations.specs.Keeping.{next_sequence};
 ghost use Rattle.lnfs_step.specs.declared.numbers.TheConstants.{SUCCESS};
 ghost use Rattle.lnfs_step.specs.Request.{Asked, request_of, plainly};
-ghost use Rattle.lnfs_step.specs.Journal.{reply_at};
-ghost use Rattle.lnfs_step.specs.Sessions.{ComesOnSlot, ComesToClient, IsAnswered};
+ghost use Rattle.lnfs_step.specs.Journal.{world_after, reply_at};
+ghost use Rattle.lnfs_step.specs.Sessions.{ComesOnSlot, ComesToClient, IsAnswered, HasOrigin};
 
-/// Sessions over journals: a COMPOUND that comes again gets the result that it got, and acts once.
+/// Sessions over journals: a COMPOUND that comes again gets the result that it got, and acts once; every result that
+/// is kept is one that an event of the journal got.
 pub fn sessions()
     // The COMPOUND whose result its slot keeps gets that result (RFC 8881 section 2.10.6.1).
     ensures retry { (p : Policy) (journal : List Event) (event : Event) (level xid : ℕ) (arguments : List ℕ) (c : Compound) (args : Sequence) (x : Session) (slot : Slot) (result : List ℕ) →
@@ -34,6 +35,14 @@ pub fn sessions()
         ComesOnSlot p journal event level xid arguments c args x slot → args.sequence ≡ next_sequence slot.sequence →
         request_of p again.class again.message ≡ Asked level other arguments c → length again.message ≤ x.channel.max_request →
         (result : List ℕ) × (reply_at p journal event ≡ Some (reply_text xid (plainly SUCCESS) result)) × IsAnswered p (journal ++ event ∷ []) again other result }
+    // What a slot of a session keeps is what an event of the journal got, of the session's level.
+    ensures origin { (p : Policy) → IsPreorderWithBottom (dominance p) → (journal : List Event) (i : Id) (x : Session) (n : ℕ) (slot : Slot) (kept : Kept) →
+        session_at (world_after p journal).sessions i ≡ Some x → slice_get x.slots n ≡ Some slot → slot.kept ≡ Some kept →
+        HasOrigin p journal i.level kept }
+    // So is what a client's record keeps of its last CREATE_SESSION.
+    ensures origin_created { (p : Policy) → IsPreorderWithBottom (dominance p) → (journal : List Event) (i : Id) (client : Client) (kept : Kept) →
+        client_at (world_after p journal).clients i ≡ Some client → client.kept ≡ Some kept →
+        HasOrigin p journal i.level kept }
     // The reply to a COMPOUND on a slot has no more bytes than its session's responses, be the COMPOUND new, a
     // retry or out of order (RFC 8881 section 2.10.6.4).
     ensures room { (p : Policy) → IsPreorderWithBottom (dominance p) → (journal : List Event) (event : Event) (level xid : ℕ) (arguments : List ℕ) (c : Compound) (args : Sequence) (x : Session) (slot : Slot) →

@@ -3,7 +3,7 @@ use Rattle.std.proofs.Common.{◌≡◌, ◌+◌, ℕ, List, [], ◌∷◌, ◌+
 use Rattle.lnfs_outside.specs.declared.event.Event.{Event}
 use Rattle.lnfs_step.specs.Step.{Line}
 use Rattle.lnfs_step.specs.Journal.{world_after, reply_at, line_at}
-use Rattle.lnfs_step.specs.Sessions.{IsAnswered}
+use Rattle.lnfs_step.specs.Sessions.{HasOrigin, IsAnswered}
 use Rattle.lnfs_vault.specs.Kept.{Kept}
 use Rattle.lnfs_vault.specs.Lines.{IsLineOf}
 use Rattle.lnfs_vault.specs.Retried.{IsRetried}
@@ -14,10 +14,11 @@ no_line : (event : ℕ) (line : Option Line) (told : Option AuditLine) → IsLin
 no_line event line None is none = refl
 no_line event line (Some l) is none = absurd (let some = is.0 in cc)
 
-pub retried : (old new : Kept) (event : Event) (xid : ℕ) (first : List ℕ) (served : Served) →
+pub retried : (old new : Kept) (event : Event) (level xid : ℕ) (arguments first : List ℕ) (served : Served) →
     served.reply ≡ reply_at old.policy old.journal event → IsLineOf (length old.journal + 1) (line_at old.policy old.journal event) served.line →
-    new.policy ≡ old.policy → new.journal ≡ old.journal ++ event ∷ [] → IsAnswered old.policy old.journal event xid first → IsRetried old new xid first served
-retried old new event xid first served reply line policy journal answered = record {
+    new.policy ≡ old.policy → new.journal ≡ old.journal ++ event ∷ [] → HasOrigin old.policy old.journal level (record { arguments = arguments; reply = first }) → IsAnswered old.policy old.journal event xid first → IsRetried old new level xid arguments first served
+retried old new event level xid arguments first served reply line policy journal origin answered = record {
+  origin = origin;
   reply = reply ∙ answered.reply;
   line = no_line (length old.journal + 1) (line_at old.policy old.journal event) served.line line answered.line;
   world = (λ i. world_after (policy i) (journal i)) ∙ answered.world;

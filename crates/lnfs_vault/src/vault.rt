@@ -132,16 +132,16 @@ impl Vault {
         // purged from the journal.
         ensures answer { IfOk result (λ served. served.reply ≡ answer self.old.policy self.old.journal event) }
         // A COMPOUND that comes again on its slot, with the arguments that the slot keeps, gets the result of
-        // the first time (RFC 8881 section 2.10.6.1).
+        // the first time: what an event of the journal got (RFC 8881 section 2.10.6.1).
         ensures retry { (level xid : ℕ) (arguments : List ℕ) (c : Compound) (args : Sequence) (x : Session) (slot : Slot) (first : List ℕ) →
             ComesOnSlot self.old.policy self.old.journal event level xid arguments c args x slot →
             slot ≡ record { sequence = args.sequence; kept = Some (record { arguments = arguments; reply = first }) } →
-            IfOk result (IsRetried self.old self.new xid first) }
+            IfOk result (IsRetried self.old self.new level xid arguments first) }
         // So does a CREATE_SESSION, with those that its client's record keeps (RFC 8881 section 18.36.4).
         ensures created { (level xid : ℕ) (arguments : List ℕ) (c : Compound) (args : CreateSession) (client : Client) (first : List ℕ) →
             ComesToClient self.old.policy self.old.journal event level xid arguments c args client →
             args.sequence ≡ sequence_before client.sequence → client.kept ≡ Some (record { arguments = arguments; reply = first }) →
-            IfOk result (IsRetried self.old self.new xid first) }
+            IfOk result (IsRetried self.old self.new level xid arguments first) }
         // The reply to a COMPOUND on a slot has no more bytes than its session's responses.
         ensures room { (level xid : ℕ) (arguments : List ℕ) (c : Compound) (args : Sequence) (x : Session) (slot : Slot) →
             ComesOnSlot self.old.policy self.old.journal event level xid arguments c args x slot →

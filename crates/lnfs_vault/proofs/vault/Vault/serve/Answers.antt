@@ -5,9 +5,13 @@ use Rattle.lnfs_world.specs.Both.{Both}
 use Rattle.lnfs_operations.specs.Extra.{no_extra}
 use Rattle.lnfs_step.specs.First.{first_world}
 use Rattle.lnfs_step.specs.Step.{step_with}
-use Rattle.lnfs_step.specs.Journal.{first_state, reply_with, line_with, reply_at, line_at, answer}
+use Rattle.lnfs_step.specs.Journal.{first_state, reply_with, line_with, reply_at, line_at, world_after, answer}
 use Rattle.lnfs_step.proofs.FirstWorlds.{first_bare}
 use Rattle.lnfs_step.proofs.Steps.{state_from-append}
+use Rattle.lnfs_world.specs.World as rows
+use Rattle.lnfs_operations.specs.Identifiers.{client_named, session_named}
+use Rattle.lnfs_operations.proofs.SessionLaws.{session_under-at}
+use Rattle.lnfs_step.specs.Sessions.{HasOrigin}
 use Rattle.lnfs_vault.specs.Kept.{Kept}
 use Rattle.lnfs_vault.specs.Lines.{IsLineOf}
 use Rattle.lnfs_vault.proofs.Keeping.{stands_alone}
@@ -61,17 +65,26 @@ returns-clause-at c = subst (λ (k : Kept). c.in_ok-served.served.at ≡ length 
 pub returns-clause-retry : goal.returns-clause-retry
 returns-clause-retry c = λ level xid arguments compound args x slot first comes same.
     let old = c.args.self.now in
-    retried old _ c.args.event xid first c.in_ok-served.served (returns-clause-reply c) (returns-clause-line c)
+    let lattice = subst (λ (k : Kept). IsPreorderWithBottom (dominance k.policy)) c.self.view_is c.is_preordered.ensures in
+    let kept : rows.Kept = record { arguments = arguments; reply = first } in
+    let names = comes.names in
+    let there = session_under-at args.session (world_after old.policy old.journal).sessions x names.session in
+    let origin = c.sessions.ensures.origin old.policy lattice old.journal (session_named args.session) x args.slot slot kept there names.slot (ap (λ (s : rows.Slot). s.kept) same) in
+    retried old _ c.args.event level xid arguments first c.in_ok-served.served (returns-clause-reply c) (returns-clause-line c)
     (ap (λ (k : Kept). k.policy) c.self.view_is)
     (c.in_ok-served.ensures.ok ∙ ap (λ (k : Kept). k.journal ++ c.args.event ∷ []) c.self.view_is)
+    (subst (λ l. HasOrigin old.policy old.journal l kept) names.own origin)
     (c.sessions.ensures.retry old.policy old.journal c.args.event level xid arguments compound args x slot first comes same)
 
 pub returns-clause-created : goal.returns-clause-created
 returns-clause-created c = λ level xid arguments compound args client first comes last kept.
     let old = c.args.self.now in
-    retried old _ c.args.event xid first c.in_ok-served.served (returns-clause-reply c) (returns-clause-line c)
+    let lattice = subst (λ (k : Kept). IsPreorderWithBottom (dominance k.policy)) c.self.view_is c.is_preordered.ensures in
+    let origin = c.sessions.ensures.origin_created old.policy lattice old.journal (client_named args.client) client (record { arguments = arguments; reply = first }) comes.record_of kept in
+    retried old _ c.args.event level xid arguments first c.in_ok-served.served (returns-clause-reply c) (returns-clause-line c)
     (ap (λ (k : Kept). k.policy) c.self.view_is)
     (c.in_ok-served.ensures.ok ∙ ap (λ (k : Kept). k.journal ++ c.args.event ∷ []) c.self.view_is)
+    (subst (λ l. HasOrigin old.policy old.journal l (record { arguments = arguments; reply = first })) comes.own origin)
     (c.sessions.ensures.created old.policy old.journal c.args.event level xid arguments compound args client first comes last kept)
 
 pub returns-clause-room : goal.returns-clause-room
