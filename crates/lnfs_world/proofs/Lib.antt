@@ -19,5 +19,7 @@ pub mod Tamed
 pub mod Lawfulness
 pub mod Beside
 pub mod Views
+pub mod Seen
 pub mod Places
 pub mod Alone
+pub mod FirstTrees

@@ -11,7 +11,7 @@ use Rattle.lnfs_world.specs.Erased.{lasts_seen}
 use Rattle.lnfs_world.proofs.Keys.{id_same, id_itself}
 use Rattle.lnfs_world.proofs.Rows.{find-kept, all_find}
 
-same_option : {X : Type 0} (o : Option X) → option_map (λ x. x) o ≡ o
+pub same_option : {X : Type 0} (o : Option X) → option_map (λ x. x) o ≡ o
 same_option None = refl
 same_option (Some x) = refl
 

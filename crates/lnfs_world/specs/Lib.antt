@@ -1,5 +1,6 @@
 pub mod Rows
 pub mod World
+pub mod Names
 pub mod Erased
 pub mod Tree
 pub mod Change
@@ -9,3 +10,4 @@ pub mod Outcome
 pub mod Tame
 pub mod Lawful
 pub mod Both
+pub mod First

@@ -1,7 +1,7 @@
 -- What an operation answers and does, and what is proved of each operation.
 use Rattle.std.specs.Prelude.{◌≡◌, ℕ, Bool, true, false, ◌&&◌, ◌==◌, List, Option, Some, None}
 use Rattle.lnfs_outside.specs.declared.event.Moment.{Moment}
-use Rattle.lnfs_world.specs.World.{Id, Session, World, session_at}
+use Rattle.lnfs_world.specs.World.{Id, Session, Stored, World, session_at}
 use Rattle.lnfs_world.specs.Erased.{erased}
 use Rattle.lnfs_world.specs.Change.{Change, apply_all}
 use Rattle.lnfs_world.specs.Facts.{Facts, has_confirmed}
@@ -17,6 +17,8 @@ pub record Site : Type 0 where
   -- the most nodes and the most bytes of each level
   pub nodes : ℕ → ℕ
   pub bytes : ℕ → ℕ
+  -- the label of each level as the site writes it
+  pub spelling : ℕ → Stored
 
 -- Where an operation stands: who asks, and when; the client and the session under which it came, both
 -- numbers of the subject's level; and the two file handles of its COMPOUND (RFC 8881 section 2.2.2).

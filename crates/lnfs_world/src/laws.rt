@@ -1,13 +1,14 @@
 //! The laws of worlds, as contracts of functions that do nothing.
-ghost use Rattle.std.specs.Prelude.{◌≡◌, ◌↔◌, ℕ, suc, Bool, true, false, Some, option_map};
+ghost use Rattle.std.specs.Prelude.{◌≡◌, ◌↔◌, ℕ, suc, Bool, true, false, List, Option, Some, option_map};
 ghost use Rattle.lnfs_calipso.specs.Label.{IsPreorderWithBottom};
-ghost use Rattle.lnfs_world.specs.World.{Id, Node, World, node_at, label_at, directory_at};
+ghost use Rattle.lnfs_world.specs.World.{Id, Stored, Node, World, node_at, label_at, directory_at};
 ghost use Rattle.lnfs_world.specs.Erased.{erased, sees, shrunk, blank, outer_of, dominates_label};
 ghost use Rattle.lnfs_world.specs.Tree.{Tree, LeadsTo, parent_of, way_up, goes_under};
 ghost use Rattle.lnfs_world.specs.Change.{Change, apply};
 ghost use Rattle.lnfs_world.specs.Facts.{Facts};
 ghost use Rattle.lnfs_world.specs.Within.{is_within};
 ghost use Rattle.lnfs_world.specs.Tame.{Tame};
+ghost use Rattle.lnfs_world.specs.First.{FirstDir, first_tree};
 
 /// What each change comes to that a subject may make.
 pub fn changes()
@@ -49,4 +50,10 @@ pub fn tree()
     ensures walk { (dom : ℕ → ℕ → Bool) → IsPreorderWithBottom dom → (s : ℕ) (w : World) (moved target : Id) → Facts dom w →
         directory_at w.nodes target ≡ Some true → sees dom s w.nodes target ≡ true →
         (goes_under dom s w moved target ≡ true) ↔ LeadsTo (parent_of w.entries) target moved }
+{}
+
+/// The first world has the facts, whatever directories are to stand.
+pub fn first()
+    ensures facts { (dom : ℕ → ℕ → Bool) → IsPreorderWithBottom dom → (stored : Option Stored) (dirs : List FirstDir) →
+        Facts dom (first_tree dom stored dirs) }
 {}

@@ -6,5 +6,6 @@
 #![tactic(auto)]
 
 mod laws;
+pub mod numbers;
 
-pub use laws::{changes, erasure, tree};
+pub use laws::{changes, erasure, first, tree};

@@ -1,0 +1,12 @@
+pub mod Lists
+pub mod NameBytes
+pub mod Indexes
+pub mod Slots
+pub mod Flat
+pub mod LookUps
+pub mod Touched
+pub mod LastNumbers
+pub mod Lines
+pub mod Added
+pub mod Made
+pub mod Begun

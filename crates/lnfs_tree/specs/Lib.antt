@@ -1,0 +1,5 @@
+pub mod Rows
+pub mod Listed
+pub mod Held
+pub mod Flat
+pub mod Places
