@@ -1,0 +1,2 @@
+pub mod FirstWorlds
+pub mod Spelled

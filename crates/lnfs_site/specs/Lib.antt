@@ -1,0 +1,3 @@
+pub mod Site
+pub mod Labels
+pub mod Example

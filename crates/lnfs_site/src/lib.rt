@@ -1,0 +1,15 @@
+//! What operations look at of a policy, and what stands before all events.
+#![tactic(auto)]
+
+mod example;
+mod first;
+mod labels;
+mod site;
+
+pub use example::first_world_of_four_lines;
+pub use first::{first_dirs, first_tree, root_label};
+pub use labels::Labels;
+pub use site::Site;
+
+#[cfg(test)]
+mod tests;

@@ -1,0 +1,106 @@
+//! Two policies of four levels, and what operations look at of them.
+ghost use Rattle.std.specs.Prelude.{◌≡◌, IfOk};
+ghost use Rattle.std.specs.Option.{option_map};
+ghost use Rattle.lnfs_format.specs.Kinds.{reads, writes};
+
+use crate::{Labels, Site, first_dirs, root_label};
+use lnfs_calipso::{Label, Level};
+use lnfs_format::{Codec, Codecs, Kind, read_kind, write_kind};
+use lnfs_monitor::{Question, Rule, Verdict};
+use lnfs_policy::read_policy;
+use std::alloc::{AllocError, Global};
+use std::process::Abort;
+use std::test::Fail;
+
+/// Levels, formats, a quota and directories, behind the mode.
+const LINES: &str = "level 0 1 0 -
+level 1 1 1 c0
+level 2 1 1 c1
+level 3 1 3 c0.c2,c5
+format 101 1 calipso
+format 102 1 text
+quota 1 8 4096
+dir /one 1
+dir /top 3
+";
+
+/// The labels of level 0 and of level 3 as CALIPSO bodies (RFC 5570 section 5).
+const BOTTOM: &[u8] = &[0, 0, 0, 1, 0, 0];
+
+const TOP: &[u8] = &[0, 0, 0, 1, 1, 3, 0xe4, 0, 0, 0];
+
+fn codecs(alloc: Global) -> Result<Codecs, AllocError> {
+    let read = move |kind: &Kind, bytes: &[u8]|
+        ensures { IfOk result (λ label. label ≡ reads kind.now bytes.now) }
+    { read_kind(alloc, kind, bytes) };
+    let write = move |kind: &Kind, label: &Label|
+        ensures { IfOk result (λ text. option_map (λ v. v.items) text ≡ writes kind.now label.now) }
+    { write_kind(alloc, kind, label) };
+    let calipso = Codec::new(0, Box::new(alloc, read)?, Box::new(alloc, write)?);
+    let text = Codec::new(1, Box::new(alloc, read)?, Box::new(alloc, write)?);
+    let name = Codec::new(2, Box::new(alloc, read)?, Box::new(alloc, write)?);
+    Ok(Codecs::new(calipso, text, name))
+}
+
+fn expect_levels(rt: &impl Abort, site: &Site<'_>) {
+    assert_eq!(rt; site.levels(), 4);
+    assert!(rt; site.dominates(Level(3), Level(1)));
+    assert!(rt; !site.dominates(Level(1), Level(2)));
+    let read = Question::Read { label: Level(2) };
+    assert_eq!(rt; site.judge(Level(2), &read), Verdict::Allow);
+    assert_eq!(rt; site.judge(Level(1), &read), Verdict::Deny(Rule::M1));
+    assert_eq!(rt; site.nodes_limit(Level(1)), 8);
+    assert_eq!(rt; site.bytes_limit(Level(1)), 4096);
+    assert_eq!(rt; site.nodes_limit(Level(2)), 4096);
+    assert_eq!(rt; site.policy().dirs().len(), 2);
+}
+
+fn expect_labels(rt: &impl Abort, site: &Site<'_>) {
+    let top = site.label(Level(3));
+    assert_eq!(rt; (top.lfs, top.pi), (101, 1));
+    assert!(rt; top.bytes.as_slice() == TOP);
+    // A number that is no level counts as level 0.
+    for level in [0, 4] {
+        assert!(rt; site.label(Level(level)).bytes.as_slice() == BOTTOM);
+    }
+}
+
+/// The paths, and the level and the bytes that the second directory bears.
+fn expect_dirs(
+    rt: &impl Abort,
+    alloc: Global,
+    site: &Site<'_>,
+    level: u32,
+    bytes: Option<&[u8]>,
+) -> Result<(), Fail> {
+    let dirs = first_dirs(alloc, site)?;
+    assert_eq!(rt; dirs.len(), 2);
+    assert!(rt; dirs[0].path.as_slice() == b"/one".as_slice());
+    assert!(rt; dirs[1].path.as_slice() == b"/top".as_slice());
+    assert_eq!(rt; dirs[1].level, Level(level));
+    let borne = dirs[1].stored.as_ref().map(|label| label.bytes.as_slice());
+    assert!(rt; borne == bytes);
+    Ok(())
+}
+
+#[test]
+fn what_operations_look_at(rt: HostRuntime) -> Result<(), Fail> {
+    let alloc = rt.alloc();
+    let codecs = codecs(alloc)?;
+    for (mode, limited) in [("enforcing", false), ("limited", true)] {
+        let text = format!(in alloc; "lnfs-policy 1\nmode {mode}\n{LINES}")?;
+        let policy = read_policy(alloc, text.as_bytes(), &codecs)?;
+        let labels = Labels::new(alloc, &policy, &codecs)?;
+        let site = Site::new(&policy, &labels);
+        assert_eq!(rt; site.is_limited(), limited);
+        expect_levels(&rt, &site);
+        expect_labels(&rt, &site);
+        assert_eq!(rt; root_label(alloc, &site)?.is_some(), limited);
+        if limited {
+            expect_dirs(&rt, alloc, &site, 0, Some(TOP))?;
+        } else {
+            expect_dirs(&rt, alloc, &site, 3, None)?;
+        }
+    }
+    Ok(())
+}
