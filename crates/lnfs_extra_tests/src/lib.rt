@@ -9,7 +9,8 @@ ghost use Rattle.lnfs_policy.specs.Policy.{Policy, dominance};
 ghost use Rattle.lnfs_step.specs.Journal.{reply_with, answer_with};
 ghost use Rattle.lnfs_hold.specs.Hold.{holds};
 
-use lnfs_step::{ExtraRows, purge_with};
+use lnfs_operations::ExtraRows;
+use lnfs_step::purge;
 
 /// HOLD beside the operations of the table.
 #[derive(Clone, Copy, Debug)]
@@ -33,5 +34,5 @@ pub fn hold_is_purged()
     ensures { (p : Policy) → IsPreorderWithBottom (dominance p) → (journal : List Event) (event : Event) →
         reply_with holds p journal event ≡ answer_with holds p journal event }
 {
-    purge_with::<Holds>();
+    purge::<Holds>();
 }

@@ -1,7 +1,7 @@
 -- HOLD meets what further operations owe.
 use Rattle.std.proofs.Common.{◌≡◌, ℕ, Bool, true, false, cond, List, [], ◌∷◌, Some, inl, refl, sym, ap, ◌∙◌, subst, arith}
 use Rattle.std.specs.Prelude.{◌==◌, filter, length}
-use Rattle.std.specs.List.{list_any}
+use Rattle.std.specs.List.{AllByRecursion, list_any}
 use Rattle.std.proofs.lemmas.Bool.Decides.{nat_tests}
 use Rattle.lnfs_calipso.specs.Label.{IsPreorderWithBottom}
 use Rattle.lnfs_arguments.specs.declared.statuses.TheConstants.{NFS4ERR_NOTSUPP}
@@ -15,6 +15,7 @@ use Rattle.lnfs_world.proofs.Rows.{all_anyway, any-kept, any_row}
 use Rattle.lnfs_world.proofs.Tamed.{tame_itself}
 use Rattle.lnfs_world.proofs.Beside.{both_same}
 use Rattle.lnfs_operations.specs.declared.Gate.TheVariants as gates
+use Rattle.lnfs_operations.specs.Sizes.{NodeFits}
 use Rattle.lnfs_operations.specs.Extra.{Said, IsRefused, IsTame, AreLawful}
 use Rattle.lnfs_hold.specs.declared.TheConstants.{NFS4ERR_DENIED, NFS4ERR_BAD_STATEID}
 use Rattle.lnfs_hold.specs.Hold.{Held, opening_of, is_open, is_held, refuse, hold, outcome, WereOpen, holds}
@@ -108,6 +109,7 @@ module _ (site : Site) (lattice : IsPreorderWithBottom site.dom) (number : ℕ) 
         moved = record { rest = moved_as t.place place; current = inl (ap (λ (q : Place). q.current) place); saved = inl (ap (λ (q : Place). q.saved) place) };
         refused = refused;
         bound = omega (arith, ap length bytes);
+        sizes = λ fit. subst (λ (w : World). AllByRecursion NodeFits w.nodes) (sym world) fit;
       }
 
 pub holds_are_lawful : AreLawful holds

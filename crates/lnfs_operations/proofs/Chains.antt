@@ -24,6 +24,10 @@ where_alike (Some x) f g absent same = same x refl
 pub seen_view : {A : Type 0} (dom : ℕ → ℕ → Bool) (act : Act A) → ((p : Place) (w : World) → act p (erased dom p.subject w) ≡ act p w) → View dom act
 seen_view dom act seen p a b sa sb e = sym (seen p a) ∙ ap (act p) e ∙ seen p b
 
+-- the same, where that has to be known which stands
+pub standing_view : {A : Type 0} (dom : ℕ → ℕ → Bool) (act : Act A) → ((p : Place) (w : World) → Stands dom p w → act p (erased dom p.subject w) ≡ act p w) → View dom act
+standing_view dom act seen p a b sa sb e = sym (seen p a sa) ∙ ap (act p) e ∙ seen p b sb
+
 -- ---- any outcome
 
 pub demand_any : {A : Type 0} (P : Outcome A → Type 0) (test : Bool) (refusal next : Outcome A) → P refusal → (test ≡ true → P next) → P (demand test refusal next)

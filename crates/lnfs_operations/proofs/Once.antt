@@ -32,6 +32,7 @@ use Rattle.lnfs_operations.proofs.KeepingLaws.{session_at-inserted}
 use Rattle.lnfs_operations.proofs.SessionLaws.{session_at-id, session_under-at}
 use Rattle.lnfs_operations.proofs.ServedLaws.{operation_lawful}
 use Rattle.lnfs_operations.proofs.SlotRules.{followed_any, behind_stands}
+use Rattle.lnfs_operations.proofs.ReadingRows.{is_reading, row_reads, reads_stay}
 use Rattle.lnfs_operations.proofs.Retries.{on_named, slot_new, begun, by_sequence, answered_again}
 
 -- ---- behind a SEQUENCE no session changes
@@ -67,7 +68,7 @@ module _ (X : Extra) (owed : AreLawful X) (site : Site) (lattice : IsPreorderWit
       (tame.untouched.sessions, ap (λ (q : Place). q.session) tame.moved.rest)
 
   chosen_stays : (served : Bool) (r : OpResult) (rs : List OpResult) (number : ℕ) (arguments : List ℕ) (p : Place) (b : Both X.Row) → BothStand X.Fact site.dom p b →
-      let own = cond served (further_reply number (X.outcome site number arguments)) (on_world (deed_of (row sent (ops.Extra number arguments)))) in
+      let own = cond served (further_reply number (X.outcome site number arguments)) (on_world (deed_of (row site sent (ops.Extra number arguments)))) in
       let t = cond served (where_admitted X c (r ∷ rs) (ops.Extra number arguments) own) own p b in
       Stays p b t.place t.state
   chosen_stays true r rs number arguments p b stands = admitted_any (Stays p b) (ops.Extra number arguments) (admission X.grammar c (r ∷ rs) (ops.Extra number arguments) p b.world) p b (further_reply number (X.outcome site number arguments) p b) (refl, refl) (further_stays number arguments p b stands)
@@ -77,6 +78,11 @@ module _ (X : Extra) (owed : AreLawful X) (site : Site) (lattice : IsPreorderWit
   reclaim_stays r rs one_fs p b = admitted_any (Stays p b) (ops.ReclaimComplete one_fs) (admission X.grammar c (r ∷ rs) (ops.ReclaimComplete one_fs) p b.world) p b (row_in X site sent (ops.ReclaimComplete one_fs) p b) (refl, refl)
       (reclaim_any (λ o. Stays p b o.place (both (done_to b.world o) b.own)) one_fs p b.world (λ status. (refl, refl)) (refl, refl) (λ c. (refl, refl)))
 
+  reading_stays : (r : OpResult) (rs : List OpResult) (op : Op) (p : Place) (b : Both X.Row) → is_reading op ≡ true →
+      let t = admitted op p b (admission X.grammar c (r ∷ rs) op p b.world) (on_world (deed_of (row site sent op)) p b) in
+      Stays p b t.place t.state
+  reading_stays r rs op p b is = admitted_any (Stays p b) op (admission X.grammar c (r ∷ rs) op p b.world) p b (on_world (deed_of (row site sent op)) p b) (refl, refl) (reads_stay p b.world (row site sent op p b.world) (row_reads site sent p b.world op is))
+
   pub operation_stays : (r : OpResult) (rs : List OpResult) (op : Op) (p : Place) (b : Both X.Row) → BothStand X.Fact site.dom p b → Stays p b (operation X site sent c (r ∷ rs) op p b).place (operation X site sent c (r ∷ rs) op p b).state
   operation_stays r rs (ops.ExchangeId verifier owner flags implementation) p b stands = (refl, refl)
   operation_stays r rs (ops.CreateSession args) p b stands = (refl, refl)
@@ -84,6 +90,19 @@ module _ (X : Extra) (owed : AreLawful X) (site : Site) (lattice : IsPreorderWit
   operation_stays r rs (ops.Sequence args) p b stands = (refl, refl)
   operation_stays r rs (ops.DestroyClientId client) p b stands = (refl, refl)
   operation_stays r rs (ops.ReclaimComplete one_fs) p b stands = reclaim_stays r rs one_fs p b
+  operation_stays r rs (ops.PutFh handle) p b stands = reading_stays r rs (ops.PutFh handle) p b refl
+  operation_stays r rs ops.PutRootFh p b stands = reading_stays r rs ops.PutRootFh p b refl
+  operation_stays r rs ops.GetFh p b stands = reading_stays r rs ops.GetFh p b refl
+  operation_stays r rs ops.SaveFh p b stands = reading_stays r rs ops.SaveFh p b refl
+  operation_stays r rs ops.RestoreFh p b stands = reading_stays r rs ops.RestoreFh p b refl
+  operation_stays r rs (ops.Lookup name) p b stands = reading_stays r rs (ops.Lookup name) p b refl
+  operation_stays r rs ops.LookupP p b stands = reading_stays r rs ops.LookupP p b refl
+  operation_stays r rs (ops.GetAttr asked) p b stands = reading_stays r rs (ops.GetAttr asked) p b refl
+  operation_stays r rs (ops.Verify given) p b stands = reading_stays r rs (ops.Verify given) p b refl
+  operation_stays r rs (ops.NVerify given) p b stands = reading_stays r rs (ops.NVerify given) p b refl
+  operation_stays r rs (ops.Access bits) p b stands = reading_stays r rs (ops.Access bits) p b refl
+  operation_stays r rs (ops.ReadDir cookie verifier dircount maxcount asked) p b stands = reading_stays r rs (ops.ReadDir cookie verifier dircount maxcount asked) p b refl
+  operation_stays r rs ops.ReadLink p b stands = reading_stays r rs ops.ReadLink p b refl
   operation_stays r rs (ops.Outside number status) p b stands = admitted_any (Stays p b) (ops.Outside number status) (admission X.grammar c (r ∷ rs) (ops.Outside number status) p b.world) p b (row_in X site sent (ops.Outside number status) p b) (refl, refl) (refl, refl)
   operation_stays r rs (ops.Extra number arguments) p b stands = chosen_stays (X.grammar.serves number) r rs number arguments p b stands
   operation_stays r rs op p b stands = (refl, refl)

@@ -14,7 +14,7 @@ use Rattle.lnfs_world.specs.Outcome.{Site, Place, Outcome, begins_at, done_to}
 use Rattle.lnfs_world.specs.Both.{Both, both}
 use Rattle.lnfs_world.proofs.Keys.{bytes_itself}
 use Rattle.lnfs_operations.specs.declared.Gate.TheVariants as gates
-use Rattle.lnfs_operations.specs.declared.Rule.TheVariants.{M9}
+use Rattle.lnfs_monitor.specs.declared.rule.Rule.TheVariants.{M9}
 use Rattle.lnfs_operations.specs.Chain.{Answer as Answered, refuse, done, demand, where_there}
 use Rattle.lnfs_operations.specs.Identifiers.{session_named}
 use Rattle.lnfs_operations.specs.Keeping.{next_sequence}
@@ -125,7 +125,7 @@ module _ (X : Extra) (site : Site) (sent : Sent) (c : Compound) where
   unfolding run_behind created_from
   by_created level moment b args rest minor count is =
       let p = begins_at level moment in
-      let t = on_world (deed_of (row sent (ops.CreateSession args))) p b in
+      let t = on_world (deed_of (row site sent (ops.CreateSession args))) p b in
       of_version X site sent c p b (ops.CreateSession args ∷ rest) minor is
       ∙ ap (λ (alone : Bool). let u = admitted (ops.CreateSession args) p b (or_else (unless alone gates.Session NFS4ERR_NOT_ONLY_OP) None) t in
       followed [] (ops.CreateSession args) u.place u.state u.answer (λ results. run_behind (operation X site sent c) results rest u.place u.state)) (ap (λ n. n == 1) count)

@@ -4,6 +4,7 @@ use Rattle.std.specs.Prelude.{nat_le, ◌==◌, if◌then◌else◌}
 use Rattle.std.proofs.lemmas.Bool.Decides.{nat_tests}
 use Rattle.lnfs_calipso.specs.Label.{IsPreorderWithBottom}
 use Rattle.lnfs_outside.specs.declared.event.Moment.{Moment}
+use Rattle.lnfs_arguments.specs.Further.{Further}
 use Rattle.lnfs_arguments.specs.declared.types.Op.{Op}
 use Rattle.lnfs_arguments.specs.declared.types.Op.TheVariants as ops
 use Rattle.lnfs_arguments.specs.declared.types.Compound.{Compound}
@@ -30,9 +31,13 @@ use Rattle.lnfs_operations.specs.Admission.{used, fits, unless, session_behind, 
 use Rattle.lnfs_operations.specs.Served.{Keeper, Nowhere, Slot, Record, Reply, Own, Kept, success, failure, reply_of, further_reply, row, row_in, admitted, where_admitted, operation}
 use Rattle.lnfs_operations.specs.SlotRule.{Ran, kept_by, own_reply, followed, run_behind, new_result, result_of, served}
 use Rattle.lnfs_operations.specs.Retries.{Names}
+use Rattle.lnfs_operations.specs.Sizes.{Sizes, SpellsShortly}
 use Rattle.lnfs_operations.proofs.ServedLaws.{operation_lawful}
 use Rattle.lnfs_operations.proofs.SessionLaws.{session_at-id, session_under-at}
 use Rattle.lnfs_operations.proofs.Retries.{begun, by_sequence}
+use Rattle.lnfs_operations.proofs.ReadingRows.{is_reading}
+use Rattle.lnfs_operations.proofs.ShortRows.{Short, ShortBy, row_short}
+use Rattle.lnfs_operations.proofs.SizeChanges.{operation_sizes}
 use Rattle.lnfs_operations.proofs.Once.{reclaim_any, operation_stays, new_begins, behind_stays, behind_subject}
 use Rattle.lnfs_xdr.proofs.Sizes.{length-opaque}
 use Rattle.lnfs_operations.proofs.Lengths.{used_more, text_length, failed_short, said_short, reclaimed_short, sequence_short}
@@ -60,6 +65,15 @@ module _ (c : Compound) (most : ℕ) where
   by_good rs result None room = omega (arith, room, used_more c rs result)
   by_good rs result (Some why) room = omega (arith, room, used_more c rs result)
 
+  -- what is within the bound for which there is room
+  short_good : (rs : List OpResult) (x : Further) (op : Op) (y : Reply) → RESERVED_ROOM + used c rs ≤ most → RESERVED_ROOM + used c rs + op_bound x op ≤ most → Short x op y → Good rs y
+  short_good rs x op (Own own keeper) before room short = at own.refusal short
+    where
+      at : (o : Option Refusal) → ShortBy x op own.result o → GoodBy rs own.result o
+      at None short = omega (arith, room, short, used_more c rs own.result)
+      at (Some why) short = omega (arith, before, short, used_more c rs own.result)
+  short_good rs x op (Kept reply) before room short = absurd short
+
   -- behind the test of room
   roomy : {S : Type 0} (rs : List OpResult) (op : Op) (p : Place) (a : S) (t : Turn Reply S) (room : ℕ) (x : Session) → x.channel.max_response ≡ most → RESERVED_ROOM + used c rs ≤ most → (RESERVED_ROOM + used c rs + room ≤ most → Good rs t.answer) → (b : Bool) → nat_le (RESERVED_ROOM + used c rs + room) x.channel.max_response ≡ b → Good rs (admitted op p a (unless b gates.Room NFS4ERR_REP_TOO_BIG) t).answer
   roomy rs op p a t room x is before good true test = good (grind (arith, nat_tests, is, test))
@@ -84,7 +98,7 @@ module _ (c : Compound) (most : ℕ) where
   followed_ends rs op p a (Own own keeper) f good rest = own_ends rs op p a own.result own.refusal keeper f good (rest own.result)
   followed_ends rs op p a (Kept reply) f good rest = absurd good
 
-  module _ (X : Extra) (owed : AreLawful X) (site : Site) (lattice : IsPreorderWithBottom site.dom) (sent : Sent) (x : Session) (is : x.channel.max_response ≡ most) where
+  module _ (X : Extra) (owed : AreLawful X) (site : Site) (lattice : IsPreorderWithBottom site.dom) (spells : SpellsShortly site) (sent : Sent) (x : Session) (is : x.channel.max_response ≡ most) where
     -- the place stands in the session
     abbrev In : Place → Both X.Row → Type 0
     In p b = session_behind p p.session b.world.sessions ≡ Some x
@@ -95,7 +109,7 @@ module _ (c : Compound) (most : ℕ) where
         (roomy rs op p b t (op_bound X.grammar op) x is before good (nat_le (RESERVED_ROOM + used c rs + op_bound X.grammar op) x.channel.max_response) refl)
 
     chosen_good : (served : Bool) (r : OpResult) (rs : List OpResult) (number : ℕ) (arguments : List ℕ) (p : Place) (b : Both X.Row) → BothStand X.Fact site.dom p b → In p b → RESERVED_ROOM + used c (r ∷ rs) ≤ most →
-        let own = cond served (further_reply number (X.outcome site number arguments)) (on_world (deed_of (row sent (ops.Extra number arguments)))) in
+        let own = cond served (further_reply number (X.outcome site number arguments)) (on_world (deed_of (row site sent (ops.Extra number arguments)))) in
         Good (r ∷ rs) (cond served (where_admitted X c (r ∷ rs) (ops.Extra number arguments) own) own p b).answer
     chosen_good true r rs number arguments p b stands inside before =
         behind_room (r ∷ rs) (ops.Extra number arguments) p b (further_reply number (X.outcome site number arguments) p b) inside before (λ room.
@@ -104,35 +118,55 @@ module _ (c : Compound) (most : ℕ) where
         by_good (r ∷ rs) (results.Extra number (status_said said.refusal) said.bytes) said.refusal (omega (arith, room, said_short number (status_said said.refusal) said.bytes (X.grammar.bound number arguments) tame.bound)))
     chosen_good false r rs number arguments p b stands inside before = failure_good (r ∷ rs) (ops.Extra number arguments) (record { gate = gates.Outside; status = NFS4ERR_NOTSUPP }) before
 
-    operation_good : (r : OpResult) (rs : List OpResult) (op : Op) (p : Place) (b : Both X.Row) → BothStand X.Fact site.dom p b → In p b → RESERVED_ROOM + used c (r ∷ rs) ≤ most → Good (r ∷ rs) (operation X site sent c (r ∷ rs) op p b).answer
-    operation_good r rs (ops.ReclaimComplete one_fs) p b stands inside before =
+    reading_good : (r : OpResult) (rs : List OpResult) (op : Op) (p : Place) (b : Both X.Row) → is_reading op ≡ true → In p b → Sizes b.world → RESERVED_ROOM + used c (r ∷ rs) ≤ most →
+        Good (r ∷ rs) (admitted op p b (room_refusal X.grammar c (r ∷ rs) op p b.world) (on_world (deed_of (row site sent op)) p b)).answer
+    reading_good r rs op p b reads inside sizes before =
+        behind_room (r ∷ rs) op p b (on_world (deed_of (row site sent op)) p b) inside before (λ room.
+        short_good (r ∷ rs) X.grammar op (row site sent op p b.world).answer before room (row_short X.grammar site spells sent p b.world sizes op reads))
+
+    operation_good : (r : OpResult) (rs : List OpResult) (op : Op) (p : Place) (b : Both X.Row) → BothStand X.Fact site.dom p b → In p b → Sizes b.world → RESERVED_ROOM + used c (r ∷ rs) ≤ most → Good (r ∷ rs) (operation X site sent c (r ∷ rs) op p b).answer
+    operation_good r rs (ops.ReclaimComplete one_fs) p b stands inside sizes before =
         behind_room (r ∷ rs) (ops.ReclaimComplete one_fs) p b (row_in X site sent (ops.ReclaimComplete one_fs) p b) inside before (λ room.
         reclaim_any (λ o. Good (r ∷ rs) (reply_of (ops.ReclaimComplete one_fs) (λ _. success results.ReclaimComplete Nowhere) o.answer)) one_fs p b.world
         (λ status. failure_good (r ∷ rs) (ops.ReclaimComplete one_fs) (record { gate = gates.Session; status = status }) before)
         (by_good (r ∷ rs) results.ReclaimComplete None (omega (arith, room, reclaimed_short)))
         (λ client. by_good (r ∷ rs) results.ReclaimComplete None (omega (arith, room, reclaimed_short))))
-    operation_good r rs (ops.Outside number status) p b stands inside before =
+    operation_good r rs (ops.PutFh handle) p b stands inside sizes before = reading_good r rs (ops.PutFh handle) p b refl inside sizes before
+    operation_good r rs ops.PutRootFh p b stands inside sizes before = reading_good r rs ops.PutRootFh p b refl inside sizes before
+    operation_good r rs ops.GetFh p b stands inside sizes before = reading_good r rs ops.GetFh p b refl inside sizes before
+    operation_good r rs ops.SaveFh p b stands inside sizes before = reading_good r rs ops.SaveFh p b refl inside sizes before
+    operation_good r rs ops.RestoreFh p b stands inside sizes before = reading_good r rs ops.RestoreFh p b refl inside sizes before
+    operation_good r rs (ops.Lookup name) p b stands inside sizes before = reading_good r rs (ops.Lookup name) p b refl inside sizes before
+    operation_good r rs ops.LookupP p b stands inside sizes before = reading_good r rs ops.LookupP p b refl inside sizes before
+    operation_good r rs (ops.GetAttr asked) p b stands inside sizes before = reading_good r rs (ops.GetAttr asked) p b refl inside sizes before
+    operation_good r rs (ops.Verify given) p b stands inside sizes before = reading_good r rs (ops.Verify given) p b refl inside sizes before
+    operation_good r rs (ops.NVerify given) p b stands inside sizes before = reading_good r rs (ops.NVerify given) p b refl inside sizes before
+    operation_good r rs (ops.Access bits) p b stands inside sizes before = reading_good r rs (ops.Access bits) p b refl inside sizes before
+    operation_good r rs (ops.ReadDir cookie verifier dircount maxcount asked) p b stands inside sizes before = reading_good r rs (ops.ReadDir cookie verifier dircount maxcount asked) p b refl inside sizes before
+    operation_good r rs ops.ReadLink p b stands inside sizes before = reading_good r rs ops.ReadLink p b refl inside sizes before
+    operation_good r rs (ops.Outside number status) p b stands inside sizes before =
         behind_room (r ∷ rs) (ops.Outside number status) p b (row_in X site sent (ops.Outside number status) p b) inside before (λ room. failure_good (r ∷ rs) (ops.Outside number status) (record { gate = gates.Outside; status = status }) before)
-    operation_good r rs (ops.Extra number arguments) p b stands inside before = chosen_good (X.grammar.serves number) r rs number arguments p b stands inside before
-    operation_good r rs (ops.ExchangeId verifier owner flags implementation) p b stands inside before = failure_good (r ∷ rs) (ops.ExchangeId verifier owner flags implementation) (record { gate = gates.Session; status = NFS4ERR_NOT_ONLY_OP }) before
-    operation_good r rs (ops.CreateSession args) p b stands inside before = failure_good (r ∷ rs) (ops.CreateSession args) (record { gate = gates.Session; status = NFS4ERR_NOT_ONLY_OP }) before
-    operation_good r rs (ops.DestroySession session) p b stands inside before = failure_good (r ∷ rs) (ops.DestroySession session) (record { gate = gates.Session; status = NFS4ERR_NOT_ONLY_OP }) before
-    operation_good r rs (ops.DestroyClientId client) p b stands inside before = failure_good (r ∷ rs) (ops.DestroyClientId client) (record { gate = gates.Session; status = NFS4ERR_NOT_ONLY_OP }) before
-    operation_good r rs (ops.Sequence args) p b stands inside before = failure_good (r ∷ rs) (ops.Sequence args) (record { gate = gates.Session; status = NFS4ERR_SEQUENCE_POS }) before
-    operation_good r rs op p b stands inside before = failure_good (r ∷ rs) op (record { gate = gates.Outside; status = NFS4ERR_NOTSUPP }) before
+    operation_good r rs (ops.Extra number arguments) p b stands inside sizes before = chosen_good (X.grammar.serves number) r rs number arguments p b stands inside before
+    operation_good r rs (ops.ExchangeId verifier owner flags implementation) p b stands inside sizes before = failure_good (r ∷ rs) (ops.ExchangeId verifier owner flags implementation) (record { gate = gates.Session; status = NFS4ERR_NOT_ONLY_OP }) before
+    operation_good r rs (ops.CreateSession args) p b stands inside sizes before = failure_good (r ∷ rs) (ops.CreateSession args) (record { gate = gates.Session; status = NFS4ERR_NOT_ONLY_OP }) before
+    operation_good r rs (ops.DestroySession session) p b stands inside sizes before = failure_good (r ∷ rs) (ops.DestroySession session) (record { gate = gates.Session; status = NFS4ERR_NOT_ONLY_OP }) before
+    operation_good r rs (ops.DestroyClientId client) p b stands inside sizes before = failure_good (r ∷ rs) (ops.DestroyClientId client) (record { gate = gates.Session; status = NFS4ERR_NOT_ONLY_OP }) before
+    operation_good r rs (ops.Sequence args) p b stands inside sizes before = failure_good (r ∷ rs) (ops.Sequence args) (record { gate = gates.Session; status = NFS4ERR_SEQUENCE_POS }) before
+    operation_good r rs op p b stands inside sizes before = failure_good (r ∷ rs) op (record { gate = gates.Outside; status = NFS4ERR_NOTSUPP }) before
 
     stays_in : (p q : Place) (b v : Both X.Row) → In p b → v.world.sessions ≡ b.world.sessions → q.session ≡ p.session → q.subject ≡ p.subject → In q v
     stays_in p q b v inside sessions session subject = (λ i. session_behind (record p { subject = subject i }) (session i) (sessions i)) ∙ inside
 
-    pub behind_ends : (os : List Op) (r : OpResult) (rs : List OpResult) (p : Place) (b : Both X.Row) → BothStand X.Fact site.dom p b → In p b → RESERVED_ROOM + used c (r ∷ rs) ≤ most → Ends (run_behind (operation X site sent c) (r ∷ rs) os p b)
+    pub behind_ends : (os : List Op) (r : OpResult) (rs : List OpResult) (p : Place) (b : Both X.Row) → BothStand X.Fact site.dom p b → In p b → Sizes b.world → RESERVED_ROOM + used c (r ∷ rs) ≤ most → Ends (run_behind (operation X site sent c) (r ∷ rs) os p b)
     unfolding run_behind
-    behind_ends [] r rs p b stands inside before = (refl, omega (arith, before))
-    behind_ends (op ∷ os) r rs p b stands inside before =
+    behind_ends [] r rs p b stands inside sizes before = (refl, omega (arith, before))
+    behind_ends (op ∷ os) r rs p b stands inside sizes before =
         let t = operation X site sent c (r ∷ rs) op p b in
         let law = operation_lawful X owed site lattice sent c (r ∷ rs) op in
         let stays = operation_stays X owed site lattice sent c r rs op p b stands in
-        followed_ends (r ∷ rs) op t.place t.state t.answer (λ results. run_behind (operation X site sent c) results os t.place t.state) (operation_good r rs op p b stands inside before)
-        (λ result room. behind_ends os r (rs ++ result ∷ []) t.place t.state (law.stands p b stands) (stays_in p t.place b t.state inside stays.0 stays.1 (law.subject p b stands)) room)
+        let kept = operation_sizes X owed site lattice sent c (r ∷ rs) op p b stands sizes in
+        followed_ends (r ∷ rs) op t.place t.state t.answer (λ results. run_behind (operation X site sent c) results os t.place t.state) (operation_good r rs op p b stands inside sizes before)
+        (λ result room. behind_ends os r (rs ++ result ∷ []) t.place t.state (law.stands p b stands) (stays_in p t.place b t.state inside stays.0 stays.1 (law.subject p b stands)) kept room)
 
 -- ---- a COMPOUND
 
@@ -144,19 +178,19 @@ session_length bytes sessions x found = at (bytes_eq (drop 12 bytes) (0 ∷ 0 �
     at true is e = omega (arith, length-drop 12 bytes, ap length (bytes_same (drop 12 bytes) (0 ∷ 0 ∷ 0 ∷ 0 ∷ []) is))
     at false is e = absurd (grind arith)
 
-module _ (X : Extra) (owed : AreLawful X) (site : Site) (lattice : IsPreorderWithBottom site.dom) (sent : Sent) (c : Compound) where
+module _ (X : Extra) (owed : AreLawful X) (site : Site) (lattice : IsPreorderWithBottom site.dom) (spells : SpellsShortly site) (sent : Sent) (c : Compound) where
   result_fits : (r : Ran (Both X.Row)) (most : ℕ) → r.again ≡ None → 116 + used c r.results ≤ most → length (result_of c r.results r.again) + LARGEST_WRAPPING ≤ most
   result_fits r most none room =
       let same : result_of c r.results r.again ≡ new_result c r.results = ap (result_of c r.results) none in
       omega (arith, room, ap length same, text_length (if c.minor == 2 then status_of_all r.results else NFS4ERR_MINOR_VERS_MISMATCH) c.tag r.results, text_length 0 c.tag r.results)
 
   -- the run behind a SEQUENCE that names a slot under its next sequence: what it keeps leaves room in a response
-  pub slot_ends : (level : ℕ) (moment : Moment) (b : Both X.Row) (args : Sequence) (rest : List Op) (x : Session) (slot : SlotRow) → BothStand X.Fact site.dom (begins_at level moment) b →
+  pub slot_ends : (level : ℕ) (moment : Moment) (b : Both X.Row) (args : Sequence) (rest : List Op) (x : Session) (slot : SlotRow) → BothStand X.Fact site.dom (begins_at level moment) b → Sizes b.world →
       Names level b.world args sent x slot → args.sequence ≡ next_sequence slot.sequence → length c.tag ≤ 1024 → LEAST_SIZE ≤ x.channel.max_response →
       let r = begun X site sent c args rest b (done (in_session (begins_at level moment) x) (New x) []) in
       (length (result_of c r.results r.again) + LARGEST_WRAPPING ≤ x.channel.max_response) × (session_behind r.place r.place.session r.state.world.sessions ≡ Some x)
   unfolding begun
-  slot_ends level moment b args rest x slot stands names next tag least =
+  slot_ends level moment b args rest x slot stands sizes names next tag least =
       let p = begins_at level moment in
       let result = results.Sequence args.session args.sequence args.slot (x.channel.max_requests - 1) (x.channel.max_requests - 1) 0 in
       let started = new_begins X owed site lattice sent c level moment b args x slot stands names next in
@@ -165,20 +199,20 @@ module _ (X : Extra) (owed : AreLawful X) (site : Site) (lattice : IsPreorderWit
       let own : x.id.level ≡ level = ap (λ (i : Id). i.level) id ∙ names.own in
       let inside : session_behind (in_session p x) (Some x.id.number) b.world.sessions ≡ Some x = ap (session_at b.world.sessions) (λ i. record { level = sym own i; number = x.id.number }) ∙ found in
       let room : RESERVED_ROOM + used c (result ∷ []) ≤ x.channel.max_response = omega (arith, least, tag, length-opaque c.tag, text_length 0 c.tag [], used_more c [] result, sequence_short args.session args.sequence args.slot (x.channel.max_requests - 1) (x.channel.max_requests - 1) 0 (session_length args.session b.world.sessions x names.session)) in
-      let ends = behind_ends c x.channel.max_response X owed site lattice sent x refl rest result [] (in_session p x) b started.1 inside room in
+      let ends = behind_ends c x.channel.max_response X owed site lattice spells sent x refl rest result [] (in_session p x) b started.1 inside sizes room in
       let stays = behind_stays X owed site lattice sent c rest result [] (in_session p x) b started.1 in
       let subject = behind_subject X owed site lattice sent c rest result [] (in_session p x) b started.1 in
       let r = begun X site sent c args rest b (done (in_session p x) (New x) []) in (
         result_fits r x.channel.max_response ends.0 ends.1,
-        stays_in c x.channel.max_response X owed site lattice sent x refl (in_session p x) r.place b r.state inside stays.0 stays.1 subject,
+        stays_in c x.channel.max_response X owed site lattice spells sent x refl (in_session p x) r.place b r.state inside stays.0 stays.1 subject,
       )
 
-  pub fits_on_slot : (level : ℕ) (moment : Moment) (b : Both X.Row) (args : Sequence) (rest : List Op) (x : Session) (slot : SlotRow) → BothStand X.Fact site.dom (begins_at level moment) b → c.minor ≡ 2 → c.ops ≡ ops.Sequence args ∷ rest →
+  pub fits_on_slot : (level : ℕ) (moment : Moment) (b : Both X.Row) (args : Sequence) (rest : List Op) (x : Session) (slot : SlotRow) → BothStand X.Fact site.dom (begins_at level moment) b → Sizes b.world → c.minor ≡ 2 → c.ops ≡ ops.Sequence args ∷ rest →
       Names level b.world args sent x slot → args.sequence ≡ next_sequence slot.sequence → length c.tag ≤ 1024 → LEAST_SIZE ≤ x.channel.max_response →
       length (served X site sent c (begins_at level moment) b).answer.result + LARGEST_WRAPPING ≤ x.channel.max_response
   unfolding served
-  fits_on_slot level moment b args rest x slot stands minor is names next tag least =
+  fits_on_slot level moment b args rest x slot stands sizes minor is names next tag least =
       let started = new_begins X owed site lattice sent c level moment b args x slot stands names next in
       let ran = by_sequence X site sent c level moment b args rest minor is ∙ ap (begun X site sent c args rest b) started.0 in
       subst (λ (r : Ran (Both X.Row)). length (result_of c r.results r.again) + LARGEST_WRAPPING ≤ x.channel.max_response) (sym ran)
-      (slot_ends level moment b args rest x slot stands names next tag least).0
+      (slot_ends level moment b args rest x slot stands sizes names next tag least).0

@@ -26,17 +26,26 @@ use Rattle.lnfs_operations.specs.CreateSession.{is_next_of}
 use Rattle.lnfs_operations.specs.Sequence.{Sent}
 use Rattle.lnfs_operations.specs.Extra.{Said, Extra, AreLawful}
 use Rattle.lnfs_operations.specs.Admission.{unless, used, fits, session_behind, or_else, place_refusal, admission}
-use Rattle.lnfs_operations.specs.Served.{Record, Nowhere, Reply, success, created_reply, sequence_reply, told_reply, replied, under, created_keeper, create_session_in, row, said_reply, further_reply, row_in, admitted, is_served, where_admitted, operation}
+use Rattle.lnfs_operations.specs.Served.{Record, Nowhere, Reply, success, created_reply, sequence_reply, told_reply, replied, under, created_keeper, create_session_in, plainly, zeros, row, said_reply, further_reply, row_in, admitted, is_served, where_admitted, operation}
 use Rattle.lnfs_operations.proofs.Chains.{seen_view, unchanged_footprint}
-use Rattle.lnfs_operations.proofs.ExchangeIdLaws.{exchange_id_seen, exchange_id_footprint}
-use Rattle.lnfs_operations.proofs.SessionLaws.{own_level, destroy_session_seen, destroy_session_footprint, sequence_seen, sequence_footprint, destroy_clientid_seen, destroy_clientid_footprint, reclaim_complete_seen, reclaim_complete_footprint}
+use Rattle.lnfs_operations.proofs.ExchangeIdLaws.{exchange_id_view, exchange_id_footprint}
+use Rattle.lnfs_operations.proofs.SessionLaws.{own_level, destroy_session_view, destroy_session_footprint, sequence_view, sequence_footprint, destroy_clientid_view, destroy_clientid_footprint, reclaim_complete_view, reclaim_complete_footprint}
 use Rattle.lnfs_operations.proofs.CreateSessionLaws.{create_session_seen, create_session_footprint}
+use Rattle.lnfs_operations.proofs.HandleLaws.{put_fh_view, put_fh_footprint, put_root_fh_view, put_root_fh_footprint, get_fh_view, get_fh_footprint, save_fh_view, save_fh_footprint, restore_fh_view, restore_fh_footprint}
+use Rattle.lnfs_operations.proofs.LookupLaws.{lookup_view, lookup_footprint, lookup_parent_view, lookup_parent_footprint}
+use Rattle.lnfs_operations.proofs.GetAttrLaws.{get_attr_view, get_attr_footprint, verify_view, verify_footprint, nverify_view, nverify_footprint}
+use Rattle.lnfs_operations.proofs.AccessLaws.{access_view, access_footprint, read_link_view, read_link_footprint}
+use Rattle.lnfs_operations.proofs.ReadDirLaws.{read_dir_view, read_dir_footprint}
 
 and_alike : (b x y : Bool) → (b ≡ true → x ≡ y) → (b && x) ≡ (b && y)
 and_alike true x y same = same refl
 and_alike false x y same = refl
 
 -- ---- the operations of the table
+
+-- what another answer has of a footprint
+with_answer : {A B : Type 0} (dom : ℕ → ℕ → Bool) (p : Place) (w : World) (o : Outcome A) (answer : B) → IsFootprint dom p w o → IsFootprint dom p w (record { answer = answer; place = o.place; changes = o.changes })
+with_answer dom p w o answer f = record { within = f.within; place = f.place; subject = f.subject }
 
 module _ (dom : ℕ → ℕ → Bool) (lattice : IsPreorderWithBottom dom) (sent : Sent) where
   keeper_seen : (args : CreateSession) (p : Place) (w : World) → created_keeper args p (erased dom p.subject w) ≡ created_keeper args p w
@@ -49,32 +58,55 @@ module _ (dom : ℕ → ℕ → Bool) (lattice : IsPreorderWithBottom dom) (sent
       let same = ap (replied (ops.CreateSession args) (created_reply p.subject args)) (create_session_seen dom lattice args sent.arguments p w) in
       λ i. record { answer = under (keeper_seen args p w i) (same i).answer; place = (same i).place; changes = (same i).changes }
 
-  row_seen : (op : Op) (p : Place) (w : World) → row sent op p (erased dom p.subject w) ≡ row sent op p w
-  row_seen (ops.ExchangeId verifier owner flags implementation) p w = ap (replied (ops.ExchangeId verifier owner flags implementation) (told_reply p.subject)) (exchange_id_seen dom lattice (record { verifier = verifier; owner = owner; flags = flags }) p w)
-  row_seen (ops.CreateSession args) p w = create_session_in_seen args p w
-  row_seen (ops.DestroySession session) p w = ap (replied (ops.DestroySession session) (λ _. success results.DestroySession Nowhere)) (destroy_session_seen dom lattice session p w)
-  row_seen (ops.Sequence args) p w = ap (replied (ops.Sequence args) (sequence_reply args)) (sequence_seen dom lattice args sent p w)
-  row_seen (ops.DestroyClientId client) p w = ap (replied (ops.DestroyClientId client) (λ _. success results.DestroyClientId Nowhere)) (destroy_clientid_seen dom lattice client p w)
-  row_seen (ops.ReclaimComplete one_fs) p w = ap (replied (ops.ReclaimComplete one_fs) (λ _. success results.ReclaimComplete Nowhere)) (reclaim_complete_seen dom lattice one_fs p w)
-  row_seen (ops.Outside number status) p w = refl
-  row_seen op p w = refl
+  create_session_in_view : (args : CreateSession) → View dom (create_session_in sent args)
+  create_session_in_view args = seen_view dom (create_session_in sent args) (create_session_in_seen args)
 
-  pub row_view : (op : Op) → View dom (row sent op)
-  row_view op = seen_view dom (row sent op) (row_seen op)
+module _ (site : Site) (lattice : IsPreorderWithBottom site.dom) (sent : Sent) where
+  pub row_view : (op : Op) → View site.dom (row site sent op)
+  row_view (ops.ExchangeId verifier owner flags implementation) p a b sa sb e = ap (replied (ops.ExchangeId verifier owner flags implementation) (told_reply p.subject)) (exchange_id_view site.dom lattice (record { verifier = verifier; owner = owner; flags = flags }) p a b sa sb e)
+  row_view (ops.CreateSession args) p a b sa sb e = create_session_in_view site.dom lattice sent args p a b sa sb e
+  row_view (ops.DestroySession session) p a b sa sb e = ap (replied (ops.DestroySession session) (λ _. success results.DestroySession Nowhere)) (destroy_session_view site.dom lattice session p a b sa sb e)
+  row_view (ops.Sequence args) p a b sa sb e = ap (replied (ops.Sequence args) (sequence_reply args)) (sequence_view site.dom lattice args sent p a b sa sb e)
+  row_view (ops.DestroyClientId client) p a b sa sb e = ap (replied (ops.DestroyClientId client) (λ _. success results.DestroyClientId Nowhere)) (destroy_clientid_view site.dom lattice client p a b sa sb e)
+  row_view (ops.ReclaimComplete one_fs) p a b sa sb e = ap (replied (ops.ReclaimComplete one_fs) (λ _. success results.ReclaimComplete Nowhere)) (reclaim_complete_view site.dom lattice one_fs p a b sa sb e)
+  row_view (ops.PutFh handle) p a b sa sb e = ap (replied (ops.PutFh handle) (plainly results.PutFh)) (put_fh_view site lattice handle p a b sa sb e)
+  row_view ops.PutRootFh p a b sa sb e = ap (replied ops.PutRootFh (plainly results.PutRootFh)) (put_root_fh_view site lattice p a b sa sb e)
+  row_view ops.GetFh p a b sa sb e = ap (replied ops.GetFh (λ handle. success (results.GetFh handle) Nowhere)) (get_fh_view site lattice p a b sa sb e)
+  row_view ops.SaveFh p a b sa sb e = ap (replied ops.SaveFh (plainly results.SaveFh)) (save_fh_view site lattice p a b sa sb e)
+  row_view ops.RestoreFh p a b sa sb e = ap (replied ops.RestoreFh (plainly results.RestoreFh)) (restore_fh_view site lattice p a b sa sb e)
+  row_view (ops.Lookup name) p a b sa sb e = ap (replied (ops.Lookup name) (plainly results.Lookup)) (lookup_view site lattice name p a b sa sb e)
+  row_view ops.LookupP p a b sa sb e = ap (replied ops.LookupP (plainly results.LookupP)) (lookup_parent_view site lattice p a b sa sb e)
+  row_view (ops.GetAttr asked) p a b sa sb e = ap (replied (ops.GetAttr asked) (λ given. success (results.GetAttr given) Nowhere)) (get_attr_view site lattice asked p a b sa sb e)
+  row_view (ops.Verify given) p a b sa sb e = ap (replied (ops.Verify given) (plainly results.Verify)) (verify_view site lattice given p a b sa sb e)
+  row_view (ops.NVerify given) p a b sa sb e = ap (replied (ops.NVerify given) (plainly results.NVerify)) (nverify_view site lattice given p a b sa sb e)
+  row_view (ops.Access bits) p a b sa sb e = ap (replied (ops.Access bits) (λ told. success (results.Access told.supported told.granted) Nowhere)) (access_view site bits p a b sa sb e)
+  row_view (ops.ReadDir cookie verifier dircount maxcount asked) p a b sa sb e = ap (replied (ops.ReadDir cookie verifier dircount maxcount asked) (λ found. success (results.ReadDir (zeros 8) found.entries found.eof) Nowhere)) (read_dir_view site lattice (record { cookie = cookie; maxcount = maxcount; asked = asked }) p a b sa sb e)
+  row_view ops.ReadLink p a b sa sb e = ap (replied ops.ReadLink (λ text. success (results.ReadLink text) Nowhere)) (read_link_view site p a b sa sb e)
+  row_view (ops.Outside number status) p a b sa sb e = refl
+  row_view op p a b sa sb e = refl
 
--- what another answer has of a footprint
-with_answer : {A B : Type 0} (dom : ℕ → ℕ → Bool) (p : Place) (w : World) (o : Outcome A) (answer : B) → IsFootprint dom p w o → IsFootprint dom p w (record { answer = answer; place = o.place; changes = o.changes })
-with_answer dom p w o answer f = record { within = f.within; place = f.place; subject = f.subject }
-
-pub row_footprint : (dom : ℕ → ℕ → Bool) (sent : Sent) (op : Op) → Footprint dom (row sent op)
-row_footprint dom sent (ops.ExchangeId verifier owner flags implementation) p w stands = with_answer dom p w _ _ (exchange_id_footprint dom (record { verifier = verifier; owner = owner; flags = flags }) p w stands)
-row_footprint dom sent (ops.CreateSession args) p w stands = with_answer dom p w _ _ (create_session_footprint dom p w stands args sent.arguments)
-row_footprint dom sent (ops.DestroySession session) p w stands = with_answer dom p w _ _ (destroy_session_footprint dom p w stands session)
-row_footprint dom sent (ops.Sequence args) p w stands = with_answer dom p w _ _ (sequence_footprint dom p w stands args sent)
-row_footprint dom sent (ops.DestroyClientId client) p w stands = with_answer dom p w _ _ (destroy_clientid_footprint dom p w stands client)
-row_footprint dom sent (ops.ReclaimComplete one_fs) p w stands = with_answer dom p w _ _ (reclaim_complete_footprint dom p w stands one_fs)
-row_footprint dom sent (ops.Outside number status) p w stands = unchanged_footprint dom p w stands _
-row_footprint dom sent op p w stands = unchanged_footprint dom p w stands _
+  pub row_footprint : (op : Op) → Footprint site.dom (row site sent op)
+  row_footprint (ops.ExchangeId verifier owner flags implementation) p w stands = with_answer site.dom p w _ _ (exchange_id_footprint site.dom (record { verifier = verifier; owner = owner; flags = flags }) p w stands)
+  row_footprint (ops.CreateSession args) p w stands = with_answer site.dom p w _ _ (create_session_footprint site.dom p w stands args sent.arguments)
+  row_footprint (ops.DestroySession session) p w stands = with_answer site.dom p w _ _ (destroy_session_footprint site.dom p w stands session)
+  row_footprint (ops.Sequence args) p w stands = with_answer site.dom p w _ _ (sequence_footprint site.dom p w stands args sent)
+  row_footprint (ops.DestroyClientId client) p w stands = with_answer site.dom p w _ _ (destroy_clientid_footprint site.dom p w stands client)
+  row_footprint (ops.ReclaimComplete one_fs) p w stands = with_answer site.dom p w _ _ (reclaim_complete_footprint site.dom p w stands one_fs)
+  row_footprint (ops.PutFh handle) p w stands = with_answer site.dom p w _ _ (put_fh_footprint site lattice handle p w stands)
+  row_footprint ops.PutRootFh p w stands = with_answer site.dom p w _ _ (put_root_fh_footprint site lattice p w stands)
+  row_footprint ops.GetFh p w stands = with_answer site.dom p w _ _ (get_fh_footprint site lattice p w stands)
+  row_footprint ops.SaveFh p w stands = with_answer site.dom p w _ _ (save_fh_footprint site lattice p w stands)
+  row_footprint ops.RestoreFh p w stands = with_answer site.dom p w _ _ (restore_fh_footprint site lattice p w stands)
+  row_footprint (ops.Lookup name) p w stands = with_answer site.dom p w _ _ (lookup_footprint site lattice name p w stands)
+  row_footprint ops.LookupP p w stands = with_answer site.dom p w _ _ (lookup_parent_footprint site lattice p w stands)
+  row_footprint (ops.GetAttr asked) p w stands = with_answer site.dom p w _ _ (get_attr_footprint site lattice asked p w stands)
+  row_footprint (ops.Verify given) p w stands = with_answer site.dom p w _ _ (verify_footprint site lattice given p w stands)
+  row_footprint (ops.NVerify given) p w stands = with_answer site.dom p w _ _ (nverify_footprint site lattice given p w stands)
+  row_footprint (ops.Access bits) p w stands = with_answer site.dom p w _ _ (access_footprint site bits p w stands)
+  row_footprint (ops.ReadDir cookie verifier dircount maxcount asked) p w stands = with_answer site.dom p w _ _ (read_dir_footprint site lattice (record { cookie = cookie; maxcount = maxcount; asked = asked }) p w stands)
+  row_footprint ops.ReadLink p w stands = with_answer site.dom p w _ _ (read_link_footprint site p w stands)
+  row_footprint (ops.Outside number status) p w stands = unchanged_footprint site.dom p w stands _
+  row_footprint op p w stands = unchanged_footprint site.dom p w stands _
 
 -- ---- the tests before them
 
@@ -132,12 +164,12 @@ further_lawful dom seen_by Standing number deed law = record {
 }
 
 module _ (X : Extra) (owed : AreLawful X) (site : Site) (lattice : IsPreorderWithBottom site.dom) (sent : Sent) where
-  table_lawful : (op : Op) → Lawful site.dom (both_seen X.level_of site.dom) (BothStand X.Fact site.dom) (on_world (deed_of (row sent op)))
-  table_lawful op = on_world_lawful X.level_of X.Fact owed.bears site.dom lattice (row sent op) (row_view site.dom lattice sent op) (row_footprint site.dom sent op)
+  table_lawful : (op : Op) → Lawful site.dom (both_seen X.level_of site.dom) (BothStand X.Fact site.dom) (on_world (deed_of (row site sent op)))
+  table_lawful op = on_world_lawful X.level_of X.Fact owed.bears site.dom lattice (row site sent op) (row_view site lattice sent op) (row_footprint site lattice sent op)
 
   row_in_lawful : (op : Op) → Lawful site.dom (both_seen X.level_of site.dom) (BothStand X.Fact site.dom) (row_in X site sent op)
   row_in_lawful (ops.Extra number arguments) =
-      chosen_lawful site.dom (both_seen X.level_of site.dom) (BothStand X.Fact site.dom) (X.grammar.serves number) (further_reply number (X.outcome site number arguments)) (on_world (deed_of (row sent (ops.Extra number arguments))))
+      chosen_lawful site.dom (both_seen X.level_of site.dom) (BothStand X.Fact site.dom) (X.grammar.serves number) (further_reply number (X.outcome site number arguments)) (on_world (deed_of (row site sent (ops.Extra number arguments))))
       (further_lawful site.dom (both_seen X.level_of site.dom) (BothStand X.Fact site.dom) number (X.outcome site number arguments) (owed.laws site lattice number arguments))
       (table_lawful (ops.Extra number arguments))
   row_in_lawful op = table_lawful op

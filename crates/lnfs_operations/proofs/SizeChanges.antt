@@ -38,6 +38,7 @@ use Rattle.lnfs_operations.proofs.ServedLaws.{operation_lawful}
 use Rattle.lnfs_operations.proofs.SlotRules.{followed_any}
 use Rattle.lnfs_operations.proofs.Chains.{demand_any, where_any, in_order_any}
 use Rattle.lnfs_operations.specs.declared.numbers.TheConstants.{MOST_CREATED, LARGEST_WRAPPING}
+use Rattle.lnfs_operations.proofs.ReadingRows.{row_reads, reads_sizes}
 use Rattle.lnfs_operations.proofs.Once.{admitted_any}
 use Rattle.lnfs_operations.proofs.ExchangeIdLaws.{exchange_id_any}
 use Rattle.lnfs_operations.proofs.CreateSessionLaws.{created_any}
@@ -46,22 +47,22 @@ use Rattle.lnfs_operations.specs.Sizes.{IsGranted, SlotFits, SessionFits, Client
 -- ---- changes
 
 set_client_sizes : (row : Client) (w : World) → ClientFits row → Sizes w → Sizes (apply (SetClient row) w)
-set_client_sizes row w fits sizes = record { sessions = sizes.sessions; clients = all_inserted client_order ClientFits row w.clients fits sizes.clients }
+set_client_sizes row w fits sizes = record { sessions = sizes.sessions; clients = all_inserted client_order ClientFits row w.clients fits sizes.clients; nodes = sizes.nodes }
 
 add_client_sizes : (row : Client) (w : World) → ClientFits row → Sizes w → Sizes (apply (AddClient row) w)
-add_client_sizes row w fits sizes = record { sessions = sizes.sessions; clients = all_inserted client_order ClientFits row w.clients fits sizes.clients }
+add_client_sizes row w fits sizes = record { sessions = sizes.sessions; clients = all_inserted client_order ClientFits row w.clients fits sizes.clients; nodes = sizes.nodes }
 
 drop_client_sizes : (i : Id) (w : World) → Sizes w → Sizes (apply (DropClient i) w)
-drop_client_sizes i w sizes = record { sessions = all_left SessionFits _ w.sessions sizes.sessions; clients = all_left ClientFits _ w.clients sizes.clients }
+drop_client_sizes i w sizes = record { sessions = all_left SessionFits _ w.sessions sizes.sessions; clients = all_left ClientFits _ w.clients sizes.clients; nodes = sizes.nodes }
 
 add_session_sizes : (row : Session) (w : World) → SessionFits row → Sizes w → Sizes (apply (AddSession row) w)
-add_session_sizes row w fits sizes = record { sessions = all_inserted session_order SessionFits row w.sessions fits sizes.sessions; clients = sizes.clients }
+add_session_sizes row w fits sizes = record { sessions = all_inserted session_order SessionFits row w.sessions fits sizes.sessions; clients = sizes.clients; nodes = sizes.nodes }
 
 set_session_sizes : (row : Session) (w : World) → SessionFits row → Sizes w → Sizes (apply (SetSession row) w)
-set_session_sizes row w fits sizes = record { sessions = all_inserted session_order SessionFits row w.sessions fits sizes.sessions; clients = sizes.clients }
+set_session_sizes row w fits sizes = record { sessions = all_inserted session_order SessionFits row w.sessions fits sizes.sessions; clients = sizes.clients; nodes = sizes.nodes }
 
 drop_session_sizes : (i : Id) (w : World) → Sizes w → Sizes (apply (DropSession i) w)
-drop_session_sizes i w sizes = record { sessions = all_left SessionFits _ w.sessions sizes.sessions; clients = sizes.clients }
+drop_session_sizes i w sizes = record { sessions = all_left SessionFits _ w.sessions sizes.sessions; clients = sizes.clients; nodes = sizes.nodes }
 
 -- a record that goes, if there is one, before other changes
 dropped_sizes : (o : Option Client) (rest : List Change) (w : World) → ((v : World) → Sizes v → Sizes (apply_all rest v)) → Sizes w → Sizes (apply_all (dropped o ++ rest) w)
@@ -147,15 +148,28 @@ module _ (p : Place) (w : World) (sizes : Sizes w) where
   reclaim_under_sizes one_fs None = sizes
   reclaim_under_sizes one_fs (Some number) = where_any Keeps (client_at w.clients (record { level = p.subject; number = number })) _ _ (λ c found. reclaimed_sizes one_fs number c found) sizes
 
-  pub row_sizes : (sent : Sent) (op : Op) → Keeps (row sent op p w)
-  row_sizes sent (ops.ExchangeId verifier owner flags implementation) = exchange_id_sizes (record { verifier = verifier; owner = owner; flags = flags })
-  row_sizes sent (ops.CreateSession args) = create_session_sizes args sent.arguments
-  row_sizes sent (ops.DestroySession session) = destroy_session_sizes session
-  row_sizes sent (ops.Sequence args) = sequence_sizes args sent
-  row_sizes sent (ops.DestroyClientId client) = destroy_clientid_sizes client
-  row_sizes sent (ops.ReclaimComplete one_fs) = reclaim_under_sizes one_fs p.client
-  row_sizes sent (ops.Outside number status) = sizes
-  row_sizes sent op = sizes
+  pub row_sizes : (site : Site) (sent : Sent) (op : Op) → Keeps (row site sent op p w)
+  row_sizes site sent (ops.ExchangeId verifier owner flags implementation) = exchange_id_sizes (record { verifier = verifier; owner = owner; flags = flags })
+  row_sizes site sent (ops.CreateSession args) = create_session_sizes args sent.arguments
+  row_sizes site sent (ops.DestroySession session) = destroy_session_sizes session
+  row_sizes site sent (ops.Sequence args) = sequence_sizes args sent
+  row_sizes site sent (ops.DestroyClientId client) = destroy_clientid_sizes client
+  row_sizes site sent (ops.ReclaimComplete one_fs) = reclaim_under_sizes one_fs p.client
+  row_sizes site sent (ops.PutFh handle) = reads_sizes p w _ (row_reads site sent p w (ops.PutFh handle) refl) sizes
+  row_sizes site sent ops.PutRootFh = reads_sizes p w _ (row_reads site sent p w ops.PutRootFh refl) sizes
+  row_sizes site sent ops.GetFh = reads_sizes p w _ (row_reads site sent p w ops.GetFh refl) sizes
+  row_sizes site sent ops.SaveFh = reads_sizes p w _ (row_reads site sent p w ops.SaveFh refl) sizes
+  row_sizes site sent ops.RestoreFh = reads_sizes p w _ (row_reads site sent p w ops.RestoreFh refl) sizes
+  row_sizes site sent (ops.Lookup name) = reads_sizes p w _ (row_reads site sent p w (ops.Lookup name) refl) sizes
+  row_sizes site sent ops.LookupP = reads_sizes p w _ (row_reads site sent p w ops.LookupP refl) sizes
+  row_sizes site sent (ops.GetAttr asked) = reads_sizes p w _ (row_reads site sent p w (ops.GetAttr asked) refl) sizes
+  row_sizes site sent (ops.Verify given) = reads_sizes p w _ (row_reads site sent p w (ops.Verify given) refl) sizes
+  row_sizes site sent (ops.NVerify given) = reads_sizes p w _ (row_reads site sent p w (ops.NVerify given) refl) sizes
+  row_sizes site sent (ops.Access bits) = reads_sizes p w _ (row_reads site sent p w (ops.Access bits) refl) sizes
+  row_sizes site sent (ops.ReadDir cookie verifier dircount maxcount asked) = reads_sizes p w _ (row_reads site sent p w (ops.ReadDir cookie verifier dircount maxcount asked) refl) sizes
+  row_sizes site sent ops.ReadLink = reads_sizes p w _ (row_reads site sent p w ops.ReadLink refl) sizes
+  row_sizes site sent (ops.Outside number status) = sizes
+  row_sizes site sent op = sizes
 
 -- ---- in a COMPOUND
 
@@ -166,10 +180,11 @@ module _ (X : Extra) (owed : AreLawful X) (site : Site) (lattice : IsPreorderWit
 
   row_in_sizes : (op : Op) (p : Place) (b : Both X.Row) → BothStand X.Fact site.dom p b → Sizes b.world → Sizes (row_in X site sent op p b).state.world
   row_in_sizes (ops.Extra number arguments) p b stands sizes =
-      let same = (owed.tame site lattice number arguments p b stands).untouched in
-      chosen_sizes (X.grammar.serves number) (further_reply number (X.outcome site number arguments)) (on_world (deed_of (row sent (ops.Extra number arguments)))) p b
-      (record { sessions = subst (AllByRecursion SessionFits) (sym same.sessions) sizes.sessions; clients = subst (AllByRecursion ClientFits) (sym same.clients) sizes.clients }) sizes
-  row_in_sizes op p b stands sizes = row_sizes p b.world sizes sent op
+      let tame = owed.tame site lattice number arguments p b stands in
+      let same = tame.untouched in
+      chosen_sizes (X.grammar.serves number) (further_reply number (X.outcome site number arguments)) (on_world (deed_of (row site sent (ops.Extra number arguments)))) p b
+      (record { sessions = subst (AllByRecursion SessionFits) (sym same.sessions) sizes.sessions; clients = subst (AllByRecursion ClientFits) (sym same.clients) sizes.clients; nodes = tame.sizes sizes.nodes }) sizes
+  row_in_sizes op p b stands sizes = row_sizes p b.world sizes site sent op
 
   pub operation_sizes : (so_far : List OpResult) (op : Op) (p : Place) (b : Both X.Row) → BothStand X.Fact site.dom p b → Sizes b.world → Sizes (operation X site sent c so_far op p b).state.world
   operation_sizes so_far op p b stands sizes =

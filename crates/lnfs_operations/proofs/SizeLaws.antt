@@ -18,7 +18,7 @@ use Rattle.lnfs_operations.specs.ExchangeId.{Arguments, exchange_id}
 use Rattle.lnfs_world.specs.Outcome.{begins_at, Place, Site, Outcome}
 use Rattle.lnfs_operations.specs.Keeping.{next_sequence}
 use Rattle.lnfs_operations.specs.declared.Gate.{Gate}
-use Rattle.lnfs_operations.specs.declared.Rule.TheVariants.{M9}
+use Rattle.lnfs_monitor.specs.declared.rule.Rule.TheVariants.{M9}
 use Rattle.lnfs_arguments.specs.declared.types.Op.{Op}
 use Rattle.lnfs_arguments.specs.declared.types.Compound.{Compound}
 use Rattle.lnfs_results.specs.declared.types.OpResult.{OpResult}
@@ -27,7 +27,7 @@ use Rattle.lnfs_world.specs.Lawful.{Turn, Deed, deed_of}
 use Rattle.lnfs_world.specs.Both.{Both, BothStand, on_world}
 use Rattle.lnfs_arguments.specs.declared.statuses.TheConstants.{NFS4ERR_NOT_ONLY_OP, NFS4ERR_MINOR_VERS_MISMATCH, NFS4ERR_NOTSUPP, NFS4ERR_OP_NOT_IN_SESSION, NFS4ERR_BADSESSION, NFS4ERR_STALE_CLIENTID, NFS4ERR_CLIENTID_BUSY, NFS4ERR_BADSLOT, NFS4ERR_REQ_TOO_BIG, NFS4ERR_TOO_MANY_OPS}
 use Rattle.lnfs_operations.specs.Results.{failed}
-use Rattle.lnfs_operations.specs.Sizes.{IsRead, Sizes}
+use Rattle.lnfs_operations.specs.Sizes.{IsRead, Sizes, SpellsShortly}
 use Rattle.lnfs_arguments.specs.declared.types.Sequence.{Sequence}
 use Rattle.lnfs_arguments.specs.declared.types.CreateSession.{CreateSession}
 use Rattle.lnfs_operations.specs.CreateSession.{create_session, Created, is_next_created}
@@ -156,7 +156,7 @@ module _ (c : Compound) (read : IsRead c) where
 
   -- ---- a COMPOUND
 
-  module _ (X : Extra) (owed : AreLawful X) (site : Site) (lattice : IsPreorderWithBottom site.dom) (sent : Sent) (level : ℕ) (moment : Moment) (b : Both X.Row) (stands : BothStand X.Fact site.dom (begins_at level moment) b) (sizes : Sizes b.world) where
+  module _ (X : Extra) (owed : AreLawful X) (site : Site) (lattice : IsPreorderWithBottom site.dom) (spells : SpellsShortly site) (sent : Sent) (level : ℕ) (moment : Moment) (b : Both X.Row) (stands : BothStand X.Fact site.dom (begins_at level moment) b) (sizes : Sizes b.world) where
     abbrev deeds : (so_far : List OpResult) → Op → Deed Reply (Both X.Row)
     deeds = operation X site sent c
 
@@ -170,7 +170,7 @@ module _ (c : Compound) (read : IsRead c) where
         record { short = omega (arith, fits, known.granted.response.1); kept = tt })
         (λ x slot names next.
         let known = session_fits b.world sizes (session_named args.session) x (session_under-at args.session b.world.sessions x names.session) in
-        let ends = slot_ends X owed site lattice sent c level moment b args rest x slot stands names next read.tag known.granted.response.0 in
+        let ends = slot_ends X owed site lattice spells sent c level moment b args rest x slot stands sizes names next read.tag known.granted.response.0 in
         let r = begun X site sent c args rest b (done (in_session (begins_at level moment) x) (New x) []) in
         record { short = omega (arith, ends.0, known.granted.response.1); kept = subst (λ (o : Option Session). IfSome o (λ y. length (result_of c r.results r.again) + LARGEST_WRAPPING ≤ y.channel.max_response)) (sym ends.1) ends.0 })
 
@@ -186,14 +186,18 @@ module _ (c : Compound) (read : IsRead c) where
         in_order_any (λ o. let r = begun X site sent c args rest b o in length (result_of c r.results r.again) + LARGEST_WRAPPING ≤ x.channel.max_response) p slot.sequence (next_sequence slot.sequence) slot.kept args.sequence sent.arguments (λ reply. done p (Again reply) []) (done (in_session p x) (New x) [])
         (λ status. omega (arith, known.granted.response.0, one_fits (failed (ops.Sequence args) status) (omega (arith, failed_short (ops.Sequence args) status))))
         (λ k kept. subst (λ (o : Option world.Kept). IfSome o (λ kept. length kept.reply + LARGEST_WRAPPING ≤ x.channel.max_response)) kept (slot_fits x.channel.max_response args.slot x.slots slot known.kept names.slot))
-        (λ next. (slot_ends X owed site lattice sent c level moment b args rest x slot stands names (grind (arith, nat_tests, next)) read.tag known.granted.response.0).0)
+        (λ next. (slot_ends X owed site lattice spells sent c level moment b args rest x slot stands sizes names (grind (arith, nat_tests, next)) read.tag known.granted.response.0).0)
 
     extra_fits : (number : ℕ) (arguments : List ℕ) (rest : List Op) (serves : Bool) →
-        let own = cond serves (further_reply number (X.outcome site number arguments)) (on_world (deed_of (row sent (ops.Extra number arguments)))) in
+        let own = cond serves (further_reply number (X.outcome site number arguments)) (on_world (deed_of (row site sent (ops.Extra number arguments)))) in
         let t = cond serves (where_admitted X c [] (ops.Extra number arguments) own) own (begins_at level moment) b in
         Fits (followed [] (ops.Extra number arguments) t.place t.state t.answer (λ results. run_behind deeds results rest t.place t.state))
     extra_fits number arguments rest true = failure_fits deeds (ops.Extra number arguments) (begins_at level moment) b (record { gate = gates.Session; status = NFS4ERR_OP_NOT_IN_SESSION })
     extra_fits number arguments rest false = failure_fits deeds (ops.Extra number arguments) (begins_at level moment) b (record { gate = gates.Outside; status = NFS4ERR_NOTSUPP })
+
+    -- one that has to stand behind a SEQUENCE
+    behind_sequence : (op : Op) (rest : List Op) → Fits (followed [] op (begins_at level moment) b (failure op (record { gate = gates.Session; status = NFS4ERR_OP_NOT_IN_SESSION })) (λ results. run_behind deeds results rest (begins_at level moment) b))
+    behind_sequence op rest = failure_fits deeds op (begins_at level moment) b (record { gate = gates.Session; status = NFS4ERR_OP_NOT_IN_SESSION })
 
     from_fits : (os : List Op) → length os ≤ c.count → Fits (run_behind deeds [] os (begins_at level moment) b)
     unfolding run_behind begun
@@ -209,6 +213,19 @@ module _ (c : Compound) (read : IsRead c) where
     from_fits (ops.DestroyClientId client ∷ rest) few =
         alone_fits deeds (ops.DestroyClientId client) rest (begins_at level moment) b (row_in X site sent (ops.DestroyClientId client) (begins_at level moment) b) few (destroy_clientid_lone client (begins_at level moment) b.world) (c.count == 1) refl
     from_fits (ops.ReclaimComplete one_fs ∷ rest) few = failure_fits deeds (ops.ReclaimComplete one_fs) (begins_at level moment) b (record { gate = gates.Session; status = NFS4ERR_OP_NOT_IN_SESSION })
+    from_fits (ops.PutFh handle ∷ rest) few = behind_sequence (ops.PutFh handle) rest
+    from_fits (ops.PutRootFh ∷ rest) few = behind_sequence ops.PutRootFh rest
+    from_fits (ops.GetFh ∷ rest) few = behind_sequence ops.GetFh rest
+    from_fits (ops.SaveFh ∷ rest) few = behind_sequence ops.SaveFh rest
+    from_fits (ops.RestoreFh ∷ rest) few = behind_sequence ops.RestoreFh rest
+    from_fits (ops.Lookup name ∷ rest) few = behind_sequence (ops.Lookup name) rest
+    from_fits (ops.LookupP ∷ rest) few = behind_sequence ops.LookupP rest
+    from_fits (ops.GetAttr asked ∷ rest) few = behind_sequence (ops.GetAttr asked) rest
+    from_fits (ops.Verify given ∷ rest) few = behind_sequence (ops.Verify given) rest
+    from_fits (ops.NVerify given ∷ rest) few = behind_sequence (ops.NVerify given) rest
+    from_fits (ops.Access bits ∷ rest) few = behind_sequence (ops.Access bits) rest
+    from_fits (ops.ReadDir cookie verifier dircount maxcount asked ∷ rest) few = behind_sequence (ops.ReadDir cookie verifier dircount maxcount asked) rest
+    from_fits (ops.ReadLink ∷ rest) few = behind_sequence ops.ReadLink rest
     from_fits (ops.Outside number status ∷ rest) few = failure_fits deeds (ops.Outside number status) (begins_at level moment) b (record { gate = gates.Outside; status = status })
     from_fits (ops.Extra number arguments ∷ rest) few = extra_fits number arguments rest (X.grammar.serves number)
     from_fits (op ∷ rest) few = failure_fits deeds op (begins_at level moment) b (record { gate = gates.Outside; status = NFS4ERR_NOTSUPP })
@@ -223,16 +240,16 @@ module _ (c : Compound) (read : IsRead c) where
 
 -- ---- the whole
 
-module _ (X : Extra) (owed : AreLawful X) (site : Site) (lattice : IsPreorderWithBottom site.dom) (sent : Sent) (c : Compound) (level : ℕ) (moment : Moment) (b : Both X.Row) (stands : BothStand X.Fact site.dom (begins_at level moment) b) (sizes : Sizes b.world) (read : IsRead c) where
+module _ (X : Extra) (owed : AreLawful X) (site : Site) (lattice : IsPreorderWithBottom site.dom) (spells : SpellsShortly site) (sent : Sent) (c : Compound) (level : ℕ) (moment : Moment) (b : Both X.Row) (stands : BothStand X.Fact site.dom (begins_at level moment) b) (sizes : Sizes b.world) (read : IsRead c) where
   pub served_sizes : Sizes (served X site sent c (begins_at level moment) b).state.world
   unfolding served
   served_sizes =
       let r = run_all (operation X site sent c) c (begins_at level moment) b in
-      keep_sizes r.place r.state (run_sizes X owed site lattice sent c (begins_at level moment) b stands sizes) (record { arguments = sent.arguments; reply = result_of c r.results r.again }) r.keeper (run_fits c read X owed site lattice sent level moment b stands sizes).kept
+      keep_sizes r.place r.state (run_sizes X owed site lattice sent c (begins_at level moment) b stands sizes) (record { arguments = sent.arguments; reply = result_of c r.results r.again }) r.keeper (run_fits c read X owed site lattice spells sent level moment b stands sizes).kept
 
   pub served_short : length (served X site sent c (begins_at level moment) b).answer.result + LARGEST_WRAPPING ≤ MOST_SIZE
   unfolding served
-  served_short = (run_fits c read X owed site lattice sent level moment b stands sizes).short
+  served_short = (run_fits c read X owed site lattice spells sent level moment b stands sizes).short
 
   pub fits_named : (args : Sequence) (rest : List Op) (x : Session) (slot : SlotRow) → c.minor ≡ 2 → c.ops ≡ ops.Sequence args ∷ rest → Names level b.world args sent x slot →
       length (served X site sent c (begins_at level moment) b).answer.result + LARGEST_WRAPPING ≤ x.channel.max_response
@@ -240,4 +257,4 @@ module _ (X : Extra) (owed : AreLawful X) (site : Site) (lattice : IsPreorderWit
   fits_named args rest x slot minor is names =
       let ran = by_sequence X site sent c level moment b args rest minor is ∙ ap (begun X site sent c args rest b) (on_named level moment b.world args sent x slot names) in
       subst (λ (r : Ran (Both X.Row)). length (result_of c r.results r.again) + LARGEST_WRAPPING ≤ x.channel.max_response) (sym ran)
-      (named_fits c read X owed site lattice sent level moment b stands sizes args rest x slot names)
+      (named_fits c read X owed site lattice spells sent level moment b stands sizes args rest x slot names)

@@ -6,7 +6,7 @@ use Rattle.lnfs_world.specs.Change.{DropClient, is_session_of, is_open_of}
 use Rattle.lnfs_world.specs.Outcome.{Act, begins_at}
 use Rattle.lnfs_arguments.specs.declared.statuses.TheConstants.{NFS4ERR_STALE_CLIENTID, NFS4ERR_CLIENTID_BUSY}
 use Rattle.lnfs_operations.specs.declared.Gate.TheVariants.{Session, Monitor}
-use Rattle.lnfs_operations.specs.declared.Rule.TheVariants.{M9}
+use Rattle.lnfs_monitor.specs.declared.rule.Rule.TheVariants.{M9}
 use Rattle.lnfs_operations.specs.Chain.{Answer, refuse, done, demand, where_there}
 use Rattle.lnfs_operations.specs.Identifiers.{client_named}
 

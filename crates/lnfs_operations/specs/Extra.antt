@@ -1,5 +1,6 @@
 -- Further operations beside those of the table, and what they owe.
 use Rattle.std.specs.Prelude.{◌≡◌, ◌≢◌, ◌≤◌, ◌+◌, ◌⊎◌, ℕ, Bool, true, List, [], length, Option, Some, None, is_some}
+use Rattle.std.specs.List.{AllByRecursion}
 use Rattle.lnfs_calipso.specs.Label.{IsPreorderWithBottom}
 use Rattle.lnfs_arguments.specs.declared.statuses.TheConstants.{NFS4ERR_NOTSUPP}
 use Rattle.lnfs_arguments.specs.Further.{Further, nothing_further}
@@ -10,6 +11,7 @@ use Rattle.lnfs_world.specs.Lawful.{Turn, Deed, Lawful}
 use Rattle.lnfs_world.specs.Both.{Both, both_seen, BothStand}
 use Rattle.lnfs_operations.specs.declared.Gate.TheVariants.{Outside}
 use Rattle.lnfs_operations.specs.Chain.{Refusal}
+use Rattle.lnfs_operations.specs.Sizes.{NodeFits}
 
 -- what a further operation says: what refused it, if anything did, and the bytes behind its status
 pub record Said : Type 0 where
@@ -54,6 +56,8 @@ IsRefused p a t (Some why) = (why.status ≢ 0) × (t.place ≡ p) × (t.state �
 pub record IsTame (X : Extra) (dom : ℕ → ℕ → Bool) (room : ℕ) (p : Place) (a : Both X.Row) (t : Turn Said (Both X.Row)) : Type 0 where
   pub untouched : Untouched a.world t.state.world
   pub tame : Tame a.world t.state.world
+  -- labels and texts of links keep their limits
+  pub sizes : AllByRecursion NodeFits a.world.nodes → AllByRecursion NodeFits t.state.world.nodes
   pub moved : IsMoved dom t.state.world p t.place
   pub refused : IsRefused p a t t.answer.refusal
   -- with its number and its status the result is within its bound

@@ -5,7 +5,7 @@ use Rattle.lnfs_world.specs.Outcome.{Place, Outcome, Act}
 use Rattle.lnfs_arguments.specs.declared.types.Sequence.{Sequence}
 use Rattle.lnfs_arguments.specs.declared.statuses.TheConstants.{NFS4ERR_BADSESSION, NFS4ERR_BADSLOT, NFS4ERR_REQ_TOO_BIG, NFS4ERR_TOO_MANY_OPS}
 use Rattle.lnfs_operations.specs.declared.Gate.TheVariants as gates
-use Rattle.lnfs_operations.specs.declared.Rule.TheVariants.{M9}
+use Rattle.lnfs_monitor.specs.declared.rule.Rule.TheVariants.{M9}
 use Rattle.lnfs_operations.specs.Chain.{Answer, refuse, done, demand, where_there}
 use Rattle.lnfs_operations.specs.Identifiers.{session_named, session_under}
 use Rattle.lnfs_operations.specs.InOrder.{in_order}

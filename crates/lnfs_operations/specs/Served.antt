@@ -1,6 +1,6 @@
 -- The operations that are served: what each answers in its COMPOUND, and whether the result of the whole
 -- COMPOUND is kept.
-use Rattle.std.specs.Prelude.{ℕ, ◌-◌, Bool, true, false, cond, List, Option, Some, None}
+use Rattle.std.specs.Prelude.{ℕ, ◌-◌, Bool, true, false, cond, List, replicate, Option, Some, None}
 use Rattle.lnfs_arguments.specs.Further.{Further}
 use Rattle.lnfs_arguments.specs.declared.types.Op.{Op}
 use Rattle.lnfs_arguments.specs.declared.types.Op.TheVariants as ops
@@ -24,6 +24,12 @@ use Rattle.lnfs_operations.specs.DestroySession.{destroy_session}
 use Rattle.lnfs_operations.specs.Sequence.{Sent, Sequenced, New, Again, sequence}
 use Rattle.lnfs_operations.specs.DestroyClientId.{destroy_clientid}
 use Rattle.lnfs_operations.specs.ReclaimComplete.{reclaim_complete}
+use Rattle.lnfs_operations.specs.FileHandles.{put_fh, put_root_fh, get_fh, save_fh, restore_fh}
+use Rattle.lnfs_operations.specs.Lookup.{lookup, lookup_parent}
+use Rattle.lnfs_operations.specs.GetAttr.{get_attr, verify, nverify}
+use Rattle.lnfs_operations.specs.Access.{access}
+use Rattle.lnfs_operations.specs.ReadDir.{read_dir}
+use Rattle.lnfs_operations.specs.ReadLink.{read_link}
 use Rattle.lnfs_operations.specs.Extra.{Said, Extra}
 use Rattle.lnfs_operations.specs.Results.{Answered, failed, told_result, said_result}
 use Rattle.lnfs_operations.specs.Admission.{admission}
@@ -96,17 +102,37 @@ create_session_in sent args p w =
     let o = replied (ops.CreateSession args) (created_reply p.subject args) (create_session args sent.arguments p w) in
     record o { answer = under (created_keeper args p w) o.answer }
 
+abbrev pub plainly : OpResult → Unit {0} → Reply
+plainly result it = success result Nowhere
+
+abbrev pub zeros : ℕ → List ℕ
+zeros n = replicate n 0
+
 -- what an operation of the table answers
-abbrev pub row : Sent → Op → Act Reply
-row sent (ops.ExchangeId verifier owner flags implementation) p w =
+abbrev pub row : Site → Sent → Op → Act Reply
+row site sent (ops.ExchangeId verifier owner flags implementation) p w =
     replied (ops.ExchangeId verifier owner flags implementation) (told_reply p.subject) (exchange_id (record { verifier = verifier; owner = owner; flags = flags }) p w)
-row sent (ops.CreateSession args) p w = create_session_in sent args p w
-row sent (ops.DestroySession session) p w = replied (ops.DestroySession session) (λ _. success results.DestroySession Nowhere) (destroy_session session p w)
-row sent (ops.Sequence args) p w = replied (ops.Sequence args) (sequence_reply args) (sequence args sent p w)
-row sent (ops.DestroyClientId client) p w = replied (ops.DestroyClientId client) (λ _. success results.DestroyClientId Nowhere) (destroy_clientid client p w)
-row sent (ops.ReclaimComplete one_fs) p w = replied (ops.ReclaimComplete one_fs) (λ _. success results.ReclaimComplete Nowhere) (reclaim_complete one_fs p w)
-row sent (ops.Outside number status) p w = replied (ops.Outside number status) (told_reply p.subject) (refuse p Outside status)
-row sent op p w = replied op (told_reply p.subject) (refuse p Outside NFS4ERR_NOTSUPP)
+row site sent (ops.CreateSession args) p w = create_session_in sent args p w
+row site sent (ops.DestroySession session) p w = replied (ops.DestroySession session) (λ _. success results.DestroySession Nowhere) (destroy_session session p w)
+row site sent (ops.Sequence args) p w = replied (ops.Sequence args) (sequence_reply args) (sequence args sent p w)
+row site sent (ops.DestroyClientId client) p w = replied (ops.DestroyClientId client) (λ _. success results.DestroyClientId Nowhere) (destroy_clientid client p w)
+row site sent (ops.ReclaimComplete one_fs) p w = replied (ops.ReclaimComplete one_fs) (λ _. success results.ReclaimComplete Nowhere) (reclaim_complete one_fs p w)
+row site sent (ops.PutFh handle) p w = replied (ops.PutFh handle) (plainly results.PutFh) (put_fh site handle p w)
+row site sent ops.PutRootFh p w = replied ops.PutRootFh (plainly results.PutRootFh) (put_root_fh p w)
+row site sent ops.GetFh p w = replied ops.GetFh (λ handle. success (results.GetFh handle) Nowhere) (get_fh p w)
+row site sent ops.SaveFh p w = replied ops.SaveFh (plainly results.SaveFh) (save_fh p w)
+row site sent ops.RestoreFh p w = replied ops.RestoreFh (plainly results.RestoreFh) (restore_fh p w)
+row site sent (ops.Lookup name) p w = replied (ops.Lookup name) (plainly results.Lookup) (lookup site name p w)
+row site sent ops.LookupP p w = replied ops.LookupP (plainly results.LookupP) (lookup_parent site p w)
+row site sent (ops.GetAttr asked) p w = replied (ops.GetAttr asked) (λ given. success (results.GetAttr given) Nowhere) (get_attr site asked p w)
+row site sent (ops.Verify given) p w = replied (ops.Verify given) (plainly results.Verify) (verify site given p w)
+row site sent (ops.NVerify given) p w = replied (ops.NVerify given) (plainly results.NVerify) (nverify site given p w)
+row site sent (ops.Access bits) p w = replied (ops.Access bits) (λ told. success (results.Access told.supported told.granted) Nowhere) (access site bits p w)
+row site sent (ops.ReadDir cookie verifier dircount maxcount asked) p w =
+    replied (ops.ReadDir cookie verifier dircount maxcount asked) (λ found. success (results.ReadDir (zeros 8) found.entries found.eof) Nowhere) (read_dir site (record { cookie = cookie; maxcount = maxcount; asked = asked }) p w)
+row site sent ops.ReadLink p w = replied ops.ReadLink (λ text. success (results.ReadLink text) Nowhere) (read_link site p w)
+row site sent (ops.Outside number status) p w = replied (ops.Outside number status) (told_reply p.subject) (refuse p Outside status)
+row site sent op p w = replied op (told_reply p.subject) (refuse p Outside NFS4ERR_NOTSUPP)
 
 -- ---- with further operations
 
@@ -118,8 +144,8 @@ further_reply number deed p a = record { answer = said_reply number (deed p a).a
 
 abbrev pub row_in : (X : Extra) → Site → Sent → Op → Deed Reply (Both X.Row)
 row_in X site sent (ops.Extra number arguments) =
-    cond (X.grammar.serves number) (further_reply number (X.outcome site number arguments)) (on_world (deed_of (row sent (ops.Extra number arguments))))
-row_in X site sent op = on_world (deed_of (row sent op))
+    cond (X.grammar.serves number) (further_reply number (X.outcome site number arguments)) (on_world (deed_of (row site sent (ops.Extra number arguments))))
+row_in X site sent op = on_world (deed_of (row site sent op))
 
 -- ---- in a COMPOUND
 
@@ -134,6 +160,19 @@ is_served x (ops.DestroySession session) = true
 is_served x (ops.Sequence args) = true
 is_served x (ops.DestroyClientId client) = true
 is_served x (ops.ReclaimComplete one_fs) = true
+is_served x (ops.PutFh handle) = true
+is_served x ops.PutRootFh = true
+is_served x ops.GetFh = true
+is_served x ops.SaveFh = true
+is_served x ops.RestoreFh = true
+is_served x (ops.Lookup name) = true
+is_served x ops.LookupP = true
+is_served x (ops.GetAttr asked) = true
+is_served x (ops.Verify given) = true
+is_served x (ops.NVerify given) = true
+is_served x (ops.Access bits) = true
+is_served x (ops.ReadDir cookie verifier dircount maxcount asked) = true
+is_served x ops.ReadLink = true
 is_served x (ops.Outside number status) = true
 is_served x (ops.Extra number arguments) = x.serves number
 is_served x op = false

@@ -1,10 +1,12 @@
--- Sizes that hold of every world that the server keeps: what its sessions grant, and how long the results are
--- that it keeps.
-use Rattle.std.specs.Prelude.{◌≡◌, ◌≤◌, ◌+◌, ℕ, length, IfSome}
+-- Sizes that hold of every world that the server keeps: what its sessions grant, how long the results are that it
+-- keeps, and the labels and the texts of links that its nodes have.
+use Rattle.std.specs.Prelude.{◌≡◌, ◌≤◌, ◌+◌, ℕ, true, length, IfSome}
 use Rattle.std.specs.List.{AllByRecursion}
 use Rattle.lnfs_arguments.specs.declared.types.Compound.{Compound}
-use Rattle.lnfs_world.specs.World.{Client, Channel, Slot, Session, World}
-use Rattle.lnfs_operations.specs.declared.numbers.TheConstants.{LEAST_SIZE, MOST_SIZE, MOST_OPERATIONS, MOST_REQUESTS, LARGEST_WRAPPING, MOST_CREATED}
+use Rattle.lnfs_world.specs.World.{Client, Channel, Slot, Session, Node, World}
+use Rattle.lnfs_world.specs.Outcome.{Site}
+use Rattle.lnfs_operations.specs.declared.numbers.TheConstants.{LEAST_SIZE, MOST_SIZE, MOST_OPERATIONS, MOST_REQUESTS, LARGEST_WRAPPING, MOST_CREATED, MOST_LABEL, MOST_TEXT}
+use Rattle.lnfs_operations.specs.Lookup.{is_link}
 
 abbrev pub IsBetween : (least most : ℕ) → ℕ → Type 0
 IsBetween least most n = (least ≤ n) × (n ≤ most)
@@ -30,9 +32,20 @@ pub record SessionFits (x : Session) : Type 0 where
 abbrev pub ClientFits : Client → Type 0
 ClientFits c = IfSome c.kept (λ kept. length kept.reply ≤ MOST_CREATED)
 
+pub record NodeFits (n : Node) : Type 0 where
+  -- the label, where it is stored as it was given
+  pub stored : IfSome n.inner.stored (λ stored. length stored.bytes ≤ MOST_LABEL)
+  -- the text of a symbolic link
+  pub text : is_link n.kind ≡ true → length n.inner.content ≤ MOST_TEXT
+
 pub record Sizes (w : World) : Type 0 where
   pub sessions : AllByRecursion SessionFits w.sessions
   pub clients : AllByRecursion ClientFits w.clients
+  pub nodes : AllByRecursion NodeFits w.nodes
+
+-- Each level has a short spelling.
+abbrev pub SpellsShortly : Site → Type 0
+SpellsShortly site = (level : ℕ) → length (site.spelling level).bytes ≤ MOST_LABEL
 
 -- A COMPOUND that was read: its tag is short, and it has no more operations than it counts.
 pub record IsRead (c : Compound) : Type 0 where

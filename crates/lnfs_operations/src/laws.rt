@@ -1,14 +1,19 @@
 //! The laws of each operation, as contracts of functions that do nothing.
-ghost use Rattle.std.specs.Prelude.{◌≡◌, ◌≤◌, ◌+◌, ℕ, Bool, List, ◌∷◌, length, Some, None};
+ghost use Rattle.std.specs.Prelude.{◌≡◌, ◌≤◌, ◌<◌, ◌+◌, ℕ, Bool, List, ◌∷◌, length, Some, None};
 ghost use Rattle.lnfs_calipso.specs.Label.{IsPreorderWithBottom};
 ghost use Rattle.lnfs_outside.specs.declared.event.Moment.{Moment};
+ghost use Rattle.lnfs_attrs.specs.declared.bitmap.Bitmap.{Bitmap};
+ghost use Rattle.lnfs_attrs.specs.declared.view.View.{View as Shown};
+ghost use Rattle.lnfs_attrs.specs.declared.raw.RawAttrs.{RawAttrs};
+ghost use Rattle.lnfs_attrs.specs.Bitmaps.{has_attr, BitmapFits};
+ghost use Rattle.lnfs_attrs.specs.Sizes.{ViewFits, IsAnswer};
 ghost use Rattle.lnfs_arguments.specs.declared.types.Op.{Op};
 ghost use Rattle.lnfs_arguments.specs.declared.types.Op.TheVariants as ops;
 ghost use Rattle.lnfs_arguments.specs.declared.types.Compound.{Compound};
 ghost use Rattle.lnfs_arguments.specs.declared.types.CreateSession.{CreateSession};
 ghost use Rattle.lnfs_arguments.specs.declared.types.Sequence.{Sequence};
 ghost use Rattle.lnfs_results.specs.declared.types.OpResult.{OpResult};
-ghost use Rattle.lnfs_world.specs.World.{Kept, Client, Slot, Session, client_at};
+ghost use Rattle.lnfs_world.specs.World.{Id, Kept, Client, Slot, Session, client_at};
 ghost use Rattle.lnfs_world.specs.Outcome.{Site, View, Footprint, begins_at};
 ghost use Rattle.lnfs_world.specs.Both.{Both, both_seen, BothStand};
 ghost use Rattle.lnfs_world.specs.Lawful.{Lawful};
@@ -19,14 +24,23 @@ ghost use Rattle.lnfs_operations.specs.DestroySession.{destroy_session};
 ghost use Rattle.lnfs_operations.specs.Sequence.{Sent, sequence};
 ghost use Rattle.lnfs_operations.specs.DestroyClientId.{destroy_clientid};
 ghost use Rattle.lnfs_operations.specs.ReclaimComplete.{reclaim_complete};
+ghost use Rattle.lnfs_operations.specs.FileHandles.{put_fh, put_root_fh, get_fh, save_fh, restore_fh};
+ghost use Rattle.lnfs_operations.specs.Lookup.{lookup, lookup_parent};
+ghost use Rattle.lnfs_operations.specs.Access.{access};
+ghost use Rattle.lnfs_operations.specs.ReadLink.{read_link};
 ghost use Rattle.lnfs_operations.specs.Keeping.{next_sequence, keep_result, keep_created};
-ghost use Rattle.lnfs_operations.specs.Extra.{no_extra};
 ghost use Rattle.lnfs_operations.specs.Identifiers.{client_named};
 ghost use Rattle.lnfs_operations.specs.InOrder.{sequence_before};
 ghost use Rattle.lnfs_operations.specs.Served.{operation};
 ghost use Rattle.lnfs_operations.specs.SlotRule.{served};
 ghost use Rattle.lnfs_operations.specs.Retries.{Names};
-ghost use Rattle.lnfs_operations.specs.Sizes.{Sizes, IsRead};
+ghost use Rattle.lnfs_operations.specs.Sizes.{Sizes, SpellsShortly, IsRead};
+ghost use Rattle.lnfs_operations.specs.Shown.{bitmap_of, answer_to};
+ghost use Rattle.lnfs_operations.specs.Handles.{handle_of};
+ghost use Rattle.lnfs_operations.specs.GetAttr.{get_attr, verify, nverify};
+ghost use Rattle.lnfs_operations.specs.ReadDir.{Arguments as Listing, read_dir};
+
+use crate::extra::ExtraRows;
 
 /// EXCHANGE_ID looks only at what its subject sees and changes only rows of its subject's level.
 pub fn exchange_id_is_lawful()
@@ -58,61 +72,104 @@ pub fn keeping_is_lawful()
     ensures created_footprint { (dom : ℕ → ℕ → Bool) (client : ℕ) (kept : Kept) → Footprint dom (keep_created client kept) }
 {}
 
+/// Each operation that reads file handles, names, attributes and links looks only at what its subject sees, so
+/// at nothing of the content of a node that it may not read, and changes only what is of the subject's level.
+pub fn reading_is_lawful()
+    ensures put_fh_view { (site : Site) → IsPreorderWithBottom site.dom → (handle : List ℕ) → View site.dom (put_fh site handle) }
+    ensures put_fh_footprint { (site : Site) → IsPreorderWithBottom site.dom → (handle : List ℕ) → Footprint site.dom (put_fh site handle) }
+    ensures put_root_fh_view { (site : Site) → IsPreorderWithBottom site.dom → View site.dom put_root_fh }
+    ensures put_root_fh_footprint { (site : Site) → IsPreorderWithBottom site.dom → Footprint site.dom put_root_fh }
+    ensures get_fh_view { (site : Site) → IsPreorderWithBottom site.dom → View site.dom get_fh }
+    ensures get_fh_footprint { (site : Site) → IsPreorderWithBottom site.dom → Footprint site.dom get_fh }
+    ensures save_fh_view { (site : Site) → IsPreorderWithBottom site.dom → View site.dom save_fh }
+    ensures save_fh_footprint { (site : Site) → IsPreorderWithBottom site.dom → Footprint site.dom save_fh }
+    ensures restore_fh_view { (site : Site) → IsPreorderWithBottom site.dom → View site.dom restore_fh }
+    ensures restore_fh_footprint { (site : Site) → IsPreorderWithBottom site.dom → Footprint site.dom restore_fh }
+    ensures lookup_view { (site : Site) → IsPreorderWithBottom site.dom → (name : List ℕ) → View site.dom (lookup site name) }
+    ensures lookup_footprint { (site : Site) → IsPreorderWithBottom site.dom → (name : List ℕ) → Footprint site.dom (lookup site name) }
+    ensures lookup_parent_view { (site : Site) → IsPreorderWithBottom site.dom → View site.dom (lookup_parent site) }
+    ensures lookup_parent_footprint { (site : Site) → IsPreorderWithBottom site.dom → Footprint site.dom (lookup_parent site) }
+    ensures access_view { (site : Site) → IsPreorderWithBottom site.dom → (bits : ℕ) → View site.dom (access site bits) }
+    ensures access_footprint { (site : Site) → IsPreorderWithBottom site.dom → (bits : ℕ) → Footprint site.dom (access site bits) }
+    ensures read_link_view { (site : Site) → IsPreorderWithBottom site.dom → View site.dom (read_link site) }
+    ensures read_link_footprint { (site : Site) → IsPreorderWithBottom site.dom → Footprint site.dom (read_link site) }
+    ensures get_attr_view { (site : Site) → IsPreorderWithBottom site.dom → (asked : Bitmap) → View site.dom (get_attr site asked) }
+    ensures get_attr_footprint { (site : Site) → IsPreorderWithBottom site.dom → (asked : Bitmap) → Footprint site.dom (get_attr site asked) }
+    ensures verify_view { (site : Site) → IsPreorderWithBottom site.dom → (given : RawAttrs) → View site.dom (verify site given) }
+    ensures verify_footprint { (site : Site) → IsPreorderWithBottom site.dom → (given : RawAttrs) → Footprint site.dom (verify site given) }
+    ensures nverify_view { (site : Site) → IsPreorderWithBottom site.dom → (given : RawAttrs) → View site.dom (nverify site given) }
+    ensures nverify_footprint { (site : Site) → IsPreorderWithBottom site.dom → (given : RawAttrs) → Footprint site.dom (nverify site given) }
+    ensures read_dir_view { (site : Site) → IsPreorderWithBottom site.dom → (args : Listing) → View site.dom (read_dir site args) }
+    ensures read_dir_footprint { (site : Site) → IsPreorderWithBottom site.dom → (args : Listing) → Footprint site.dom (read_dir site args) }
+{}
+
 /// Each operation behind the results so far of its COMPOUND keeps the two laws of erasure, and what has to stand of world and
 /// place.
-pub fn operations_are_lawful()
+pub fn operations_are_lawful<X: ExtraRows>()
     ensures { (site : Site) → IsPreorderWithBottom site.dom → (sent : Sent) (c : Compound) (so_far : List OpResult) (op : Op) →
-        Lawful site.dom (both_seen no_extra.level_of site.dom) (BothStand no_extra.Fact site.dom) (operation no_extra site sent c so_far op) }
+        Lawful site.dom (both_seen X.extra.level_of site.dom) (BothStand X.extra.Fact site.dom) (operation X.extra site sent c so_far op) }
 {}
 
 /// Each COMPOUND under the slot rule, with the keeping of its result, keeps the two laws of erasure, and
 /// what has to stand of world and place.
-pub fn compounds_are_lawful()
+pub fn compounds_are_lawful<X: ExtraRows>()
     ensures { (site : Site) → IsPreorderWithBottom site.dom → (sent : Sent) (c : Compound) →
-        Lawful site.dom (both_seen no_extra.level_of site.dom) (BothStand no_extra.Fact site.dom) (served no_extra site sent c) }
+        Lawful site.dom (both_seen X.extra.level_of site.dom) (BothStand X.extra.Fact site.dom) (served X.extra site sent c) }
 {}
 
 /// A COMPOUND that comes again on its slot gets the result that is kept there, and the world stays
 /// (RFC 8881 section 2.10.6.1).
-pub fn retries_are_answered_again()
-    ensures kept { (site : Site) (sent : Sent) (c : Compound) (level : ℕ) (moment : Moment) (b : Both no_extra.Row) (args : Sequence) (rest : List Op) (x : Session) (slot : Slot) (reply : List ℕ) →
+pub fn retries_are_answered_again<X: ExtraRows>()
+    ensures kept { (site : Site) (sent : Sent) (c : Compound) (level : ℕ) (moment : Moment) (b : Both X.extra.Row) (args : Sequence) (rest : List Op) (x : Session) (slot : Slot) (reply : List ℕ) →
         c.minor ≡ 2 → c.ops ≡ ops.Sequence args ∷ rest → Names level b.world args sent x slot →
         slot ≡ record { sequence = args.sequence; kept = Some (record { arguments = sent.arguments; reply = reply }) } →
-        served no_extra site sent c (begins_at level moment) b ≡ record { answer = record { result = reply; denial = None }; place = begins_at level moment; state = b } }
+        served X.extra site sent c (begins_at level moment) b ≡ record { answer = record { result = reply; denial = None }; place = begins_at level moment; state = b } }
     // So does a CREATE_SESSION under the last sequence of its client's record (RFC 8881 section 18.36.4).
-    ensures created { (site : Site) (sent : Sent) (c : Compound) (level : ℕ) (moment : Moment) (b : Both no_extra.Row) (args : CreateSession) (rest : List Op) (client : Client) (reply : List ℕ) →
+    ensures created { (site : Site) (sent : Sent) (c : Compound) (level : ℕ) (moment : Moment) (b : Both X.extra.Row) (args : CreateSession) (rest : List Op) (client : Client) (reply : List ℕ) →
         c.minor ≡ 2 → c.count ≡ 1 → c.ops ≡ ops.CreateSession args ∷ rest →
         (client_named args.client).level ≡ level → client_at b.world.clients (client_named args.client) ≡ Some client →
         args.sequence ≡ sequence_before client.sequence → client.kept ≡ Some (record { arguments = sent.arguments; reply = reply }) →
-        served no_extra site sent c (begins_at level moment) b ≡ record { answer = record { result = reply; denial = None }; place = begins_at level moment; state = b } }
+        served X.extra site sent c (begins_at level moment) b ≡ record { answer = record { result = reply; denial = None }; place = begins_at level moment; state = b } }
     // A new COMPOUND under the next sequence of its slot acts once: with the same arguments it gets its first
     // result, and leaves what the first one left.
-    ensures once { (site : Site) → IsPreorderWithBottom site.dom → (sent again : Sent) (c : Compound) (level : ℕ) (moment later : Moment) (b : Both no_extra.Row) (args : Sequence) (rest : List Op) (x : Session) (slot : Slot) →
-        BothStand no_extra.Fact site.dom (begins_at level moment) b → c.minor ≡ 2 → c.ops ≡ ops.Sequence args ∷ rest →
+    ensures once { (site : Site) → IsPreorderWithBottom site.dom → (sent again : Sent) (c : Compound) (level : ℕ) (moment later : Moment) (b : Both X.extra.Row) (args : Sequence) (rest : List Op) (x : Session) (slot : Slot) →
+        BothStand X.extra.Fact site.dom (begins_at level moment) b → c.minor ≡ 2 → c.ops ≡ ops.Sequence args ∷ rest →
         Names level b.world args sent x slot → args.sequence ≡ next_sequence slot.sequence →
         again.arguments ≡ sent.arguments → again.size ≤ x.channel.max_request → again.count ≤ x.channel.max_operations →
-        let first = served no_extra site sent c (begins_at level moment) b in
-        served no_extra site again c (begins_at level later) first.state
+        let first = served X.extra site sent c (begins_at level moment) b in
+        served X.extra site again c (begins_at level later) first.state
         ≡ record { answer = record { result = first.answer.result; denial = None }; place = begins_at level later; state = first.state } }
 {}
 
 /// The result of a new COMPOUND on an accepted slot leaves room in a response of its session for the largest
 /// wrapping in an RPC message (RFC 8881 section 2.10.6.4).
-pub fn results_leave_room()
-    ensures { (site : Site) → IsPreorderWithBottom site.dom → (sent : Sent) (c : Compound) (level : ℕ) (moment : Moment) (b : Both no_extra.Row) (args : Sequence) (rest : List Op) (x : Session) (slot : Slot) →
-        BothStand no_extra.Fact site.dom (begins_at level moment) b → c.minor ≡ 2 → c.ops ≡ ops.Sequence args ∷ rest →
+pub fn results_leave_room<X: ExtraRows>()
+    ensures { (site : Site) → IsPreorderWithBottom site.dom → SpellsShortly site → (sent : Sent) (c : Compound) (level : ℕ) (moment : Moment) (b : Both X.extra.Row) (args : Sequence) (rest : List Op) (x : Session) (slot : Slot) →
+        BothStand X.extra.Fact site.dom (begins_at level moment) b → Sizes b.world → c.minor ≡ 2 → c.ops ≡ ops.Sequence args ∷ rest →
         Names level b.world args sent x slot → args.sequence ≡ next_sequence slot.sequence →
         length c.tag ≤ 1024 → LEAST_SIZE ≤ x.channel.max_response →
-        length (served no_extra site sent c (begins_at level moment) b).answer.result + LARGEST_WRAPPING ≤ x.channel.max_response }
+        length (served X.extra site sent c (begins_at level moment) b).answer.result + LARGEST_WRAPPING ≤ x.channel.max_response }
 {}
 
-/// Whatever COMPOUND that was read is served, what sessions grant and the lengths of kept results stay within
-/// the limits of the server, and with its wrapping each result has at most the greatest size of a response.
-pub fn sizes_are_kept()
-    ensures kept { (site : Site) → IsPreorderWithBottom site.dom → (sent : Sent) (c : Compound) (level : ℕ) (moment : Moment) (b : Both no_extra.Row) →
-        BothStand no_extra.Fact site.dom (begins_at level moment) b → Sizes b.world → IsRead c →
-        Sizes (served no_extra site sent c (begins_at level moment) b).state.world }
-    ensures short { (site : Site) → IsPreorderWithBottom site.dom → (sent : Sent) (c : Compound) (level : ℕ) (moment : Moment) (b : Both no_extra.Row) →
-        BothStand no_extra.Fact site.dom (begins_at level moment) b → Sizes b.world → IsRead c →
-        length (served no_extra site sent c (begins_at level moment) b).answer.result + LARGEST_WRAPPING ≤ MOST_SIZE }
+/// Whatever COMPOUND that was read is served, what sessions grant, the lengths of kept results, stored labels and
+/// the texts of links stay within the limits of the server, and with its wrapping each result has at most the
+/// greatest size of a response.
+pub fn sizes_are_kept<X: ExtraRows>()
+    ensures kept { (site : Site) → IsPreorderWithBottom site.dom → SpellsShortly site → (sent : Sent) (c : Compound) (level : ℕ) (moment : Moment) (b : Both X.extra.Row) →
+        BothStand X.extra.Fact site.dom (begins_at level moment) b → Sizes b.world → IsRead c →
+        Sizes (served X.extra site sent c (begins_at level moment) b).state.world }
+    ensures short { (site : Site) → IsPreorderWithBottom site.dom → SpellsShortly site → (sent : Sent) (c : Compound) (level : ℕ) (moment : Moment) (b : Both X.extra.Row) →
+        BothStand X.extra.Fact site.dom (begins_at level moment) b → Sizes b.world → IsRead c →
+        length (served X.extra site sent c (begins_at level moment) b).answer.result + LARGEST_WRAPPING ≤ MOST_SIZE }
+{}
+
+/// A bitmap is that of the attributes that it has, and that of a test has those below 256 that pass. What is
+/// answered of a view that fits is within the limits of an answer.
+pub fn attributes_are_told()
+    ensures itself { (b : Bitmap) → BitmapFits b → b ≡ bitmap_of (has_attr b) }
+    ensures told { (b : Bitmap) → BitmapFits b → (test : ℕ → Bool) → ((n : ℕ) → n < 256 → has_attr b n ≡ test n) → b ≡ bitmap_of test }
+    ensures has { (test : ℕ → Bool) (n : ℕ) → n < 256 → has_attr (bitmap_of test) n ≡ test n }
+    ensures fits { (test : ℕ → Bool) → BitmapFits (bitmap_of test) }
+    ensures answer { (asked : Bitmap) (inner : Bool) (view : Shown) → ViewFits view → IsAnswer (answer_to asked inner view) }
+    ensures handle { (i : Id) → length (handle_of i) ≡ 12 }
 {}

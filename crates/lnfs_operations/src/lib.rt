@@ -5,13 +5,17 @@
 //! `numbers` has the limits and flags of the operations.
 #![tactic(auto)]
 
+mod extra;
 mod laws;
 pub mod numbers;
 
+pub use extra::ExtraRows;
 pub use laws::{
-    compounds_are_lawful, exchange_id_is_lawful, keeping_is_lawful, operations_are_lawful,
-    results_leave_room, retries_are_answered_again, session_operations_are_lawful, sizes_are_kept,
+    attributes_are_told, compounds_are_lawful, exchange_id_is_lawful, keeping_is_lawful,
+    operations_are_lawful, reading_is_lawful, results_leave_room, retries_are_answered_again,
+    session_operations_are_lawful, sizes_are_kept,
 };
+use lnfs_monitor::Rule;
 
 /// Which kind of test refused an operation.
 #[derive(Clone, Copy, Debug, PartialEq, Eq)]
@@ -34,27 +38,9 @@ pub enum Gate {
     Quota,
 }
 
-/// The rules of labels, by which a subject of a level may read and write (the Bell-LaPadula rules, with
-/// strict writing).
+/// Which test refused an operation, and the status that it answers.
 #[derive(Clone, Copy, Debug, PartialEq, Eq)]
-pub enum Rule {
-    /// To read, the subject dominates the label.
-    M1,
-    /// To write, the subject is at the label.
-    M2,
-    /// To change a directory's names, the subject is at its label.
-    M3,
-    /// A child's label dominates its directory's.
-    M4,
-    /// To raise a label, the subject is at the old one and at that of each parent, and the new one
-    /// dominates the old.
-    M5,
-    /// To take out a node, the subject is at its label.
-    M6,
-    /// To deny others an open, the subject is at the label.
-    M7,
-    /// To name a node, the subject dominates its home.
-    M8,
-    /// An identifier is of the subject's level.
-    M9,
+pub struct Refusal {
+    pub gate: Gate,
+    pub status: u32,
 }

@@ -44,3 +44,21 @@ pub const RESERVED_ROOM: u32 = 128;
 /// The most bytes of the result of a COMPOUND that is a CREATE_SESSION alone: 12 of its status, the length
 /// of its tag and its count, 1,024 of the tag, and 96 of the operation's result.
 pub const MOST_CREATED: u32 = 1_132;
+
+/// The most bytes of a name.
+pub const LONGEST_NAME: u32 = 255;
+
+/// The bits of ACCESS that the rule for reading allows: READ, LOOKUP and EXECUTE (RFC 8881 section 18.1).
+pub const ACCESS_READING: u32 = 0x23;
+
+/// Those that the rule for writing allows: MODIFY, EXTEND and DELETE.
+pub const ACCESS_WRITING: u32 = 0x1c;
+
+/// The bytes of a READDIR result without an entry: the verifier, the end of the list, and eof.
+pub const EMPTY_LISTING: u32 = 16;
+
+/// The most bytes of a label in the world, as it was stored or as the site writes it.
+pub const MOST_LABEL: u32 = 1_024;
+
+/// The most bytes of the text of a symbolic link.
+pub const MOST_TEXT: u32 = 1_024;

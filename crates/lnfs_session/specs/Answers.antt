@@ -3,7 +3,7 @@ use Rattle.std.specs.Prelude.{Bool, cond, Result, Ok, Err}
 use Rattle.lnfs_world.specs.World.{Client}
 use Rattle.lnfs_operations.specs.declared.Gate.{Gate}
 use Rattle.lnfs_operations.specs.declared.Gate.TheVariants.{Session, Monitor}
-use Rattle.lnfs_operations.specs.declared.Rule.TheVariants.{M9}
+use Rattle.lnfs_monitor.specs.declared.rule.Rule.TheVariants.{M9}
 use Rattle.lnfs_operations.specs.Chain.{Answer, Done, Refused}
 use Rattle.lnfs_operations.specs.ExchangeId as exchange
 use Rattle.std.specs.Prelude.{◌≡◌}

@@ -38,6 +38,7 @@ use Rattle.lnfs_operations.proofs.Chains.{demand_any, where_any, in_order_any}
 use Rattle.lnfs_operations.proofs.CreateSessionLaws.{created_any}
 use Rattle.lnfs_operations.proofs.ExchangeIdLaws.{exchange_id_any}
 use Rattle.lnfs_operations.proofs.Once.{admitted_any}
+use Rattle.lnfs_operations.proofs.ReadingRows.{is_reading, row_reads, reads_any}
 use Rattle.lnfs_operations.proofs.ServedLaws.{operation_lawful}
 use Rattle.lnfs_operations.proofs.SlotRules.{followed_any, served_lawful}
 
@@ -156,15 +157,31 @@ module _ (Q : ℕ → Kept → Type 0) where
     reclaim_under_left one_fs None = keeps
     reclaim_under_left one_fs (Some number) = where_any Left (client_at w.clients (record { level = p.subject; number = number })) _ _ (λ c found. reclaimed_left one_fs number c found) keeps
 
-    row_left : (sent : Sent) (op : Op) → Left (row sent op p w)
-    row_left sent (ops.ExchangeId verifier owner flags implementation) = exchange_id_left (record { verifier = verifier; owner = owner; flags = flags })
-    row_left sent (ops.CreateSession args) = create_session_left args sent.arguments
-    row_left sent (ops.DestroySession session) = destroy_session_left session
-    row_left sent (ops.Sequence args) = sequence_left args sent
-    row_left sent (ops.DestroyClientId client) = destroy_clientid_left client
-    row_left sent (ops.ReclaimComplete one_fs) = reclaim_under_left one_fs p.client
-    row_left sent (ops.Outside number status) = keeps
-    row_left sent op = keeps
+    read_left : (site : Site) (sent : Sent) (op : Op) → is_reading op ≡ true → Left (row site sent op p w)
+    read_left site sent op is = reads_any p w (Keeps Q) (row site sent op p w) (row_reads site sent p w op is) keeps (λ n found. record { sessions = keeps.sessions; clients = keeps.clients })
+
+    row_left : (site : Site) (sent : Sent) (op : Op) → Left (row site sent op p w)
+    row_left site sent (ops.ExchangeId verifier owner flags implementation) = exchange_id_left (record { verifier = verifier; owner = owner; flags = flags })
+    row_left site sent (ops.CreateSession args) = create_session_left args sent.arguments
+    row_left site sent (ops.DestroySession session) = destroy_session_left session
+    row_left site sent (ops.Sequence args) = sequence_left args sent
+    row_left site sent (ops.DestroyClientId client) = destroy_clientid_left client
+    row_left site sent (ops.ReclaimComplete one_fs) = reclaim_under_left one_fs p.client
+    row_left site sent (ops.PutFh handle) = read_left site sent (ops.PutFh handle) refl
+    row_left site sent ops.PutRootFh = read_left site sent ops.PutRootFh refl
+    row_left site sent ops.GetFh = read_left site sent ops.GetFh refl
+    row_left site sent ops.SaveFh = read_left site sent ops.SaveFh refl
+    row_left site sent ops.RestoreFh = read_left site sent ops.RestoreFh refl
+    row_left site sent (ops.Lookup name) = read_left site sent (ops.Lookup name) refl
+    row_left site sent ops.LookupP = read_left site sent ops.LookupP refl
+    row_left site sent (ops.GetAttr asked) = read_left site sent (ops.GetAttr asked) refl
+    row_left site sent (ops.Verify given) = read_left site sent (ops.Verify given) refl
+    row_left site sent (ops.NVerify given) = read_left site sent (ops.NVerify given) refl
+    row_left site sent (ops.Access bits) = read_left site sent (ops.Access bits) refl
+    row_left site sent (ops.ReadDir cookie verifier dircount maxcount asked) = read_left site sent (ops.ReadDir cookie verifier dircount maxcount asked) refl
+    row_left site sent ops.ReadLink = read_left site sent ops.ReadLink refl
+    row_left site sent (ops.Outside number status) = keeps
+    row_left site sent op = keeps
 
   -- ---- the keeping of a result
 
@@ -211,9 +228,9 @@ module _ (Q : ℕ → Kept → Type 0) where
     row_in_left : (op : Op) (p : Place) (b : Both X.Row) → BothStand X.Fact site.dom p b → Keeps Q b.world → Keeps Q (row_in X site sent op p b).state.world
     row_in_left (ops.Extra number arguments) p b stands keeps =
         let same = (owed.tame site lattice number arguments p b stands).untouched in
-        chosen_left (X.grammar.serves number) (further_reply number (X.outcome site number arguments)) (on_world (deed_of (row sent (ops.Extra number arguments)))) p b
+        chosen_left (X.grammar.serves number) (further_reply number (X.outcome site number arguments)) (on_world (deed_of (row site sent (ops.Extra number arguments)))) p b
         (record { sessions = subst (AllByRecursion (SessionKeeps Q)) (sym same.sessions) keeps.sessions; clients = subst (AllByRecursion (ClientKeeps Q)) (sym same.clients) keeps.clients }) keeps
-    row_in_left op p b stands keeps = row_left p b.world keeps sent op
+    row_in_left op p b stands keeps = row_left p b.world keeps site sent op
 
     operation_left : (so_far : List OpResult) (op : Op) (p : Place) (b : Both X.Row) → BothStand X.Fact site.dom p b → Keeps Q b.world → Keeps Q (operation X site sent c so_far op p b).state.world
     operation_left so_far op p b stands keeps =

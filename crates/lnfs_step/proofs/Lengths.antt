@@ -1,7 +1,6 @@
 -- The sizes of the worlds after journals, and the lengths of replies.
-use Rattle.std.proofs.Common.{◌≡◌, ◌≤◌, ◌+◌, ℕ, Bool, true, false, cond, List, [], ◌∷◌, ◌++◌, length, Option, Some, None, Ok, Err, refl, ap, ◌∙◌, arith, sym, subst}
+use Rattle.std.proofs.Common.{◌≡◌, ◌≤◌, ◌+◌, ℕ, Bool, true, false, cond, List, [], ◌∷◌, ◌++◌, length, Option, Some, None, Ok, Err, refl, ap, ◌∙◌, arith, subst}
 use Rattle.std.specs.Prelude.{IfSome, ◌==◌, Result}
-use Rattle.std.specs.List.{AllByRecursion}
 use Rattle.std.proofs.lemmas.List.{length-append}
 use Rattle.lnfs_xdr.specs.Canon.{word, padded, opaque}
 use Rattle.lnfs_lists.specs.declared.limits.TheConstants.{RECORD_LIMIT}
@@ -14,23 +13,22 @@ use Rattle.lnfs_rpc.specs.Replies.{reply_text, head_text}
 use Rattle.lnfs_arguments.specs.declared.types.Compound.{Compound}
 use Rattle.lnfs_xdr.specs.Message.{parse}
 use Rattle.lnfs_arguments.specs.Whole.{compound}
-use Rattle.lnfs_arguments.specs.Further.{nothing_further, Further}
+use Rattle.lnfs_arguments.specs.Further.{Further}
 use Rattle.lnfs_world.specs.Outcome.{begins_at}
 use Rattle.lnfs_world.specs.Both.{Both}
-use Rattle.lnfs_operations.specs.Extra.{no_extra}
-use Rattle.lnfs_step.specs.Request.{Cause, caller, called, version, Request, Silent, Refused, Nothing, Asked, null_call, asked_as, asked_by, asked_in, asked_of, user_of, request_with, plainly, head_of, results_for, results_in, request_of}
+use Rattle.lnfs_operations.specs.Extra.{Extra, AreLawful}
+use Rattle.lnfs_step.specs.Request.{Cause, caller, called, version, Request, Silent, Refused, Nothing, Asked, null_call, asked_as, asked_by, asked_in, asked_of, user_of, request_with, plainly, head_of, results_for, results_in}
 use Rattle.lnfs_step.specs.declared.numbers.TheConstants.{SUCCESS, PROG_MISMATCH, NFS_VERSION}
-use Rattle.lnfs_step.specs.Step.{site_of, step_of, step_with, sent_of}
+use Rattle.lnfs_step.specs.Step.{step_of, step_with, sent_of}
 use Rattle.lnfs_step.proofs.Compounds.{compound_read}
-use Rattle.lnfs_step.specs.First.{first_world}
-use Rattle.lnfs_step.specs.Journal.{state_after, world_after, first_state, reply_with, reply_at, state_from, Holds}
-use Rattle.lnfs_step.proofs.FirstWorlds.{first_bare}
+use Rattle.lnfs_site.specs.Site.{site_of}
+use Rattle.lnfs_step.specs.Journal.{state_after, first_state, reply_with, state_from, Holds}
+use Rattle.lnfs_step.proofs.FirstSizes.{spells_shortly, first_sizes}
 use Rattle.lnfs_step.proofs.Steps.{begins, keeps, holds_after, first_holds}
-use Rattle.lnfs_operations.specs.Sizes.{IsRead, SessionFits, ClientFits, Sizes}
+use Rattle.lnfs_operations.specs.Sizes.{IsRead, Sizes}
 use Rattle.lnfs_operations.specs.SlotRule.{served}
 use Rattle.lnfs_calipso.specs.Label.{IsPreorderWithBottom}
 use Rattle.lnfs_xdr.proofs.Sizes.{length-word}
-use Rattle.lnfs_operations.proofs.NoExtra.{no_extra_is_lawful}
 use Rattle.lnfs_operations.proofs.SizeLaws.{served_sizes, served_short}
 
 empty_length : length (opaque []) ≡ 4
@@ -94,42 +92,38 @@ unfolding request_with
 request_reads g p class bytes = reads_of g p class (call_of bytes)
 
 -- a COMPOUND that an event asks was read
-pub asked_read : (p : Policy) (event : Event) (level xid : ℕ) (arguments : List ℕ) (c : Compound) → request_of p event.class event.message ≡ Asked level xid arguments c → IsRead c
-asked_read p event level xid arguments c asked = subst Reads asked (request_reads nothing_further p event.class event.message)
+pub asked_read : (g : Further) (p : Policy) (event : Event) (level xid : ℕ) (arguments : List ℕ) (c : Compound) → request_with g p event.class event.message ≡ Asked level xid arguments c → IsRead c
+asked_read g p event level xid arguments c asked = subst Reads asked (request_reads g p event.class event.message)
 
 -- ---- journals
 
-module _ (p : Policy) (lattice : IsPreorderWithBottom (dominance p)) where
-  of_sizes : (event : Event) (r : Request) (b : Both ⊥) → Reads r → Holds no_extra p b → Sizes b.world → Sizes (step_of no_extra p b event r).state.world
+module _ (X : Extra) (owed : AreLawful X) (p : Policy) (lattice : IsPreorderWithBottom (dominance p)) where
+  of_sizes : (event : Event) (r : Request) (b : Both X.Row) → Reads r → Holds X p b → Sizes b.world → Sizes (step_of X p b event r).state.world
   of_sizes event Silent b read holds sizes = sizes
   of_sizes event (Refused level xid cause) b read holds sizes = sizes
   of_sizes event (Nothing xid) b read holds sizes = sizes
-  of_sizes event (Asked level xid arguments c) b read holds sizes = served_sizes no_extra no_extra_is_lawful (site_of p) lattice (sent_of event arguments c) c level event.moment b (begins no_extra no_extra_is_lawful p lattice level event.moment b holds) sizes read
+  of_sizes event (Asked level xid arguments c) b read holds sizes = served_sizes X owed (site_of p) lattice (spells_shortly p) (sent_of event arguments c) c level event.moment b (begins X owed p lattice level event.moment b holds) sizes read
 
-  of_short : (event : Event) (r : Request) (b : Both ⊥) → Reads r → Holds no_extra p b → Sizes b.world → IfSome (step_of no_extra p b event r).reply (λ reply. length reply ≤ RECORD_LIMIT)
+  of_short : (event : Event) (r : Request) (b : Both X.Row) → Reads r → Holds X p b → Sizes b.world → IfSome (step_of X p b event r).reply (λ reply. length reply ≤ RECORD_LIMIT)
   of_short event Silent b read holds sizes = tt
   of_short event (Refused level xid cause) b read holds sizes = refused_short xid cause
   of_short event (Nothing xid) b read holds sizes = omega (arith, plain_length xid SUCCESS [])
   of_short event (Asked level xid arguments c) b read holds sizes =
-      let t = served no_extra (site_of p) (sent_of event arguments c) c (begins_at level event.moment) b in
-      omega (arith, plain_length xid SUCCESS t.answer.result, served_short no_extra no_extra_is_lawful (site_of p) lattice (sent_of event arguments c) c level event.moment b (begins no_extra no_extra_is_lawful p lattice level event.moment b holds) sizes read)
+      let t = served X (site_of p) (sent_of event arguments c) c (begins_at level event.moment) b in
+      omega (arith, plain_length xid SUCCESS t.answer.result, served_short X owed (site_of p) lattice (spells_shortly p) (sent_of event arguments c) c level event.moment b (begins X owed p lattice level event.moment b holds) sizes read)
 
-  step_sizes : (event : Event) (b : Both ⊥) → Holds no_extra p b → Sizes b.world → Sizes (step_with no_extra p b event).state.world
+  step_sizes : (event : Event) (b : Both X.Row) → Holds X p b → Sizes b.world → Sizes (step_with X p b event).state.world
   unfolding step_with
-  step_sizes event b holds sizes = of_sizes event (request_with nothing_further p event.class event.message) b (request_reads nothing_further p event.class event.message) holds sizes
+  step_sizes event b holds sizes = of_sizes event (request_with X.grammar p event.class event.message) b (request_reads X.grammar p event.class event.message) holds sizes
 
-  from_sizes : (journal : List Event) (b : Both ⊥) → Holds no_extra p b → Sizes b.world → Sizes (state_from no_extra p b journal).world
+  from_sizes : (journal : List Event) (b : Both X.Row) → Holds X p b → Sizes b.world → Sizes (state_from X p b journal).world
   unfolding state_from
   from_sizes [] b holds sizes = sizes
-  from_sizes (event ∷ journal) b holds sizes = from_sizes journal (step_with no_extra p b event).state (keeps no_extra no_extra_is_lawful p lattice event b holds) (step_sizes event b holds sizes)
+  from_sizes (event ∷ journal) b holds sizes = from_sizes journal (step_with X p b event).state (keeps X owed p lattice event b holds) (step_sizes event b holds sizes)
 
-  -- there are no sessions and no clients before all events
-  first_sizes : Sizes (first_world p)
-  first_sizes = let bare = first_bare p in record { sessions = subst (AllByRecursion SessionFits) (sym bare.sessions) tt; clients = subst (AllByRecursion ClientFits) (sym bare.clients) tt }
+  pub sizes_after : (journal : List Event) → Sizes (state_after X p journal).world
+  sizes_after journal = from_sizes journal (first_state X p) (first_holds X owed p lattice) (first_sizes p)
 
-  pub sizes_after : (journal : List Event) → Sizes (world_after p journal)
-  sizes_after journal = from_sizes journal (first_state no_extra p) (first_holds no_extra no_extra_is_lawful p lattice) first_sizes
-
-  pub reply_short : (journal : List Event) (event : Event) → IfSome (reply_at p journal event) (λ reply. length reply ≤ RECORD_LIMIT)
+  pub reply_short : (journal : List Event) (event : Event) → IfSome (reply_with X p journal event) (λ reply. length reply ≤ RECORD_LIMIT)
   unfolding reply_with step_with
-  reply_short journal event = of_short event (request_with nothing_further p event.class event.message) (state_after no_extra p journal) (request_reads nothing_further p event.class event.message) (holds_after no_extra no_extra_is_lawful p lattice journal) (sizes_after journal)
+  reply_short journal event = of_short event (request_with X.grammar p event.class event.message) (state_after X p journal) (request_reads X.grammar p event.class event.message) (holds_after X owed p lattice journal) (sizes_after journal)

@@ -1,8 +1,8 @@
-pub mod FirstWorlds
 pub mod Requests
 pub mod Purging
 pub mod Compounds
 pub mod Steps
+pub mod FirstSizes
 pub mod Lengths
 pub mod Slots
 pub mod Keeping

@@ -10,21 +10,20 @@ use Rattle.lnfs_policy.specs.Policy.{Policy, dominance}
 use Rattle.lnfs_world.specs.World.{Id, Kept, Client, Slot, Session, client_at, session_at, same_id}
 use Rattle.lnfs_world.specs.Both.{Both}
 use Rattle.lnfs_world.proofs.Rows.{all_find}
-use Rattle.lnfs_operations.specs.Extra.{no_extra}
-use Rattle.lnfs_operations.proofs.NoExtra.{no_extra_is_lawful}
-use Rattle.lnfs_step.specs.Request.{Request, Silent, Refused, Nothing, Asked, request_of}
-use Rattle.lnfs_step.specs.Step.{Step, site_of, step_of, step_with, sent_of}
-use Rattle.lnfs_step.specs.First.{first_world}
-use Rattle.lnfs_step.specs.Journal.{state_from, state_after, world_after, reply_with}
+use Rattle.lnfs_operations.specs.Extra.{Extra, AreLawful}
+use Rattle.lnfs_step.specs.Request.{Request, Silent, Refused, Nothing, Asked, request_with}
+use Rattle.lnfs_step.specs.Step.{Step, step_of, step_with, sent_of}
+use Rattle.lnfs_site.specs.Site.{first_world, site_of}
+use Rattle.lnfs_step.specs.Journal.{state_from, state_after, reply_with}
 use Rattle.lnfs_step.specs.Sessions.{HasOrigin}
-use Rattle.lnfs_step.proofs.FirstWorlds.{first_bare}
+use Rattle.lnfs_site.proofs.FirstWorlds.{first_bare}
 use Rattle.lnfs_step.proofs.Steps.{begins, holds_after}
 use Rattle.lnfs_step.proofs.Slots.{step_is, state_next}
 use Rattle.lnfs_step.proofs.Keeping.{SlotKeeps, SessionKeeps, ClientKeeps, Keeps, slot_keeps, keeps_weaker, served_left}
 
 -- an event of a journal is one of a longer one
-still_origin : (p : Policy) (journal : List Event) (event : Event) (level : ℕ) (kept : Kept) → HasOrigin p journal level kept → HasOrigin p (journal ++ event ∷ []) level kept
-still_origin p journal event level kept origin = record {
+still_origin : (X : Extra) (p : Policy) (journal : List Event) (event : Event) (level : ℕ) (kept : Kept) → HasOrigin X p journal level kept → HasOrigin X p (journal ++ event ∷ []) level kept
+still_origin X p journal event level kept origin = record {
   before = origin.before;
   event = origin.event;
   behind = origin.behind ++ event ∷ [];
@@ -35,56 +34,56 @@ still_origin p journal event level kept origin = record {
   reply = origin.reply;
 }
 
-module _ (p : Policy) (lattice : IsPreorderWithBottom (dominance p)) where
+module _ (X : Extra) (owed : AreLawful X) (p : Policy) (lattice : IsPreorderWithBottom (dominance p)) where
   -- every result that is kept after a journal is one that an event of it got
   abbrev Origins : List Event → Type 0
-  Origins journal = Keeps (HasOrigin p journal) (world_after p journal)
+  Origins journal = Keeps (HasOrigin X p journal) (state_after X p journal).world
 
-  of_request : (journal : List Event) (event : Event) (r : Request) → request_of p event.class event.message ≡ r → Keeps (HasOrigin p (journal ++ event ∷ [])) (world_after p journal) →
-      Keeps (HasOrigin p (journal ++ event ∷ [])) (step_of no_extra p (state_after no_extra p journal) event r).state.world
+  of_request : (journal : List Event) (event : Event) (r : Request) → request_with X.grammar p event.class event.message ≡ r → Keeps (HasOrigin X p (journal ++ event ∷ [])) (state_after X p journal).world →
+      Keeps (HasOrigin X p (journal ++ event ∷ [])) (step_of X p (state_after X p journal) event r).state.world
   unfolding reply_with
   of_request journal event Silent is keeps = keeps
   of_request journal event (Refused level xid cause) is keeps = keeps
   of_request journal event (Nothing xid) is keeps = keeps
   of_request journal event (Asked level xid arguments c) is keeps =
-      let b = state_after no_extra p journal in
-      served_left (HasOrigin p (journal ++ event ∷ [])) no_extra no_extra_is_lawful (site_of p) lattice (sent_of event arguments c) c level event.moment b
-      (begins no_extra no_extra_is_lawful p lattice level event.moment b (holds_after no_extra no_extra_is_lawful p lattice journal)) keeps
-      (record { before = journal; event = event; behind = []; place = refl; xid = xid; compound = c; request = is; reply = ap (λ (s : Step (Both ⊥)). s.reply) (step_is p b event level xid arguments c is) })
+      let b = state_after X p journal in
+      served_left (HasOrigin X p (journal ++ event ∷ [])) X owed (site_of p) lattice (sent_of event arguments c) c level event.moment b
+      (begins X owed p lattice level event.moment b (holds_after X owed p lattice journal)) keeps
+      (record { before = journal; event = event; behind = []; place = refl; xid = xid; compound = c; request = is; reply = ap (λ (s : Step (Both X.Row)). s.reply) (step_is X p b event level xid arguments c is) })
 
   -- one more event
   one_more : (journal : List Event) (event : Event) → Origins journal → Origins (journal ++ event ∷ [])
   unfolding step_with
   one_more journal event origins =
-      subst (λ (v : Both ⊥). Keeps (HasOrigin p (journal ++ event ∷ [])) v.world) (sym (state_next p journal event))
-      (of_request journal event (request_of p event.class event.message) refl
-      (keeps_weaker (HasOrigin p journal) (HasOrigin p (journal ++ event ∷ [])) (still_origin p journal event) (world_after p journal) origins))
+      subst (λ (v : Both X.Row). Keeps (HasOrigin X p (journal ++ event ∷ [])) v.world) (sym (state_next X p journal event))
+      (of_request journal event (request_with X.grammar p event.class event.message) refl
+      (keeps_weaker (HasOrigin X p journal) (HasOrigin X p (journal ++ event ∷ [])) (still_origin X p journal event) (state_after X p journal).world origins))
 
   behind_origins : (so_far journal : List Event) → Origins so_far → Origins (so_far ++ journal)
   behind_origins so_far [] origins = subst Origins (sym (append-nil so_far)) origins
   behind_origins so_far (event ∷ journal) origins = subst Origins (append_assoc so_far (event ∷ []) journal) (behind_origins (so_far ++ event ∷ []) journal (one_more so_far event origins))
 
   -- nothing is kept before all events
-  no_origins : Keeps (HasOrigin p []) (first_world p)
-  no_origins = let bare = first_bare p in record { sessions = subst (AllByRecursion (SessionKeeps (HasOrigin p []))) (sym bare.sessions) tt; clients = subst (AllByRecursion (ClientKeeps (HasOrigin p []))) (sym bare.clients) tt }
+  no_origins : Keeps (HasOrigin X p []) (first_world p)
+  no_origins = let bare = first_bare p in record { sessions = subst (AllByRecursion (SessionKeeps (HasOrigin X p []))) (sym bare.sessions) tt; clients = subst (AllByRecursion (ClientKeeps (HasOrigin X p []))) (sym bare.clients) tt }
 
   origins_after : (journal : List Event) → Origins journal
   unfolding state_from
   origins_after journal = behind_origins [] journal no_origins
 
-  at_level : (journal : List Event) (i j : Id) (kept : Kept) → same_id i j ≡ true → HasOrigin p journal j.level kept → HasOrigin p journal i.level kept
-  at_level journal i j kept same origin = subst (λ level. HasOrigin p journal level kept) (grind (arith, nat_tests, same)) origin
+  at_level : (journal : List Event) (i j : Id) (kept : Kept) → same_id i j ≡ true → HasOrigin X p journal j.level kept → HasOrigin X p journal i.level kept
+  at_level journal i j kept same origin = subst (λ level. HasOrigin X p journal level kept) (grind (arith, nat_tests, same)) origin
 
   pub slot_origin : (journal : List Event) (i : Id) (x : Session) (n : ℕ) (slot : Slot) (kept : Kept) →
-      session_at (world_after p journal).sessions i ≡ Some x → slice_get x.slots n ≡ Some slot → slot.kept ≡ Some kept → HasOrigin p journal i.level kept
+      session_at (state_after X p journal).world.sessions i ≡ Some x → slice_get x.slots n ≡ Some slot → slot.kept ≡ Some kept → HasOrigin X p journal i.level kept
   slot_origin journal i x n slot kept there at is =
-      let found = all_find (SessionKeeps (HasOrigin p journal)) (λ x. same_id i x.id) (world_after p journal).sessions x (origins_after journal).sessions there in
+      let found = all_find (SessionKeeps (HasOrigin X p journal)) (λ x. same_id i x.id) (state_after X p journal).world.sessions x (origins_after journal).sessions there in
       at_level journal i x.id kept found.1
-      (subst (λ (o : Option Kept). IfSome o (HasOrigin p journal x.id.level)) is (slot_keeps (SlotKeeps (HasOrigin p journal) x.id.level) n x.slots slot found.0 at))
+      (subst (λ (o : Option Kept). IfSome o (HasOrigin X p journal x.id.level)) is (slot_keeps (SlotKeeps (HasOrigin X p journal) x.id.level) n x.slots slot found.0 at))
 
   pub created_origin : (journal : List Event) (i : Id) (client : Client) (kept : Kept) →
-      client_at (world_after p journal).clients i ≡ Some client → client.kept ≡ Some kept → HasOrigin p journal i.level kept
+      client_at (state_after X p journal).world.clients i ≡ Some client → client.kept ≡ Some kept → HasOrigin X p journal i.level kept
   created_origin journal i client kept there is =
-      let found = all_find (ClientKeeps (HasOrigin p journal)) (λ c. same_id i c.id) (world_after p journal).clients client (origins_after journal).clients there in
+      let found = all_find (ClientKeeps (HasOrigin X p journal)) (λ c. same_id i c.id) (state_after X p journal).world.clients client (origins_after journal).clients there in
       at_level journal i client.id kept found.1
-      (subst (λ (o : Option Kept). IfSome o (HasOrigin p journal client.id.level)) is found.0)
+      (subst (λ (o : Option Kept). IfSome o (HasOrigin X p journal client.id.level)) is found.0)

@@ -12,9 +12,10 @@ use Rattle.lnfs_operations.specs.Extra.{Extra, AreLawful}
 use Rattle.lnfs_rpc.specs.Replies.{reply_text}
 use Rattle.lnfs_step.specs.declared.numbers.TheConstants.{SUCCESS}
 use Rattle.lnfs_step.specs.Request.{Request, Silent, Refused, Nothing, Asked, request_with, level_in, level_of, plainly}
-use Rattle.lnfs_step.specs.Step.{site_of, step_of, step_with, sent_of}
+use Rattle.lnfs_site.specs.Site.{site_of}
+use Rattle.lnfs_step.specs.Step.{step_of, step_with, sent_of}
 use Rattle.lnfs_step.specs.Journal.{Holds, seen_at, first_state, state_from, state_after, is_dominated, purged, reply_with, answer_with, answer_to}
-use Rattle.lnfs_step.proofs.FirstWorlds.{first_facts}
+use Rattle.lnfs_site.proofs.FirstWorlds.{first_facts}
 use Rattle.lnfs_step.proofs.Requests.{same_level}
 use Rattle.lnfs_step.proofs.Purging.{state_from as from_state, reply_purged, journal_keeps}
 use Rattle.lnfs_operations.specs.SlotRule.{Answer, served}

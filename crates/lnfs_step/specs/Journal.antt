@@ -8,7 +8,7 @@ use Rattle.lnfs_world.specs.Facts.{Facts}
 use Rattle.lnfs_world.specs.Both.{Both, both, both_seen}
 use Rattle.lnfs_operations.specs.Extra.{Extra, no_extra}
 use Rattle.lnfs_step.specs.Request.{level_of}
-use Rattle.lnfs_step.specs.First.{first_world}
+use Rattle.lnfs_site.specs.Site.{first_world}
 use Rattle.lnfs_step.specs.Step.{Line, step_with}
 
 -- ---- with further operations

@@ -4,12 +4,12 @@ use Rattle.std.specs.Prelude.{ℕ, List, [], length, Option, Some, None, codes, 
 use Rattle.lnfs_outside.specs.declared.event.Event.{Event}
 use Rattle.lnfs_rpc.specs.Replies.{reply_text}
 use Rattle.lnfs_arguments.specs.declared.types.Compound.{Compound}
-use Rattle.lnfs_policy.specs.Policy.{Policy, dominance, limit_of}
-use Rattle.lnfs_world.specs.Outcome.{Site, begins_at}
+use Rattle.lnfs_policy.specs.Policy.{Policy}
+use Rattle.lnfs_world.specs.Outcome.{begins_at}
 use Rattle.lnfs_world.specs.Lawful.{Turn}
 use Rattle.lnfs_world.specs.Both.{Both}
-use Rattle.lnfs_operations.specs.declared.Rule.{Rule}
-use Rattle.lnfs_operations.specs.declared.Rule.TheVariants as rules
+use Rattle.lnfs_monitor.specs.declared.rule.Rule.{Rule}
+use Rattle.lnfs_monitor.specs.declared.rule.Rule.TheVariants as rules
 use Rattle.lnfs_operations.specs.declared.Gate.{Gate}
 use Rattle.lnfs_operations.specs.declared.Gate.TheVariants.{Session, Room, Argument, Outside, Namespace, Monitor, Open, Quota}
 use Rattle.lnfs_operations.specs.Extra.{Extra}
@@ -17,7 +17,7 @@ use Rattle.lnfs_operations.specs.Results.{Denial}
 use Rattle.lnfs_operations.specs.Sequence.{Sent}
 use Rattle.lnfs_operations.specs.SlotRule.{Answer, served}
 use Rattle.lnfs_step.specs.declared.numbers.TheConstants.{SUCCESS}
-use Rattle.lnfs_step.specs.First.{is_limited}
+use Rattle.lnfs_site.specs.Site.{site_of}
 use Rattle.lnfs_step.specs.Request.{Cause, caller, called, version, Request, Silent, Refused, Nothing, Asked, request_with, plainly, head_of, results_in}
 
 -- An audit line without its event's place: the operation's place in its COMPOUND, from 1, and its
@@ -62,15 +62,6 @@ line_of_cause version = whole_call (codes "V") 0
 
 abbrev pub line_of : Denial → Line
 line_of d = record { place = d.place; number = d.number; gate = letter d.gate; status = d.status }
-
-abbrev pub site_of : Policy → Site
-site_of p = record {
-  dom = dominance p;
-  levels = length p.labels;
-  limited = is_limited p.mode;
-  nodes = λ level. (limit_of p level).nodes;
-  bytes = λ level. (limit_of p level).bytes;
-}
 
 pub record Step (S : Type 0) : Type 0 where
   pub state : S

@@ -4,19 +4,17 @@ ghost use Rattle.lnfs_calipso.specs.Label.{IsPreorderWithBottom};
 ghost use Rattle.lnfs_lists.specs.declared.limits.TheConstants.{RECORD_LIMIT};
 ghost use Rattle.lnfs_outside.specs.declared.event.Event.{Event};
 ghost use Rattle.lnfs_policy.specs.Policy.{Policy, dominance};
-ghost use Rattle.lnfs_world.specs.Facts.{Facts};
 ghost use Rattle.lnfs_world.specs.Both.{Both};
 ghost use Rattle.lnfs_operations.specs.Sizes.{Sizes};
-ghost use Rattle.lnfs_step.specs.First.{first_world};
 ghost use Rattle.lnfs_step.specs.Request.{level_of};
 ghost use Rattle.lnfs_step.specs.Step.{step_with};
-ghost use Rattle.lnfs_step.specs.Journal.{Holds, seen_at, is_dominated, state_after, world_after, reply_at, reply_with, answer, answer_with};
+ghost use Rattle.lnfs_step.specs.Journal.{Holds, seen_at, is_dominated, state_after, reply_with, answer_with};
 
-use crate::extra::ExtraRows;
+use lnfs_operations::ExtraRows;
 
 /// With further operations: each reply is the one that its requester would get with every event
 /// outside its dominance purged from the journal.
-pub fn purge_with<X: ExtraRows>()
+pub fn purge<X: ExtraRows>()
     ensures replies { (p : Policy) → IsPreorderWithBottom (dominance p) → (journal : List Event) (event : Event) →
         reply_with X.extra p journal event ≡ answer_with X.extra p journal event }
     // For a level that dominates the event's, the reply and what that level sees afterwards are
@@ -32,21 +30,10 @@ pub fn purge_with<X: ExtraRows>()
         seen_at X.extra p level (step_with X.extra p a event).state ≡ seen_at X.extra p level a }
     ensures facts { (p : Policy) → IsPreorderWithBottom (dominance p) → (journal : List Event) →
         Holds X.extra p (state_after X.extra p journal) }
-{}
-
-/// With the operations of the table alone: each reply is the one that its requester would get with
-/// every event outside its dominance purged from the journal.
-pub fn purge()
-    ensures replies { (p : Policy) → IsPreorderWithBottom (dominance p) → (journal : List Event) (event : Event) →
-        reply_at p journal event ≡ answer p journal event }
-    // The first world has the facts, and so has every world after a journal.
-    ensures first { (p : Policy) → IsPreorderWithBottom (dominance p) → Facts (dominance p) (first_world p) }
-    ensures facts { (p : Policy) → IsPreorderWithBottom (dominance p) → (journal : List Event) →
-        Facts (dominance p) (world_after p journal) }
-    // What its sessions grant and the lengths of kept results stay within the limits of the server.
+    // What sessions grant and the lengths of kept results stay within the limits of the server.
     ensures sizes { (p : Policy) → IsPreorderWithBottom (dominance p) → (journal : List Event) →
-        Sizes (world_after p journal) }
+        Sizes (state_after X.extra p journal).world }
     // A reply is a record that a fragment holds.
     ensures short { (p : Policy) → IsPreorderWithBottom (dominance p) → (journal : List Event) (event : Event) →
-        IfSome (reply_at p journal event) (λ reply. length reply ≤ RECORD_LIMIT) }
+        IfSome (reply_with X.extra p journal event) (λ reply. length reply ≤ RECORD_LIMIT) }
 {}

@@ -26,10 +26,3 @@ pub const GARBAGE_ARGS: u32 = 4;
 
 /// The version of NFS that is served.
 pub const NFS_VERSION: u32 = 4;
-
-/// The mode of a directory of the first world: read and search for all, write for its owner.
-pub const FIRST_MODE: u32 = 0o755;
-
-/// The cookie of a directory's first name. 0, 1 and 2 have meanings of their own (RFC 8881 section
-/// 18.23.3).
-pub const FIRST_COOKIE: u32 = 3;

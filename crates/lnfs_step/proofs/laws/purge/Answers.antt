@@ -1,15 +1,16 @@
-use Rattle.lnfs_operations.specs.Extra.{no_extra}
-use Rattle.lnfs_operations.proofs.NoExtra.{no_extra_is_lawful}
-use Rattle.lnfs_step.proofs.FirstWorlds.{first_facts}
-use Rattle.lnfs_step.proofs.Steps.{holds_after, reply_is_answer}
+use Rattle.lnfs_step.proofs.Steps.{seen, unseen, holds_after, reply_is_answer}
 use Rattle.lnfs_step.proofs.Lengths.{sizes_after, reply_short}
 use Rattle.lnfs_step.proofs.laws.purge.Goals as goal
 
 pub returns : goal.returns
-returns c = record {
-  replies = λ p lattice journal event. reply_is_answer no_extra no_extra_is_lawful p lattice journal event;
-  first = λ p lattice. first_facts p lattice;
-  facts = λ p lattice journal. (holds_after no_extra no_extra_is_lawful p lattice journal).facts;
-  sizes = λ p lattice journal. sizes_after p lattice journal;
-  short = λ p lattice journal event. reply_short p lattice journal event;
-}
+returns g c =
+    let X = g.X.ExtraRows.extra in
+    let owed = g.X.ExtraRows.lawful in
+    record {
+      replies = λ p lattice journal event. reply_is_answer X owed p lattice journal event;
+      seen = λ p lattice level s event a b. seen X owed p lattice level s event a b;
+      unseen = λ p lattice level event a. unseen X owed p lattice level event a;
+      facts = λ p lattice journal. holds_after X owed p lattice journal;
+      sizes = λ p lattice journal. sizes_after X owed p lattice journal;
+      short = λ p lattice journal event. reply_short X owed p lattice journal event;
+    }

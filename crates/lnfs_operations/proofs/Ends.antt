@@ -1,0 +1,41 @@
+-- What holds of each end of an operation holds of its outcome: a refusal, or what stands behind its tests.
+use Rattle.std.proofs.Common.{◌≡◌, ℕ, Bool, true, false, not, List, length, Some}
+use Rattle.std.specs.Prelude.{nat_le}
+use Rattle.std.specs.Str.{is_utf8}
+use Rattle.lnfs_words.specs.Words.{is_empty}
+use Rattle.lnfs_world.specs.World.{Id, Node, World, node_at}
+use Rattle.lnfs_world.specs.Outcome.{Site, Place, Outcome}
+use Rattle.lnfs_arguments.specs.declared.statuses.TheConstants.{NFS4ERR_STALE, NFS4ERR_NOFILEHANDLE}
+use Rattle.lnfs_monitor.specs.Rules.{Asks, allows}
+use Rattle.lnfs_operations.specs.declared.Gate.{Gate}
+use Rattle.lnfs_operations.specs.declared.Gate.TheVariants.{Namespace}
+use Rattle.lnfs_operations.specs.declared.numbers.TheConstants.{LONGEST_NAME}
+use Rattle.lnfs_operations.specs.Chain.{Answer, refuse}
+use Rattle.lnfs_operations.specs.Judged.{where_allowed, where_asked}
+use Rattle.lnfs_operations.specs.Handles.{with_current}
+use Rattle.lnfs_operations.specs.Names.{has_bad_byte, is_dots, where_named}
+use Rattle.lnfs_operations.proofs.Chains.{demand_any, where_any}
+
+module _ {R : Type 0} (P : Outcome (Answer R) → Type 0) (p : Place) (refused : (gate : Gate) (status : ℕ) → P (refuse p gate status)) where
+  -- on the node of the current file handle
+  pub current_any : (w : World) (found : Node → Outcome (Answer R)) → ((i : Id) (n : Node) → node_at w.nodes i ≡ Some n → P (found n)) → P (with_current p w found)
+  current_any w found there =
+      where_any P p.current _ _ (λ i is.
+      where_any P (node_at w.nodes i) found _ (λ n at. there i n at) (refused Namespace NFS4ERR_STALE)) (refused Namespace NFS4ERR_NOFILEHANDLE)
+
+  -- behind a question to the rules
+  pub allowed_any : (site : Site) (asks : Asks) (next : Outcome (Answer R)) → (allows site.dom p.subject asks ≡ true → P next) → P (where_allowed site p asks next)
+  allowed_any site asks next is = demand_any P (allows site.dom p.subject asks) _ next (refused _ _) is
+
+  pub asked_any : (comes_up : Bool) (site : Site) (asks : Asks) (next : Outcome (Answer R)) → P next → P (where_asked comes_up site p asks next)
+  asked_any true site asks next is = allowed_any site asks next (λ allowed. is)
+  asked_any false site asks next is = is
+
+  -- behind the tests of a name
+  pub named_any : (name : List ℕ) (next : Outcome (Answer R)) → P next → P (where_named p name next)
+  named_any name next is =
+      demand_any P (not (is_empty name)) _ _ (refused _ _) (λ some.
+      demand_any P (nat_le (length name) LONGEST_NAME) _ _ (refused _ _) (λ short.
+      demand_any P (is_utf8 name) _ _ (refused _ _) (λ text.
+      demand_any P (not (has_bad_byte name)) _ _ (refused _ _) (λ good.
+      demand_any P (not (is_dots name)) _ _ (refused _ _) (λ other. is)))))
