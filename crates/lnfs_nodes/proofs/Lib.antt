@@ -1,0 +1,14 @@
+mod Tests
+mod Found
+mod ReadLinks
+mod Views
+mod Answering
+mod Supported
+mod Written
+mod Refusing
+mod Asking
+mod Comparisons
+mod Walking
+mod Entering
+mod Extended
+mod ReadDirs

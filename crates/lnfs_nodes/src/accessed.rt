@@ -1,0 +1,23 @@
+//! The time of access.
+ghost use Rattle.std.specs.Prelude.{◌≡◌};
+ghost use Rattle.lnfs_world.specs.World.{Node, World};
+ghost use Rattle.lnfs_world.specs.Change.{apply_all};
+ghost use Rattle.lnfs_world.specs.Outcome.{Place};
+ghost use Rattle.lnfs_operations.specs.Accessed.{accessed};
+ghost use Rattle.lnfs_nodes.specs.Trees.{with_tree, Holds};
+
+use crate::held::Held;
+use lnfs_calipso::Level;
+use lnfs_outside::Moment;
+use lnfs_tree::Tree;
+
+/// Sets the time of access of a node that was read, where the subject is at its label: whoever reads from above leaves
+/// no trace.
+pub fn set_accessed(tree: &mut Tree, subject: Level, moment: Moment, held: &Held)
+    ensures { (n : Node) (p : Place) (rest : World) → Holds tree.old n held.now →
+        with_tree rest tree.new ≡ apply_all (accessed (record p { subject = subject.0; moment = moment }) n) (with_tree rest tree.old) }
+{
+    if subject == held.facts.label {
+        let _stands = tree.touch(held.id, moment);
+    }
+}

@@ -1,0 +1,132 @@
+//! VERIFY and NVERIFY (RFC 8881 sections 18.30 and 18.15).
+ghost use Rattle.std.specs.Prelude.{◌≡◌, Bool, IfOk};
+ghost use Rattle.std.specs.Option.{option_map};
+ghost use Rattle.lnfs_world.specs.World.{World};
+ghost use Rattle.lnfs_world.specs.Outcome.{Place, Outcome};
+ghost use Rattle.lnfs_site.specs.Site.{site_of};
+ghost use Rattle.lnfs_operations.specs.Chain.{Answer};
+ghost use Rattle.lnfs_operations.specs.GetAttr.{is_supported, compared, verify, nverify};
+ghost use Rattle.lnfs_tree.specs.Rows.{id_of};
+ghost use Rattle.lnfs_nodes.specs.Trees.{with_tree, refusal_of, answered, stays};
+ghost use Rattle.lnfs_nodes.specs.Comparing.{given_refusal, where_compared};
+
+use crate::attributes::inner_denied;
+use crate::held::{namespace, node_held};
+use crate::showing::{is_whole, shown};
+use lnfs_arguments::statuses::{
+    NFS4_OK, NFS4ERR_ATTRNOTSUPP, NFS4ERR_INVAL, NFS4ERR_NOT_SAME, NFS4ERR_SAME,
+};
+use lnfs_attrs::numbers::RDATTR_ERROR;
+use lnfs_attrs::{Bitmap, RawAttrs, supported, write_attrs};
+use lnfs_calipso::Level;
+use lnfs_operations::{Gate, Refusal};
+use lnfs_site::Site;
+use lnfs_tree::{NodeId, Tree};
+use lnfs_xdr::XdrWriter;
+use std::alloc::{AllocError, Global};
+
+/// Whether the server has each attribute of a set.
+fn is_supported(mask: &Bitmap) -> bool
+    ensures { result ≡ is_supported mask.now }
+{
+    is_whole(*mask);
+    supported(mask)
+}
+
+/// What refuses a comparison by its arguments.
+fn given_refused(given: &RawAttrs) -> Option<Refusal>
+    ensures { option_map refusal_of result ≡ given_refusal given.now }
+{
+    let gate = Gate::Argument;
+    if !is_supported(&given.mask) {
+        return Some(Refusal {
+            gate,
+            status: NFS4ERR_ATTRNOTSUPP,
+        });
+    }
+    if given.mask.has(RDATTR_ERROR) {
+        return Some(Refusal {
+            gate,
+            status: NFS4ERR_INVAL,
+        });
+    }
+    None
+}
+
+/// Whether the attributes of the current file handle are those given, by the bytes of their list.
+fn is_same(
+    alloc: Global,
+    site: &Site<'_>,
+    tree: &Tree,
+    subject: Level,
+    current: Option<NodeId>,
+    given: &RawAttrs,
+) -> Result<Result<bool, Refusal>, AllocError>
+    ensures { IfOk result (λ answer. (p : Place) (rest : World) (same : Bool → Outcome (Answer (Unit {0}))) →
+        let at = record p { subject = subject.0; current = option_map id_of current } in
+        compared (site_of site.now) given.now at (with_tree rest tree.now) same ≡ where_compared at same answer) }
+{
+    if let Some(why) = given_refused(given) {
+        return Ok(Err(why));
+    }
+    let held = match node_held(tree, current) {
+        Ok(held) => held,
+        Err(why) => return Ok(Err(why)),
+    };
+    if let Some(why) = inner_denied(site, subject, held.facts.label, &given.mask) {
+        return Ok(Err(why));
+    }
+    let view = shown(alloc, site, tree, subject, &held, NFS4_OK)?;
+    let mut list = XdrWriter::new(alloc);
+    write_attrs(&given.mask, &view, true, &mut list)?;
+    let list = list.into_bytes();
+    Ok(Ok(given.list.as_slice() == list.as_slice()))
+}
+
+/// Whether the attributes of the current file handle are those given.
+///
+/// # Errors
+///
+/// `AllocError` where there is no memory.
+pub fn verify(
+    alloc: Global,
+    site: &Site<'_>,
+    tree: &Tree,
+    subject: Level,
+    current: Option<NodeId>,
+    given: &RawAttrs,
+) -> Result<Result<(), Refusal>, AllocError>
+    ensures { IfOk result (λ answer. (p : Place) (rest : World) →
+        let at = record p { subject = subject.0; current = option_map id_of current } in
+        verify (site_of site.now) given.now at (with_tree rest tree.now) ≡ stays at (answered (λ it. it) answer)) }
+{
+    match is_same(alloc, site, tree, subject, current, given)? {
+        Ok(true) => Ok(Ok(())),
+        Ok(false) => Ok(Err(namespace(NFS4ERR_NOT_SAME))),
+        Err(why) => Ok(Err(why)),
+    }
+}
+
+/// Whether they differ from those given.
+///
+/// # Errors
+///
+/// `AllocError` where there is no memory.
+pub fn nverify(
+    alloc: Global,
+    site: &Site<'_>,
+    tree: &Tree,
+    subject: Level,
+    current: Option<NodeId>,
+    given: &RawAttrs,
+) -> Result<Result<(), Refusal>, AllocError>
+    ensures { IfOk result (λ answer. (p : Place) (rest : World) →
+        let at = record p { subject = subject.0; current = option_map id_of current } in
+        nverify (site_of site.now) given.now at (with_tree rest tree.now) ≡ stays at (answered (λ it. it) answer)) }
+{
+    match is_same(alloc, site, tree, subject, current, given)? {
+        Ok(true) => Ok(Err(namespace(NFS4ERR_SAME))),
+        Ok(false) => Ok(Ok(())),
+        Err(why) => Ok(Err(why)),
+    }
+}

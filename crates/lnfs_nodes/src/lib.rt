@@ -1,0 +1,25 @@
+//! The operations on nodes: file handles, names, attributes and listings (RFC 8881 section 18). Each answers what its
+//! definition says of a world with the rows of the tree.
+#![tactic(auto)]
+
+mod accessed;
+mod attributes;
+mod comparing;
+mod entries;
+mod handles;
+mod held;
+mod links;
+mod listing;
+mod lookups;
+mod naming;
+mod rights;
+mod showing;
+
+pub use attributes::get_attr;
+pub use comparing::{nverify, verify};
+pub use handles::{HANDLE_SIZE, get_fh, put_fh, put_root_fh, restore_fh, save_fh};
+pub use held::Held;
+pub use links::read_link;
+pub use listing::{Listing, read_dir};
+pub use lookups::{lookup, lookup_parent};
+pub use rights::{AccessBits, access};

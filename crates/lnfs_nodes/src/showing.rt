@@ -1,0 +1,157 @@
+//! What a node shows of itself in its attributes (RFC 8881 section 5, RFC 7862 section 12.2).
+ghost use Rattle.std.specs.Prelude.{◌≡◌, ◌&&◌, ◌≤◌, ◌++◌, length, IfOk, OnOk, OnErr};
+ghost use Rattle.lnfs_xdr.specs.Written.{Extends};
+ghost use Rattle.lnfs_attrs.specs.Attributes.{is_listed, is_answered};
+ghost use Rattle.lnfs_attrs.specs.Bitmaps.{BitmapFits};
+ghost use Rattle.lnfs_attrs.specs.Sizes.{ViewFits};
+ghost use Rattle.lnfs_arguments.specs.SharedTexts.{attrs_text};
+ghost use Rattle.lnfs_world.specs.World.{Node};
+ghost use Rattle.lnfs_world.specs.Outcome.{Place};
+ghost use Rattle.lnfs_site.specs.Site.{site_of};
+ghost use Rattle.lnfs_operations.specs.Handles.{file_id};
+ghost use Rattle.lnfs_operations.specs.Shown.{type_of, time_of, label_shown, label_value, shown, bitmap_of, answer_to};
+ghost use Rattle.lnfs_tree.specs.Rows.{id_of, kind_of, stored_of};
+ghost use Rattle.lnfs_nodes.specs.Trees.{Holds};
+
+use crate::handles::handle_of;
+use crate::held::{Held, denied};
+use lnfs_attrs::{Bitmap, LabelValue, Moment as Time, View, answered, write_attrs, write_bitmap};
+use lnfs_calipso::Level;
+use lnfs_format::MAX_SPELLING;
+use lnfs_lists::Octets;
+use lnfs_monitor::Question;
+use lnfs_outside::Moment;
+use lnfs_site::Site;
+use lnfs_tree::{NodeId, NodeKind, Stored, Tree};
+use lnfs_xdr::XdrWriter;
+use std::alloc::{AllocError, Global};
+
+/// The types of nodes (`nfs_ftype4`, RFC 8881 section 3.2).
+const NF4REG: u32 = 1;
+
+const NF4DIR: u32 = 2;
+
+const NF4LNK: u32 = 5;
+
+fn type_of(kind: NodeKind) -> u32
+    ensures { result ≡ type_of (kind_of kind) }
+{
+    match kind {
+        NodeKind::File => NF4REG,
+        NodeKind::Dir => NF4DIR,
+        NodeKind::Link => NF4LNK,
+    }
+}
+
+/// The fileid of a node: its home and its number are the upper and the lower half.
+fn file_id(id: NodeId) -> u64
+    ensures { result ≡ file_id (id_of id) }
+{
+    (id.home.0 as u64) * 0x1_0000_0000 + id.number as u64
+}
+
+fn time_of(moment: Moment) -> Time
+    ensures { result ≡ time_of moment }
+{
+    Time {
+        secs: moment.secs,
+        nanos: moment.nanos,
+    }
+}
+
+/// The label of a node: where labels are carried alone as it was stored, to who may read the node, and otherwise
+/// as the site writes it.
+fn label_shown<'a>(site: &Site<'a>, tree: &'a Tree, subject: Level, held: &Held) -> &'a Stored
+    ensures { (n : Node) (p : Place) → Holds tree.now n held.now →
+        stored_of result.now ≡ label_shown (site_of site.now) (record p { subject = subject.0 }) n }
+{
+    let label = held.facts.label;
+    if site.is_limited() && denied(site, subject, &Question::Read { label }).is_none() {
+        if let Some(stored) = tree.stored(held.id) {
+            return stored;
+        }
+    }
+    site.label(label)
+}
+
+/// A label as the value of an attribute.
+fn label_value(alloc: Global, label: &Stored) -> Result<LabelValue, AllocError>
+    ensures value { IfOk result (λ value. value ≡ label_value (stored_of label.now)) }
+    ensures short { IfOk result (λ value. length value.bytes ≤ 1024) }
+{
+    // No label that is kept is longer.
+    if label.bytes.len() > MAX_SPELLING {
+        return Err(AllocError);
+    }
+    Ok(LabelValue {
+        lfs: label.lfs,
+        pi: label.pi,
+        bytes: Octets::from_slice(alloc, label.bytes.as_slice())?,
+    })
+}
+
+/// What a node shows of itself to a subject, with the status of an entry that can't be read.
+pub fn shown(
+    alloc: Global,
+    site: &Site<'_>,
+    tree: &Tree,
+    subject: Level,
+    held: &Held,
+    error: u32,
+) -> Result<View, AllocError>
+    ensures view { IfOk result (λ view. (n : Node) (p : Place) → Holds tree.now n held.now →
+        view ≡ shown (site_of site.now) (record p { subject = subject.0 }) tree.now.entries n error) }
+    ensures fits { IfOk result ViewFits }
+{
+    let facts = &held.facts;
+    let label = label_value(alloc, label_shown(site, tree, subject, held))?;
+    Ok(View {
+        kind: type_of(facts.kind),
+        change: facts.change,
+        size: facts.size,
+        handle: handle_of(held.id),
+        fileid: file_id(held.id),
+        mode: facts.mode,
+        links: facts.links,
+        avail: site.bytes_limit(subject),
+        used: 0,
+        access: time_of(facts.access),
+        metadata: time_of(facts.metadata),
+        modify: time_of(facts.modify),
+        label,
+        error,
+    })
+}
+
+/// A bitmap has eight words of 32 bits.
+pub fn is_whole(_mask: Bitmap)
+    ensures { BitmapFits _mask }
+{}
+
+/// Those of the attributes asked that the server has, without the inner ones where these aren't allowed.
+fn mask_of(asked: &Bitmap, inner: bool) -> Bitmap
+    ensures { result ≡ bitmap_of (λ n. is_listed n && is_answered asked.now inner n) }
+{
+    let mask = answered(asked, inner);
+    is_whole(mask);
+    mask
+}
+
+/// Appends those of the attributes asked that the server has, without the inner ones where these aren't allowed.
+/// Without memory something may have been appended.
+pub fn put_answer(
+    alloc: Global,
+    asked: &Bitmap,
+    inner: bool,
+    view: &View,
+    out: &mut XdrWriter,
+) -> Result<(), AllocError>
+    requires { ViewFits view.now }
+    ensures ok { OnOk result (out.new ≡ out.old ++ attrs_text (answer_to asked.now inner view.now)) }
+    ensures err { OnErr result (Extends out.old out.new) }
+{
+    let mut list = XdrWriter::new(alloc);
+    write_attrs(asked, view, inner, &mut list)?;
+    write_bitmap(&mask_of(asked, inner), out)?;
+    out.opaque(&list.into_bytes())
+}
