@@ -2,6 +2,9 @@ pub mod Heads
 pub mod Own
 pub mod Acting
 pub mod Sequencing
+pub mod Telling
+pub mod OnNodes
 pub mod Operating
+pub mod Staying
 pub mod Running
 pub mod Serving

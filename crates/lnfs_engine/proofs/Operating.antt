@@ -1,20 +1,22 @@
 -- An operation behind its tests of place and room.
-use Rattle.std.proofs.Common.{◌≡◌, Bool, true, false, cond, [], List, Option, Some, None, refl, sym, ap, ◌∙◌}
-use Rattle.lnfs_arguments.specs.Further.{nothing_further}
+use Rattle.std.proofs.Common.{◌≡◌, ℕ, Bool, true, false, cond, List, Option, Some, None, refl, sym, ap, ◌∙◌}
 use Rattle.lnfs_arguments.specs.declared.types.Op.{Op}
 use Rattle.lnfs_arguments.specs.declared.types.Op.TheVariants as ops
 use Rattle.lnfs_arguments.specs.declared.types.Compound.{Compound}
 use Rattle.lnfs_results.specs.declared.types.OpResult.{OpResult}
 use Rattle.lnfs_world.specs.World.{World}
 use Rattle.lnfs_world.specs.Outcome.{Site, Place}
-use Rattle.lnfs_world.specs.Lawful.{Deed}
-use Rattle.lnfs_world.specs.Both.{Both, both}
+use Rattle.lnfs_world.specs.Lawful.{Deed, deed_of}
+use Rattle.lnfs_world.specs.Both.{Both, both, on_world}
 use Rattle.lnfs_operations.specs.Chain.{Refusal}
-use Rattle.lnfs_operations.specs.Extra.{no_extra}
+use Rattle.lnfs_operations.specs.Extra.{Extra}
 use Rattle.lnfs_operations.specs.Sequence.{Sent}
 use Rattle.lnfs_operations.specs.Admission.{admission}
-use Rattle.lnfs_operations.specs.Served.{Reply, failure, row_in, admitted, is_served, operation}
-use Rattle.lnfs_engine.specs.Performs.{turn}
+use Rattle.lnfs_operations.specs.Served.{Reply, failure, row, further_reply, row_in, admitted, is_served, operation}
+use Rattle.lnfs_engine.specs.declared.place.Keeper as code
+use Rattle.lnfs_engine.specs.declared.reply.Came.{Came}
+use Rattle.lnfs_engine.specs.Places.{further_in}
+use Rattle.lnfs_engine.specs.Performs.{turn, Performs}
 
 -- over any tests
 passed : {S : Type 0} (b : Bool) (op : Op) (p : Place) (a : S) (test : Place → S → Option Refusal) (deed : Deed Reply S) → None ≡ cond b (test p a) None → cond b (λ q x. admitted op q x (test q x) (deed q x)) deed p a ≡ deed p a
@@ -25,17 +27,44 @@ stopped : {S : Type 0} (b : Bool) (op : Op) (p : Place) (a : S) (test : Place �
 stopped true op p a test deed why is = ap (λ o. admitted op p a o (deed p a)) (sym is)
 stopped false op p a test deed why is = absurd (cc)
 
-module _ (site : Site) (sent : Sent) (c : Compound) (so_far : List OpResult) (op : Op) (p : Place) (w : World) where
-  -- no operation is a further one
-  own_turn : (o : Op) → row_in no_extra site sent o p (both w []) ≡ turn sent o p w
-  own_turn (ops.Extra number arguments) = refl
-  own_turn o = refl
+-- of two, the one that is told by what a test tells
+is_first : {A : Type 0} (b : Bool) (x y : A) (f told : ℕ × List ℕ) → Some told ≡ cond b (Some f) None → (cond b x y ≡ x) × (f ≡ told)
+is_first true x y f told is = (refl, cc)
+is_first false x y f told is = absurd (cc)
 
-  abbrev test : Place → Both ⊥ → Option Refusal
-  test q b = admission nothing_further c so_far op q b.world
+is_other : {A : Type 0} (b : Bool) (x y : A) (f : ℕ × List ℕ) → None ≡ cond b (Some f) None → cond b x y ≡ y
+is_other true x y f is = absurd (cc)
+is_other false x y f is = refl
 
-  pub runs : None ≡ cond (is_served nothing_further op) (admission nothing_further c so_far op p w) None → operation no_extra site sent c so_far op p (both w []) ≡ turn sent op p w
-  runs is = passed (is_served nothing_further op) op p (both w []) test (row_in no_extra site sent op) is ∙ own_turn op
+module _ (X : Extra) (site : Site) (sent : Sent) where
+  -- one of the table
+  pub own_row : (o : Op) (p : Place) (b : Both X.Row) → None ≡ further_in X.grammar o → row_in X site sent o p b ≡ on_world (deed_of (row site sent o)) p b
+  own_row (ops.Extra number arguments) p b is = ap (λ (deed : Deed Reply (Both X.Row)). deed p b) (is_other (X.grammar.serves number) (further_reply number (X.outcome site number arguments)) (on_world (deed_of (row site sent (ops.Extra number arguments)))) (number, arguments) is)
+  own_row o p b is = refl
 
-  pub fails : (why : Refusal) → Some why ≡ cond (is_served nothing_further op) (admission nothing_further c so_far op p w) None → operation no_extra site sent c so_far op p (both w []) ≡ record { answer = failure op why; place = p; state = both w [] }
-  fails why is = stopped (is_served nothing_further op) op p (both w []) test (row_in no_extra site sent op) why is
+  -- a further one
+  pub further_row : (o : Op) (n : ℕ) (args : List ℕ) (p : Place) (b : Both X.Row) → Some (n, args) ≡ further_in X.grammar o → row_in X site sent o p b ≡ further_reply n (X.outcome site n args) p b
+  further_row (ops.Extra number arguments) n args p b is =
+      let f = is_first (X.grammar.serves number) (further_reply number (X.outcome site number arguments)) (on_world (deed_of (row site sent (ops.Extra number arguments)))) (number, arguments) (n, args) is in
+      ap (λ (deed : Deed Reply (Both X.Row)). deed p b) f.0 ∙ ap (λ (told : ℕ × List ℕ). further_reply told.0 (X.outcome site told.0 told.1) p b) f.1
+  further_row o n args p b is = absurd (cc)
+
+  module _ (c : Compound) (so_far : List OpResult) (op : Op) (p : Place) (b : Both X.Row) where
+    abbrev test : Place → Both X.Row → Option Refusal
+    test q v = admission X.grammar c so_far op q v.world
+
+    pub runs : None ≡ cond (is_served X.grammar op) (admission X.grammar c so_far op p b.world) None → operation X site sent c so_far op p b ≡ row_in X site sent op p b
+    runs is = passed (is_served X.grammar op) op p b test (row_in X site sent op) is
+
+    pub fails : (why : Refusal) → Some why ≡ cond (is_served X.grammar op) (admission X.grammar c so_far op p b.world) None → operation X site sent c so_far op p b ≡ record { answer = failure op why; place = p; state = b }
+    fails why is = stopped (is_served X.grammar op) op p b test (row_in X site sent op) why is
+
+-- an operation of the table leaves the rows beside
+pub lifted : {Row : Type 0} (begin : ℕ) (old new : List ℕ) (here next : code.Keeper) (at : Place) (site : Site) (sent : Sent) (op : Op) (p : Place) (w v : World) (rows : List Row) (came : Came) →
+    Performs begin old new here next at v (turn site sent op p w) came → Performs begin old new here next at (both v rows) (on_world (deed_of (row site sent op)) p (both w rows)) came
+lifted begin old new here next at site sent op p w v rows came did = record {
+  place_is = did.place_is;
+  state = ap (λ (x : World). both x rows) did.state;
+  keeper = did.keeper;
+  says = did.says;
+}

@@ -3,7 +3,6 @@ use Rattle.std.proofs.Common.{◌≡◌, ◌≤◌, ◌<◌, ◌+◌, ◌-◌, �
 use Rattle.std.specs.List.{flat_map, slice_get}
 use Rattle.std.proofs.lemmas.List.{take-append-le}
 use Rattle.std.proofs.lemmas.List.Concat.{flat_map-cons, flat_map-append}
-use Rattle.lnfs_outside.specs.declared.event.Moment.{Moment}
 use Rattle.lnfs_arguments.specs.declared.types.Op.{Op}
 use Rattle.lnfs_arguments.specs.declared.types.Compound.{Compound}
 use Rattle.lnfs_arguments.specs.Numbered.{number_of}
@@ -12,19 +11,18 @@ use Rattle.lnfs_results.specs.Numbered.{status_of, status_or_none, status_of_all
 use Rattle.lnfs_results.specs.Texts.{head_text, result_text, results_text}
 use Rattle.lnfs_xdr.specs.Canon.{word, opaque}
 use Rattle.lnfs_xdr.proofs.Sizes.{length-word}
-use Rattle.lnfs_world.specs.World.{World}
-use Rattle.lnfs_world.specs.Outcome.{Place, begins_at}
+use Rattle.lnfs_world.specs.Outcome.{Place}
 use Rattle.lnfs_world.specs.Lawful.{Turn, Deed}
-use Rattle.lnfs_world.specs.Both.{Both, both}
 use Rattle.lnfs_operations.specs.Admission.{used}
 use Rattle.lnfs_operations.specs.Served.{Keeper, Nowhere, Slot, Record, Reply, Own, Kept}
 use Rattle.lnfs_operations.specs.SlotRule.{Ran, kept_by, own_reply, followed, run_behind}
-use Rattle.lnfs_engine.specs.declared.place.Place as code
-use Rattle.lnfs_engine.specs.declared.place.Place.TheVariants as places
-use Rattle.lnfs_engine.specs.declared.place.Refusal.{Refusal}
+use Rattle.lnfs_engine.specs.declared.place.Keeper as code
+use Rattle.lnfs_engine.specs.declared.place.Keeper.TheVariants as keepers
+use Rattle.lnfs_operations.specs.declared.Refusal.{Refusal}
 use Rattle.lnfs_engine.specs.declared.reply.Came.TheVariants as came
 use Rattle.lnfs_engine.specs.declared.run.Ended.TheVariants as ended
-use Rattle.lnfs_engine.specs.Places.{place_of, keeper_of, refusal_of}
+use Rattle.lnfs_engine.specs.Places.{keeper_of}
+use Rattle.lnfs_nodes.specs.Trees.{refusal_of}
 use Rattle.lnfs_engine.specs.Replies.{Says}
 use Rattle.lnfs_engine.specs.Performs.{first_kept, kept_behind, Performs}
 use Rattle.lnfs_engine.specs.Runs.{Ends}
@@ -143,62 +141,61 @@ module _ {S : Type 0} where
 
 -- ---- a whole run, of which so many operations are done
 
-module _ (deeds : List OpResult → Op → Deed Reply (Both ⊥)) (os : List Op) (level : ℕ) (moment : Moment) (begin : ℕ) (old : List ℕ) (total : Ran (Both ⊥)) where
-  pub record Ahead (out : List ℕ) (done : ℕ) (place : code.Place) (w : World) : Type 0 where
+module _ {S : Type 0} (deeds : List OpResult → Op → Deed Reply S) (os : List Op) (begin : ℕ) (old : List ℕ) (total : Ran S) where
+  pub record Ahead (out : List ℕ) (done : ℕ) (keeper : code.Keeper) (place : Place) (w : S) : Type 0 where
     pub so_far : List OpResult
     pub many : length so_far ≡ done
     pub text : out ≡ old ++ flat_map result_text so_far
     pub success : status_of_all so_far ≡ 0
-    pub follows : total ≡ kept_by (keeper_of place) (run_behind deeds so_far (drop done os) (place_of level moment place) (both w []))
+    pub follows : total ≡ kept_by (keeper_of keeper) (run_behind deeds so_far (drop done os) place w)
 
-  behind_cons : (so_far : List OpResult) (op : Op) (rest : List Op) (p : Place) (b : Both ⊥) → run_behind deeds so_far (op ∷ rest) p b ≡ followed so_far op (deeds so_far op p b).place (deeds so_far op p b).state (deeds so_far op p b).answer (λ results. run_behind deeds results rest (deeds so_far op p b).place (deeds so_far op p b).state)
+  behind_cons : (so_far : List OpResult) (op : Op) (rest : List Op) (p : Place) (b : S) → run_behind deeds so_far (op ∷ rest) p b ≡ followed so_far op (deeds so_far op p b).place (deeds so_far op p b).state (deeds so_far op p b).answer (λ results. run_behind deeds results rest (deeds so_far op p b).place (deeds so_far op p b).state)
   unfolding run_behind
   behind_cons so_far op rest p b = refl
 
-  behind_nil : (so_far : List OpResult) (p : Place) (b : Both ⊥) → run_behind deeds so_far [] p b ≡ record { place = p; state = b; results = so_far; denial = None; again = None; keeper = Nowhere }
+  behind_nil : (so_far : List OpResult) (p : Place) (b : S) → run_behind deeds so_far [] p b ≡ record { place = p; state = b; results = so_far; denial = None; again = None; keeper = Nowhere }
   unfolding run_behind
   behind_nil so_far p b = refl
 
-  module _ (out : List ℕ) (done : ℕ) (place : code.Place) (w : World) (a : Ahead out done place w) where
-    pub ahead_ends : drop done os ≡ [] → Ends level moment begin old out place w (status_of_all total.results) total (ended.New 0 done None)
+  module _ (out : List ℕ) (done : ℕ) (keeper : code.Keeper) (place : Place) (w : S) (a : Ahead out done keeper place w) where
+    pub ahead_ends : drop done os ≡ [] → Ends begin old out keeper place w (status_of_all total.results) total (ended.New 0 done None)
     ahead_ends none =
-        let p = place_of level moment place in
-        let is = a.follows ∙ ap (λ x. kept_by (keeper_of place) (run_behind deeds a.so_far x p (both w []))) none ∙ ap (kept_by (keeper_of place)) (behind_nil a.so_far p (both w []))
-        ∙ ended_by (keeper_of place) Nowhere _ refl ∙ ap (λ (k : Keeper). record { place = p; state = both w []; results = a.so_far; denial = None; again = None; keeper = k }) (first_nowhere (keeper_of place)) in
-        subst (λ (r : Ran (Both ⊥)). Ends level moment begin old out place w (status_of_all r.results) r (ended.New 0 done None)) (sym is) (record {
-          place = refl;
+        let is = a.follows ∙ ap (λ x. kept_by (keeper_of keeper) (run_behind deeds a.so_far x place w)) none ∙ ap (kept_by (keeper_of keeper)) (behind_nil a.so_far place w)
+        ∙ ended_by (keeper_of keeper) Nowhere _ refl ∙ ap (λ (k : Keeper). record { place = place; state = w; results = a.so_far; denial = None; again = None; keeper = k }) (first_nowhere (keeper_of keeper)) in
+        subst (λ (r : Ran S). Ends begin old out keeper place w (status_of_all r.results) r (ended.New 0 done None)) (sym is) (record {
+          place_is = refl;
           state = refl;
           keeper = refl;
           ends = record { none = refl; text = a.text; many = sym a.many; last = sym a.success; denied = refl };
         })
 
-    module _ (op : Op) (ahead : drop done os ≡ op ∷ drop (done + 1) os) (new : List ℕ) (next : code.Place) (v : World) where
-      abbrev turn : Turn Reply (Both ⊥)
-      turn = deeds a.so_far op (place_of level moment place) (both w [])
+    module _ (op : Op) (ahead : drop done os ≡ op ∷ drop (done + 1) os) (new : List ℕ) (next : code.Keeper) (at : Place) (v : S) where
+      abbrev turn : Turn Reply S
+      turn = deeds a.so_far op place w
 
-      abbrev behind : Place → Both ⊥ → List OpResult → Ran (Both ⊥)
+      abbrev behind : Place → S → List OpResult → Ran S
       behind p b results = run_behind deeds results (drop (done + 1) os) p b
 
-      here_is : total ≡ kept_by (keeper_of place) (followed a.so_far op turn.place turn.state turn.answer (behind turn.place turn.state))
-      here_is = a.follows ∙ ap (λ x. kept_by (keeper_of place) (run_behind deeds a.so_far x (place_of level moment place) (both w []))) ahead ∙ ap (kept_by (keeper_of place)) (behind_cons a.so_far op (drop (done + 1) os) (place_of level moment place) (both w []))
+      here_is : total ≡ kept_by (keeper_of keeper) (followed a.so_far op turn.place turn.state turn.answer (behind turn.place turn.state))
+      here_is = a.follows ∙ ap (λ x. kept_by (keeper_of keeper) (run_behind deeds a.so_far x place w)) ahead ∙ ap (kept_by (keeper_of keeper)) (behind_cons a.so_far op (drop (done + 1) os) place w)
 
-      pub ahead_on : Performs level moment begin out new place next v turn came.Done → Ahead new (done + 1) next v
+      pub ahead_on : Performs begin out new keeper next at v turn came.Done → Ahead new (done + 1) next at v
       ahead_on did =
-          let s = done_step begin out new (keeper_of place) (keeper_of next) turn.answer a.so_far op turn.place turn.state (behind turn.place turn.state) did.keeper did.says in
+          let s = done_step begin out new (keeper_of keeper) (keeper_of next) turn.answer a.so_far op turn.place turn.state (behind turn.place turn.state) did.keeper did.says in
           record {
             so_far = a.so_far ++ s.result ∷ [];
             many = omega (arith, a.many, length-append a.so_far (s.result ∷ []));
             text = s.text ∙ ap (λ x. x ++ result_text s.result) a.text ∙ text_more old a.so_far s.result;
             success = last_status a.so_far s.result ∙ s.success;
-            follows = here_is ∙ s.follows ∙ (λ i. kept_by (keeper_of next) (behind (did.place i) (did.state i) (a.so_far ++ s.result ∷ [])));
+            follows = here_is ∙ s.follows ∙ (λ i. kept_by (keeper_of next) (behind (did.place_is i) (did.state i) (a.so_far ++ s.result ∷ [])));
           }
 
-      pub ahead_refused : (why : Refusal) → Performs level moment begin out new place next v turn (came.Refused why) →
-          Ends level moment begin old new next v (status_of_all total.results) total (ended.New why.status (done + 1) (Some (record { place = done + 1; number = number_of op; gate = why.gate; status = why.status })))
+      pub ahead_refused : (why : Refusal) → Performs begin out new keeper next at v turn (came.Refused why) →
+          Ends begin old new next at v (status_of_all total.results) total (ended.New why.status (done + 1) (Some (record { place = done + 1; number = number_of op; gate = why.gate; status = why.status })))
       ahead_refused why did =
-          let s = refused_step begin out new (keeper_of place) (keeper_of next) turn.answer a.so_far op turn.place turn.state why (behind turn.place turn.state) did.keeper did.says in
-          subst (λ (r : Ran (Both ⊥)). Ends level moment begin old new next v (status_of_all r.results) r (ended.New why.status (done + 1) (Some (record { place = done + 1; number = number_of op; gate = why.gate; status = why.status })))) (sym (here_is ∙ s.ends)) (record {
-            place = did.place;
+          let s = refused_step begin out new (keeper_of keeper) (keeper_of next) turn.answer a.so_far op turn.place turn.state why (behind turn.place turn.state) did.keeper did.says in
+          subst (λ (r : Ran S). Ends begin old new next at v (status_of_all r.results) r (ended.New why.status (done + 1) (Some (record { place = done + 1; number = number_of op; gate = why.gate; status = why.status })))) (sym (here_is ∙ s.ends)) (record {
+            place_is = did.place_is;
             state = did.state;
             keeper = refl;
             ends = record {
@@ -210,26 +207,26 @@ module _ (deeds : List OpResult → Op → Deed Reply (Both ⊥)) (os : List Op)
             };
           })
 
-      pub ahead_again : begin ≤ length old → Performs level moment begin out new place next v turn came.Again → Ends level moment begin old new next v (status_of_all total.results) total ended.Again
+      pub ahead_again : begin ≤ length old → Performs begin out new keeper next at v turn came.Again → Ends begin old new next at v (status_of_all total.results) total ended.Again
       ahead_again within did =
-          let s = again_step begin out new (keeper_of place) (keeper_of next) turn.answer a.so_far op turn.place turn.state (behind turn.place turn.state) did.keeper did.says in
-          subst (λ (r : Ran (Both ⊥)). Ends level moment begin old new next v (status_of_all r.results) r ended.Again) (sym (here_is ∙ s.ends)) (record {
-            place = did.place;
+          let s = again_step begin out new (keeper_of keeper) (keeper_of next) turn.answer a.so_far op turn.place turn.state (behind turn.place turn.state) did.keeper did.says in
+          subst (λ (r : Ran S). Ends begin old new next at v (status_of_all r.results) r ended.Again) (sym (here_is ∙ s.ends)) (record {
+            place_is = did.place_is;
             state = did.state;
             keeper = refl;
             ends = record {
               kept = s.kept;
-              again = refl;
+              is = refl;
               text = s.text ∙ ap (λ x. take begin x ++ s.kept) a.text ∙ ap (λ x. x ++ s.kept) (take-append-le begin old (flat_map result_text a.so_far) within);
               denied = refl;
             };
           })
 
-pub ahead_begin : (deeds : List OpResult → Op → Deed Reply (Both ⊥)) (os : List Op) (level : ℕ) (moment : Moment) (begin : ℕ) (old : List ℕ) (place : code.Place) (w : World) → place ≡ places.Outside → Ahead deeds os level moment begin old (run_behind deeds [] os (begins_at level moment) (both w [])) old 0 place w
-ahead_begin deeds os level moment begin old place w outside = record {
+pub ahead_begin : {S : Type 0} (deeds : List OpResult → Op → Deed Reply S) (os : List Op) (begin : ℕ) (old : List ℕ) (keeper : code.Keeper) (place : Place) (w : S) → keeper ≡ keepers.Nowhere → Ahead deeds os begin old (run_behind deeds [] os place w) old 0 keeper place w
+ahead_begin deeds os begin old keeper place w nowhere = record {
   so_far = [];
   many = refl;
   text = sym (append-nil old);
   success = refl;
-  follows = ap (λ x. kept_by (keeper_of x) (run_behind deeds [] os (place_of level moment x) (both w []))) (sym outside);
+  follows = ap (λ x. kept_by (keeper_of x) (run_behind deeds [] os place w)) (sym nowhere);
 }

@@ -6,7 +6,7 @@ use Rattle.lnfs_outside.specs.declared.event.Moment.{Moment}
 use Rattle.lnfs_arguments.specs.declared.types.Op.TheVariants as ops
 use Rattle.lnfs_arguments.specs.declared.types.Sequence.{Sequence}
 use Rattle.lnfs_world.specs.World.{Id, Session, World, session_at}
-use Rattle.lnfs_world.specs.Outcome.{Place, Outcome, begins_at, done_to}
+use Rattle.lnfs_world.specs.Outcome.{Site, Place, Outcome, begins_at, done_to}
 use Rattle.lnfs_world.specs.Change.{apply_all}
 use Rattle.lnfs_operations.specs.declared.Gate.{Gate}
 use Rattle.lnfs_operations.specs.declared.Gate.TheVariants as gates
@@ -23,10 +23,9 @@ use Rattle.lnfs_session.specs.declared.sequence.SlotRef.{SlotRef}
 use Rattle.lnfs_session.specs.Listed.{id_of, session_id_of}
 use Rattle.lnfs_session.specs.Arrived as arrival
 use Rattle.lnfs_session.specs.Arrived.{Arrived, arrived, answered_as}
-use Rattle.lnfs_engine.specs.declared.place.Refusal as code
+use Rattle.lnfs_operations.specs.declared.Refusal as code
 use Rattle.lnfs_engine.specs.declared.place.InSession.{InSession}
-use Rattle.lnfs_engine.specs.declared.place.Place.TheVariants as places
-use Rattle.lnfs_engine.specs.Places.{place_of, StandsIn}
+use Rattle.lnfs_engine.specs.Places.{StandsIn}
 use Rattle.lnfs_engine.specs.Replies.{own_of, Acts}
 use Rattle.lnfs_engine.specs.Results.{sequence_result}
 
@@ -80,42 +79,46 @@ is_refused args sent p w why =
 
 -- ---- what it comes to
 
-module _ (args : Sequence) (sent : Sent) (p : Place) (w : World) where
+module _ (site : Site) (args : Sequence) (sent : Sent) (p : Place) (w : World) where
   -- an outcome that changes nothing
-  turned : (o : Outcome (Answer Sequenced)) → sequence args sent p w ≡ o → o.changes ≡ [] → Acts (row sent (ops.Sequence args) p w) (reply_of (ops.Sequence args) (sequence_reply args) o.answer) o.place w w
+  turned : (o : Outcome (Answer Sequenced)) → sequence args sent p w ≡ o → o.changes ≡ [] → Acts (row site sent (ops.Sequence args) p w) (reply_of (ops.Sequence args) (sequence_reply args) o.answer) o.place w w
   turned o is none = record {
     answer = ap (λ (x : Outcome (Answer Sequenced)). reply_of (ops.Sequence args) (sequence_reply args) x.answer) is;
     place = ap (λ (x : Outcome (Answer Sequenced)). x.place) is;
     world = sym (ap (done_to w) is ∙ ap (λ cs. apply_all cs w) none);
   }
 
-  pub acts_new : (id : Id) (slot : ℕ) (client : Id) (room highest : ℕ) (n : IsNew args p w (sequence args sent p w) id slot client room highest) → Acts (row sent (ops.Sequence args) p w) (own_of (ops.Sequence args) (Keep.Slot slot args.sequence) (Ok (sequence_result args highest))) (in_session p n.session) w w
+  pub acts_new : (id : Id) (slot : ℕ) (client : Id) (room highest : ℕ) (n : IsNew args p w (sequence args sent p w) id slot client room highest) → Acts (row site sent (ops.Sequence args) p w) (own_of (ops.Sequence args) (Keep.Slot slot args.sequence) (Ok (sequence_result args highest))) (in_session p n.session) w w
   acts_new id slot client room highest n =
       let told = n.told in
       let at : args.slot ≡ slot = cc in
       let top : n.session.channel.max_requests - 1 ≡ highest = cc in
-      subst (λ r. Acts (row sent (ops.Sequence args) p w) r (in_session p n.session) w w) (λ i. own_of (ops.Sequence args) (Keep.Slot (at i) args.sequence) (Ok (sequence_result args (top i)))) (turned (done (in_session p n.session) (New n.session) []) n.outcome refl)
+      subst (λ r. Acts (row site sent (ops.Sequence args) p w) r (in_session p n.session) w w) (λ i. own_of (ops.Sequence args) (Keep.Slot (at i) args.sequence) (Ok (sequence_result args (top i)))) (turned (done (in_session p n.session) (New n.session) []) n.outcome refl)
 
-  pub acts_again : (reply : List ℕ) → sequence args sent p w ≡ done p (Again reply) [] → Acts (row sent (ops.Sequence args) p w) (Keep.Kept reply) p w w
+  pub acts_again : (reply : List ℕ) → sequence args sent p w ≡ done p (Again reply) [] → Acts (row site sent (ops.Sequence args) p w) (Keep.Kept reply) p w w
   acts_again reply is = turned (done p (Again reply) []) is refl
 
-  pub acts_refused : (why : code.Refusal) → sequence args sent p w ≡ refuse p why.gate why.status → Acts (row sent (ops.Sequence args) p w) (own_of (ops.Sequence args) Keep.Nowhere (Err why)) p w w
+  pub acts_refused : (why : code.Refusal) → sequence args sent p w ≡ refuse p why.gate why.status → Acts (row site sent (ops.Sequence args) p w) (own_of (ops.Sequence args) Keep.Nowhere (Err why)) p w w
   acts_refused why is = turned (refuse p why.gate why.status) is refl
 
 module _ (level : ℕ) (moment : Moment) (args : Sequence) (w : World) (o : Outcome (Answer Sequenced)) (at : SlotRef) (client : ClientRef) (room highest : ℕ)
     (n : IsNew args (begins_at level moment) w o (session_id_of at.session) at.slot (id_of client) room highest) where
-  -- the code's place
+  -- where its result is kept
   abbrev pub behind : InSession
   behind = record { at = at; sequence = args.sequence; client = client; room = room }
 
-  pub new_place : in_session (begins_at level moment) n.session ≡ place_of level moment (places.Session behind)
+  -- the place in the session
+  abbrev pub later : Place
+  later = record (begins_at level moment) { client = Some client.number; session = Some at.session.number }
+
+  pub new_place : in_session (begins_at level moment) n.session ≡ later
   new_place =
       let told = n.told in
       let id : n.session.id ≡ session_id_of at.session = cc in
       let own : record { level = n.session.id.level; number = n.session.client } ≡ id_of client = cc in
       λ i. record (begins_at level moment) { client = Some (own i).number; session = Some (id i).number }
 
-  pub new_stands : StandsIn level w.sessions behind
+  pub new_stands : StandsIn later w.sessions behind
   new_stands =
       let told = n.told in
       let id : n.session.id ≡ session_id_of at.session = cc in
@@ -123,8 +126,10 @@ module _ (level : ℕ) (moment : Moment) (args : Sequence) (w : World) (o : Outc
       let most : n.session.channel.max_response ≡ room = cc in
       let level_is : at.session.level ≡ level = ap (λ (x : Id). x.level) (sym id) ∙ n.level in
       record {
-        session = level_is;
-        client = ap (λ (x : Id). x.level) (sym own) ∙ n.level;
+        level = level_is;
+        client_level = ap (λ (x : Id). x.level) (sym own) ∙ n.level;
+        client = refl;
+        session = refl;
         room = ap (λ (l : ℕ). option_map (λ (x : Session). x.channel.max_response) (session_at w.sessions (record { level = l; number = at.session.number }))) (sym level_is)
             ∙ ap (λ (x : Id). option_map (λ (y : Session). y.channel.max_response) (session_at w.sessions x)) (sym id)
             ∙ ap (option_map (λ (x : Session). x.channel.max_response)) n.found ∙ ap Some most;

@@ -4,3 +4,6 @@ pub mod Replies
 pub mod Performs
 pub mod Runs
 pub mod Served
+pub mod Stores
+pub mod Further
+pub mod Nodes

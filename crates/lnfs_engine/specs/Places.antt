@@ -1,44 +1,62 @@
 -- What the code's values of a place stand for.
-use Rattle.std.specs.Prelude.{◌≡◌, ℕ, List, Some, None}
+use Rattle.std.specs.Prelude.{◌≡◌, ℕ, List, Option, Some, None, cond}
 use Rattle.std.specs.Option.{option_map}
-use Rattle.lnfs_outside.specs.declared.event.Moment.{Moment}
+use Rattle.lnfs_arguments.specs.Further.{Further}
 use Rattle.lnfs_arguments.specs.declared.types.Op.{Op}
 use Rattle.lnfs_arguments.specs.declared.types.Op.TheVariants as ops
 use Rattle.lnfs_world.specs.World.{Session, session_at}
 use Rattle.lnfs_world.specs.Outcome as world
 use Rattle.lnfs_world.specs.Outcome.{begins_at}
-use Rattle.lnfs_operations.specs.Chain as chain
 use Rattle.lnfs_operations.specs.Served.{Keeper, Nowhere, Slot, Record}
-use Rattle.lnfs_engine.specs.declared.place.Refusal.{Refusal}
+use Rattle.lnfs_tree.specs.Rows.{id_of}
 use Rattle.lnfs_engine.specs.declared.place.InSession.{InSession}
+use Rattle.lnfs_engine.specs.declared.place.Keeper as code
+use Rattle.lnfs_engine.specs.declared.place.Keeper.TheVariants as keepers
 use Rattle.lnfs_engine.specs.declared.place.Place.{Place}
-use Rattle.lnfs_engine.specs.declared.place.Place.TheVariants as places
 
-abbrev pub refusal_of : Refusal → chain.Refusal
-refusal_of why = record { gate = why.gate; status = why.status }
+abbrev pub place_of : Place → world.Place
+place_of p = record {
+  subject = p.subject.0;
+  moment = p.moment;
+  client = p.client;
+  session = p.session;
+  current = option_map id_of p.current;
+  saved = option_map id_of p.saved;
+}
 
--- file handles are never set
-abbrev pub place_of : ℕ → Moment → Place → world.Place
-place_of subject moment places.Outside = begins_at subject moment
-place_of subject moment (places.Created client) = begins_at subject moment
-place_of subject moment (places.Session s) = record { subject = subject; moment = moment; client = Some s.client.number; session = Some s.at.session.number; current = None; saved = None }
+abbrev pub keeper_of : code.Keeper → Keeper
+keeper_of keepers.Nowhere = Nowhere
+keeper_of (keepers.Client client) = Record client.number
+keeper_of (keepers.Session s) = Slot s.at.slot s.sequence
 
-abbrev pub keeper_of : Place → Keeper
-keeper_of places.Outside = Nowhere
-keeper_of (places.Created client) = Record client.number
-keeper_of (places.Session s) = Slot s.at.slot s.sequence
+-- in no session
+pub record IsOutside (p : world.Place) : Type 0 where
+  pub client : p.client ≡ None
+  pub session : p.session ≡ None
 
--- a session that is there, of the subject's level, with the room of its responses
-pub record StandsIn (subject : ℕ) (sessions : List Session) (s : InSession) : Type 0 where
-  pub session : s.at.session.level ≡ subject
-  pub client : s.client.level ≡ subject
-  pub room : option_map (λ x. x.channel.max_response) (session_at sessions (record { level = subject; number = s.at.session.number })) ≡ Some s.room
+-- in a session that is there, of the subject's level, with the room of its responses
+pub record StandsIn (p : world.Place) (sessions : List Session) (s : InSession) : Type 0 where
+  pub level : s.at.session.level ≡ p.subject
+  pub client_level : s.client.level ≡ p.subject
+  pub client : p.client ≡ Some s.client.number
+  pub session : p.session ≡ Some s.at.session.number
+  pub room : option_map (λ x. x.channel.max_response) (session_at sessions (record { level = p.subject; number = s.at.session.number })) ≡ Some s.room
 
--- what holds of the place of a subject
-abbrev pub Stands : ℕ → List Session → Place → Type 0
-Stands subject sessions places.Outside = Unit {0}
-Stands subject sessions (places.Created client) = client.level ≡ subject
-Stands subject sessions (places.Session s) = StandsIn subject sessions s
+-- a record of the subject's level
+pub record StandsAt (p : world.Place) (level : ℕ) : Type 0 where
+  pub own : level ≡ p.subject
+  pub outside : IsOutside p
+
+-- what holds of a place whose COMPOUND is kept there
+abbrev pub Stands : world.Place → List Session → code.Keeper → Type 0
+Stands p sessions keepers.Nowhere = IsOutside p
+Stands p sessions (keepers.Client client) = StandsAt p client.level
+Stands p sessions (keepers.Session s) = StandsIn p sessions s
+
+-- where the first operation of a COMPOUND stands
+pub record Starts (p : world.Place) (keeper : code.Keeper) : Type 0 where
+  pub place : p ≡ begins_at p.subject p.moment
+  pub nowhere : keeper ≡ keepers.Nowhere
 
 -- an operation that is the first of its COMPOUND, or fails
 abbrev pub HasToBeFirst : Op → Type 0
@@ -48,3 +66,23 @@ HasToBeFirst (ops.DestroySession session) = Unit {0}
 HasToBeFirst (ops.Sequence args) = Unit {0}
 HasToBeFirst (ops.DestroyClientId client) = Unit {0}
 HasToBeFirst _ = ⊥
+
+-- an operation on nodes, or one that isn't served
+abbrev pub IsOnNodes : Op → Type 0
+IsOnNodes (ops.ExchangeId verifier owner flags implementation) = ⊥
+IsOnNodes (ops.CreateSession args) = ⊥
+IsOnNodes (ops.DestroySession session) = ⊥
+IsOnNodes (ops.Sequence args) = ⊥
+IsOnNodes (ops.DestroyClientId client) = ⊥
+IsOnNodes (ops.ReclaimComplete one_fs) = ⊥
+IsOnNodes (ops.Outside number status) = ⊥
+IsOnNodes _ = Unit {0}
+
+-- a place with other file handles
+abbrev pub IsMoved : world.Place → world.Place → Type 0
+IsMoved p q = q ≡ record p { current = q.current; saved = q.saved }
+
+-- the number and the arguments of a further operation that is served
+abbrev pub further_in : Further → Op → Option (ℕ × List ℕ)
+further_in x (ops.Extra number arguments) = cond (x.serves number) (Some (number, arguments)) None
+further_in x op = None

@@ -14,10 +14,10 @@ use Rattle.lnfs_operations.specs.Served.{Keeper, Reply, Own, Kept}
 use Rattle.lnfs_session.specs.declared.clients.SessionError.{SessionError}
 use Rattle.lnfs_session.specs.declared.clients.SessionError.TheVariants.{Status, Memory}
 use Rattle.lnfs_session.specs.Answers.{gate_of}
-use Rattle.lnfs_engine.specs.declared.place.Refusal.{Refusal}
+use Rattle.lnfs_operations.specs.declared.Refusal.{Refusal}
 use Rattle.lnfs_engine.specs.declared.reply.Came.{Came}
 use Rattle.lnfs_engine.specs.declared.reply.Came.TheVariants as came
-use Rattle.lnfs_engine.specs.Places.{refusal_of}
+use Rattle.lnfs_nodes.specs.Trees.{refusal_of}
 
 -- the refusal of a test that failed, which isn't want of memory
 abbrev pub IsRefusal : SessionError → Refusal → Type 0
@@ -56,3 +56,8 @@ SaysKept begin old new kept _ = ⊥
 abbrev pub Says : (begin : ℕ) → (old new : List ℕ) → Reply → Came → Type 0
 Says begin old new (Own own keeper) came = SaysOwn old new own.result own.refusal came
 Says begin old new (Kept kept) came = SaysKept begin old new kept came
+
+-- what was appended behind a result that was written, or of a refusal
+abbrev pub SaysWritten : (old new : List ℕ) → Op → Result (Unit {0}) Refusal → Came → Type 0
+SaysWritten old new op (Ok it) comes = (comes ≡ came.Done) × (new ≡ old)
+SaysWritten old new op (Err why) comes = SaysOwn old new (failed op why.status) (Some (refusal_of why)) comes

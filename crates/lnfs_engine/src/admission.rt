@@ -1,38 +1,52 @@
 //! Whether an operation may run where it stands in its COMPOUND (RFC 8881 section 2.10.6).
 ghost use Rattle.std.specs.Prelude.{◌≡◌, ℕ, List, length, cond, None};
 ghost use Rattle.std.specs.Option.{option_map};
-ghost use Rattle.lnfs_outside.specs.declared.event.Moment.{Moment};
-ghost use Rattle.lnfs_arguments.specs.Further.{nothing_further};
 ghost use Rattle.lnfs_results.specs.declared.types.OpResult.{OpResult};
 ghost use Rattle.lnfs_world.specs.World.{World};
+ghost use Rattle.lnfs_world.specs.Outcome as world;
 ghost use Rattle.lnfs_operations.specs.Admission.{unless, place_refusal, room_refusal, admission, used};
 ghost use Rattle.lnfs_operations.specs.Served.{is_served};
 ghost use Rattle.lnfs_operations.specs.declared.Gate.TheVariants as gates;
-ghost use Rattle.lnfs_engine.specs.Places.{refusal_of, place_of, Stands, HasToBeFirst};
+ghost use Rattle.lnfs_engine.specs.Places.{Stands, HasToBeFirst};
+ghost use Rattle.lnfs_nodes.specs.Trees.{refusal_of};
 
-use crate::place::{Place, Refusal};
+use crate::place::Keeper;
 use lnfs_arguments::statuses::{
     NFS4ERR_NOT_ONLY_OP, NFS4ERR_OP_NOT_IN_SESSION, NFS4ERR_REP_TOO_BIG, NFS4ERR_SEQUENCE_POS,
 };
-use lnfs_arguments::{Compound, NoExtraGrammar, Op};
+use lnfs_arguments::{Compound, ExtraGrammar, Op};
 use lnfs_compound::reply_bound;
-use lnfs_operations::Gate;
 use lnfs_operations::numbers::RESERVED_ROOM;
+use lnfs_operations::{Gate, Refusal};
 
 /// Whether an operation is served.
-fn is_served(op: &Op) -> bool
-    ensures { result ≡ is_served nothing_further op.now }
+fn is_served<E: ExtraGrammar>(op: &Op, extra: &E) -> bool
+    ensures { result ≡ is_served E.grammar op.now }
 {
-    matches!(
-        op,
+    match op {
         Op::ExchangeId { .. }
-            | Op::CreateSession(_)
-            | Op::DestroySession { .. }
-            | Op::Sequence(_)
-            | Op::DestroyClientId { .. }
-            | Op::ReclaimComplete { .. }
-            | Op::Outside { .. }
-    )
+        | Op::CreateSession(_)
+        | Op::DestroySession { .. }
+        | Op::Sequence(_)
+        | Op::DestroyClientId { .. }
+        | Op::ReclaimComplete { .. }
+        | Op::PutFh { .. }
+        | Op::PutRootFh
+        | Op::GetFh
+        | Op::SaveFh
+        | Op::RestoreFh
+        | Op::Lookup { .. }
+        | Op::LookupP
+        | Op::GetAttr { .. }
+        | Op::Verify { .. }
+        | Op::NVerify { .. }
+        | Op::Access { .. }
+        | Op::ReadDir { .. }
+        | Op::ReadLink
+        | Op::Outside { .. } => true,
+        Op::Extra { number, .. } => extra.serves(*number),
+        _ => false,
+    }
 }
 
 /// A refusal by the rules of sessions, where a test fails.
@@ -71,15 +85,20 @@ fn place_refusal(compound: &Compound, done: usize, op: &Op) -> Option<Refusal>
 
 /// What refuses an operation by the room of a response of its session: what is used, the bound of the
 /// operation's result and what is reserved have to fit (RFC 8881 section 2.10.6.4).
-fn room_refusal(place: &Place, written: usize, op: &Op) -> Option<Refusal>
-    ensures { (subject : ℕ) (moment : Moment) (w : World) (so_far : List OpResult) (c : Compound) → Stands subject w.sessions place.now → used c so_far ≡ written
-        → option_map refusal_of result ≡ room_refusal nothing_further c so_far op.now (place_of subject moment place.now) w }
+fn room_refusal<E: ExtraGrammar>(
+    keeper: &Keeper,
+    written: usize,
+    op: &Op,
+    extra: &E,
+) -> Option<Refusal>
+    ensures { (p : world.Place) (w : World) (so_far : List OpResult) (c : Compound) → Stands p w.sessions keeper.now → used c so_far ≡ written
+        → option_map refusal_of result ≡ room_refusal E.grammar c so_far op.now p w }
 {
-    let Place::Session(session) = place else {
+    let Keeper::Session(session) = keeper else {
         return None;
     };
     let most = (RESERVED_ROOM as usize).saturating_add(written);
-    if most.saturating_add(reply_bound(op, &NoExtraGrammar) as usize) <= session.room as usize {
+    if most.saturating_add(reply_bound(op, extra) as usize) <= session.room as usize {
         return None;
     }
     Some(Refusal {
@@ -90,32 +109,34 @@ fn room_refusal(place: &Place, written: usize, op: &Op) -> Option<Refusal>
 
 /// What refuses an operation before its own tests: its place, and then the room. One that isn't served fails
 /// without a test.
-pub fn admission(
+pub fn admission<E: ExtraGrammar>(
     compound: &Compound,
-    place: &Place,
+    extra: &E,
+    keeper: &Keeper,
     done: usize,
     written: usize,
     op: &Op,
 ) -> Option<Refusal>
-    ensures refusal { (subject : ℕ) (moment : Moment) (w : World) (so_far : List OpResult) → Stands subject w.sessions place.now → length so_far ≡ done → used compound.now so_far ≡ written
-        → option_map refusal_of result ≡ cond (is_served nothing_further op.now) (admission nothing_further compound.now so_far op.now (place_of subject moment place.now) w) None }
+    ensures refusal { (p : world.Place) (w : World) (so_far : List OpResult) → Stands p w.sessions keeper.now → length so_far ≡ done → used compound.now so_far ≡ written
+        → option_map refusal_of result ≡ cond (is_served E.grammar op.now) (admission E.grammar compound.now so_far op.now p w) None }
     ensures first { result ≡ None → HasToBeFirst op.now → done ≡ 0 }
 {
-    if !is_served(op) {
+    if !is_served(op, extra) {
         return None;
     }
-    place_refusal(compound, done, op).or_else(|| room_refusal(place, written, op))
+    place_refusal(compound, done, op).or_else(|| room_refusal(keeper, written, op, extra))
 }
 
 #[cfg(test)]
 mod tests {
     use super::*;
     use crate::place::InSession;
+    use lnfs_arguments::NoExtraGrammar;
     use lnfs_lists::{Items, Octets};
     use lnfs_session::{ClientRef, SessionRef, SlotRef};
 
     /// In a session whose responses have at most 2,048 bytes.
-    const IN_SESSION: Place = Place::Session(InSession {
+    const IN_SESSION: Keeper = Keeper::Session(InSession {
         at: SlotRef {
             session: SessionRef {
                 level: 0,
@@ -148,7 +169,7 @@ mod tests {
             (1912, &destroy, Some((Gate::Session, 10081))),
             (1913, &destroy, Some((Gate::Session, 10081))),
         ] {
-            let refusal = admission(&compound, &IN_SESSION, 1, written, op);
+            let refusal = admission(&compound, &NoExtraGrammar, &IN_SESSION, 1, written, op);
             let told = refusal.map(|why| (why.gate, why.status));
             assert_eq!(rt; told, want, "at {written}");
         }

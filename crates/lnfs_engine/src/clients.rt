@@ -5,7 +5,7 @@ ghost use Rattle.lnfs_outside.specs.declared.event.Moment.{Moment};
 ghost use Rattle.lnfs_arguments.specs.declared.types.Op.TheVariants as ops;
 ghost use Rattle.lnfs_arguments.specs.declared.types.Implementation.{Implementation};
 ghost use Rattle.lnfs_world.specs.World.{World};
-ghost use Rattle.lnfs_world.specs.Outcome.{Place, begins_at};
+ghost use Rattle.lnfs_world.specs.Outcome.{Site, Place, begins_at};
 ghost use Rattle.lnfs_operations.specs.Sequence.{Sent};
 ghost use Rattle.lnfs_operations.specs.Served.{Nowhere, row};
 ghost use Rattle.lnfs_session.specs.Standing.{standing};
@@ -26,9 +26,9 @@ pub fn exchange_id(
     owner: &[u8],
     flags: u32,
 ) -> Result<Answer, AllocError>
-    ensures acts { IfOk result (λ answer. (sent : Sent) (implementation : Option Implementation) (moment : Moment) (rest : World) → rest.opens ≡ [] →
+    ensures acts { IfOk result (λ answer. (site : Site) (sent : Sent) (implementation : Option Implementation) (moment : Moment) (rest : World) → rest.opens ≡ [] →
         let op = ops.ExchangeId verifier owner.now flags implementation in
-        Acts (row sent op (begins_at level moment) (standing rest clients.old)) (own_of op Nowhere answer) (begins_at level moment) (standing rest clients.old) (standing rest clients.new)) }
+        Acts (row site sent op (begins_at level moment) (standing rest clients.old)) (own_of op Nowhere answer) (begins_at level moment) (standing rest clients.old) (standing rest clients.new)) }
     ensures plain { IfOk result (λ answer. IsPlain answer) }
 {
     match clients.exchange_id(level, verifier, owner, flags) {
@@ -43,9 +43,9 @@ pub fn destroy_clientid(
     level: u32,
     client: u64,
 ) -> Result<Answer, AllocError>
-    ensures acts { IfOk result (λ answer. (sent : Sent) (moment : Moment) (rest : World) → rest.opens ≡ [] →
+    ensures acts { IfOk result (λ answer. (site : Site) (sent : Sent) (moment : Moment) (rest : World) → rest.opens ≡ [] →
         let op = ops.DestroyClientId client in
-        Acts (row sent op (begins_at level moment) (standing rest clients.old)) (own_of op Nowhere answer) (begins_at level moment) (standing rest clients.old) (standing rest clients.new)) }
+        Acts (row site sent op (begins_at level moment) (standing rest clients.old)) (own_of op Nowhere answer) (begins_at level moment) (standing rest clients.old) (standing rest clients.new)) }
     ensures plain { IfOk result (λ answer. IsPlain answer) }
 {
     match clients.destroy_clientid(level, client, false) {
@@ -60,10 +60,10 @@ pub fn reclaim_complete(
     client: ClientRef,
     one_fs: bool,
 ) -> Result<Answer, AllocError>
-    ensures acts { IfOk result (λ answer. (sent : Sent) (p : Place) (rest : World) → rest.opens ≡ [] →
+    ensures acts { IfOk result (λ answer. (site : Site) (sent : Sent) (p : Place) (rest : World) → rest.opens ≡ [] →
         let op = ops.ReclaimComplete one_fs in
         let at = record p { subject = client.level; client = Some client.number } in
-        Acts (row sent op at (standing rest clients.old)) (own_of op Nowhere answer) at (standing rest clients.old) (standing rest clients.new)) }
+        Acts (row site sent op at (standing rest clients.old)) (own_of op Nowhere answer) at (standing rest clients.old) (standing rest clients.new)) }
     ensures plain { IfOk result (λ answer. IsPlain answer) }
     // It leaves the sessions.
     ensures sessions { IfOk result (λ answer. clients.new.sessions ≡ clients.old.sessions) }

@@ -1,42 +1,40 @@
-//! The clients and sessions of a server, and a COMPOUND on them.
-ghost use Rattle.std.specs.Prelude.{◌≡◌, ◌≤◌, ◌++◌, [], drop, length, IfOk, option_map};
-ghost use Rattle.lnfs_outside.specs.declared.event.Moment.{Moment};
-ghost use Rattle.lnfs_world.specs.World.{World};
-ghost use Rattle.lnfs_world.specs.Outcome.{Site, begins_at};
-ghost use Rattle.lnfs_world.specs.Both.{both};
-ghost use Rattle.lnfs_operations.specs.Extra.{no_extra};
+//! The state of a server, and a COMPOUND on it.
+ghost use Rattle.std.specs.Prelude.{◌≡◌, ◌≤◌, ◌++◌, drop, length, IfOk, option_map};
+ghost use Rattle.lnfs_policy.specs.Policy.{dominance};
+ghost use Rattle.lnfs_world.specs.Outcome.{begins_at};
+ghost use Rattle.lnfs_world.specs.Both.{both, BothStand};
+ghost use Rattle.lnfs_site.specs.Site.{site_of};
 ghost use Rattle.lnfs_operations.specs.Sequence.{Sent};
 ghost use Rattle.lnfs_operations.specs.SlotRule.{served};
-ghost use Rattle.lnfs_session.specs.Standing.{no_lists, standing};
+ghost use Rattle.lnfs_session.specs.Standing.{no_lists};
+ghost use Rattle.lnfs_engine.specs.Places.{place_of};
+ghost use Rattle.lnfs_engine.specs.Performs.{site_in, sent_of};
 ghost use Rattle.lnfs_engine.specs.Served.{IsServed};
+ghost use Rattle.lnfs_engine.specs.Stores.{stored};
 ghost use Rattle.lnfs_engine.specs.Runs.{denial_of, denied_by};
 
+use crate::extra::Extra;
 use crate::head::finished;
 use crate::keep::keep;
-use crate::place::{Place, Request};
+use crate::place::{Keeper, Place, Request, first_place};
 use crate::run::{Denial, Ended, run_all};
+use crate::store::Store;
 use lnfs_arguments::Compound;
 use lnfs_arguments::statuses::NFS4_OK;
 use lnfs_calipso::Level;
+use lnfs_outside::Moment;
 use lnfs_results::append_head;
-use lnfs_session::Clients;
+use lnfs_site::Site;
+use lnfs_tree::Tree;
 use lnfs_xdr::XdrWriter;
 use std::alloc::{AllocError, Global};
-use std::marker::Model;
 
-/// The clients and sessions of a server. Its value is their rows, with the last numbers that were given.
+/// The state of a server: the rows of the world, and what serves further operations with rows of their own.
 #[derive(Drop)]
-pub struct Engine {
+pub struct Engine<X: Extra> {
     alloc: Global,
-    clients: Clients,
-}
-
-impl Model for Engine {
-    ghost use Rattle.lnfs_session.specs.Standing.{Lists};
-
-    ghost Value = { Lists };
-
-    ghost view = { λ e. e.clients };
+    pub store: Store,
+    pub extra: X,
 }
 
 /// What a COMPOUND was answered: the reply with its result at the end, and what was refused, if anything was.
@@ -64,50 +62,52 @@ fn result_in(reply: &Vec<u8>, begin: usize) -> &[u8]
     &reply[begin..]
 }
 
-/// Serves a COMPOUND on the clients, and appends its result to a reply.
-fn serve(
-    alloc: Global,
-    clients: &mut Clients,
-    level: u32,
-    size: u32,
-    bytes: &[u8],
-    compound: &Compound,
+/// Serves a COMPOUND from its first place on, and appends its result to a reply.
+fn serve<X: Extra>(
+    request: &Request<'_>,
+    store: &mut Store,
+    extra: &mut X,
+    first: Place,
     mut out: XdrWriter,
 ) -> Result<Ran, AllocError>
-    requires tag { length compound.now.tag ≤ 1024 }
-    requires few { length compound.now.ops ≤ 32 }
-    ensures { IfOk result (λ ran. (site : Site) (moment : Moment) (rest : World) → rest.opens ≡ [] →
-        let sent : Sent = record { arguments = bytes.now; size = size; count = compound.now.count } in
-        IsServed out (standing rest clients.new) (served no_extra site sent compound.now (begins_at level moment) (both (standing rest clients.old) [])) ran) }
+    requires tag { length request.now.compound.now.tag ≤ 1024 }
+    requires few { length request.now.compound.now.ops ≤ 32 }
+    requires begin { request.now.begin ≡ length out }
+    requires first { place_of first ≡ begins_at first.subject.0 first.moment }
+    requires facts { BothStand X.extra.Fact (site_in request.now).dom (place_of first) (both store.old (X.rows extra.old)) }
+    ensures { IfOk result (λ ran. IsServed out (both store.new (X.rows extra.new))
+        (served X.extra (site_in request.now) (sent_of request.now) request.now.compound.now (place_of first) (both store.old (X.rows extra.old))) ran) }
 {
-    let begin = out.mark();
-    append_head(&mut out, NFS4_OK, compound.tag.as_slice(), 0)?;
+    append_head(&mut out, NFS4_OK, request.compound.tag.as_slice(), 0)?;
     let end = out.mark();
-    let request = Request {
-        level,
-        size,
-        bytes,
-        compound,
-        begin,
-    };
-    let mut place = Place::Outside;
-    let ended = run_all(alloc, clients, &request, &mut place, &mut out)?;
-    let reply = finished(out, begin, end, &ended);
-    keep(alloc, clients, &place, bytes, result_in(&reply, begin))?;
+    let mut place = first;
+    let mut keeper = Keeper::Nowhere;
+    let ended = run_all(request, store, extra, &mut place, &mut keeper, &mut out)?;
+    let reply = finished(out, request.begin, end, &ended);
+    let result = result_in(&reply, request.begin);
+    keep(
+        request.alloc,
+        &mut store.clients,
+        &keeper,
+        request.bytes,
+        result,
+    )?;
     Ok(Ran {
         reply,
         denial: denied(&ended),
     })
 }
 
-impl Engine {
-    /// No client, and no number given yet. Takes no memory.
-    pub fn new(alloc: Global) -> Engine
-        ensures { result ≡ no_lists }
+impl<X: Extra> Engine<X> {
+    /// The nodes of a tree, and no client. Takes no memory.
+    pub fn new(alloc: Global, tree: Tree, extra: X) -> Engine<X>
+        ensures store { result.store ≡ stored no_lists tree }
+        ensures extra { result.extra ≡ extra }
     {
         Engine {
             alloc,
-            clients: Clients::new(alloc),
+            store: Store::new(alloc, tree),
+            extra,
         }
     }
 
@@ -116,7 +116,9 @@ impl Engine {
     /// 8881 section 2.10.6). Its result is appended to `out`, which becomes the reply.
     pub fn run(
         &mut self,
+        site: &Site<'_>,
         subject: Level,
+        moment: Moment,
         size: u32,
         bytes: &[u8],
         compound: &Compound,
@@ -124,24 +126,26 @@ impl Engine {
     ) -> Result<Ran, AllocError>
         requires tag { length compound.now.tag ≤ 1024 }
         requires few { length compound.now.ops ≤ 32 }
-        ensures reply { IfOk result (λ ran. (site : Site) (moment : Moment) (rest : World) → rest.opens ≡ [] →
+        requires facts { BothStand X.extra.Fact (dominance site.now) (begins_at subject.0 moment) (both self.old.store (X.rows self.old.extra)) }
+        ensures reply { IfOk result (λ ran.
             let sent : Sent = record { arguments = bytes.now; size = size; count = compound.now.count } in
-            ran.reply.items ≡ out ++ (served no_extra site sent compound.now (begins_at subject.0 moment) (both (standing rest self.old) [])).answer.result) }
-        ensures denial { IfOk result (λ ran. (site : Site) (moment : Moment) (rest : World) → rest.opens ≡ [] →
+            ran.reply.items ≡ out ++ (served X.extra (site_of site.now) sent compound.now (begins_at subject.0 moment) (both self.old.store (X.rows self.old.extra))).answer.result) }
+        ensures denial { IfOk result (λ ran.
             let sent : Sent = record { arguments = bytes.now; size = size; count = compound.now.count } in
-            option_map denial_of ran.denial ≡ (served no_extra site sent compound.now (begins_at subject.0 moment) (both (standing rest self.old) [])).answer.denial) }
-        ensures lists { IfOk result (λ ran. (site : Site) (moment : Moment) (rest : World) → rest.opens ≡ [] →
+            option_map denial_of ran.denial ≡ (served X.extra (site_of site.now) sent compound.now (begins_at subject.0 moment) (both self.old.store (X.rows self.old.extra))).answer.denial) }
+        ensures state { IfOk result (λ ran.
             let sent : Sent = record { arguments = bytes.now; size = size; count = compound.now.count } in
-            standing rest self.new ≡ (served no_extra site sent compound.now (begins_at subject.0 moment) (both (standing rest self.old) [])).state.world) }
+            both self.new.store (X.rows self.new.extra) ≡ (served X.extra (site_of site.now) sent compound.now (begins_at subject.0 moment) (both self.old.store (X.rows self.old.extra))).state) }
     {
-        serve(
-            self.alloc,
-            &mut self.clients,
-            subject.0,
+        let request = Request {
+            alloc: self.alloc,
+            site,
             size,
             bytes,
             compound,
-            out,
-        )
+            begin: out.mark(),
+        };
+        let first = first_place(subject, moment);
+        serve(&request, &mut self.store, &mut self.extra, first, out)
     }
 }

@@ -1,11 +1,12 @@
 //! The status and the count in the head of a COMPOUND's result, which are known once its operations ran
 //! (RFC 8881 section 16.2.2).
-ghost use Rattle.std.specs.Prelude.{◌≡◌, ◌≤◌, ◌+◌, ◌++◌, List, ℕ, length, take, drop};
+ghost use Rattle.std.specs.Prelude.{◌≡◌, ◌≤◌, ◌+◌, ◌++◌, List, ℕ, Option, length, take, drop};
 ghost use Rattle.lnfs_xdr.specs.Canon.{word};
 ghost use Rattle.lnfs_arguments.specs.declared.types.Compound.{Compound};
 ghost use Rattle.lnfs_results.specs.Texts.{head_text};
-ghost use Rattle.lnfs_world.specs.Both.{Both};
-ghost use Rattle.lnfs_operations.specs.SlotRule.{Ran, result_of};
+ghost use Rattle.lnfs_results.specs.declared.types.OpResult.{OpResult};
+ghost use Rattle.lnfs_operations.specs.Results.{Denial};
+ghost use Rattle.lnfs_operations.specs.SlotRule.{result_of};
 ghost use Rattle.lnfs_engine.specs.Runs.{status_due, EndsBy, Reaches};
 
 use crate::run::Ended;
@@ -39,8 +40,9 @@ fn complete_head(bytes: &mut [u8], begin: usize, end: usize, status: u32, count:
 pub fn finished(out: XdrWriter, begin: usize, end: usize, ended: &Ended) -> Vec<u8>
     requires head { begin + 8 ≤ end }
     requires within { Reaches end out ended.now }
-    ensures { (before : List ℕ) (c : Compound) (ran : Ran (Both ⊥)) → length before ≡ begin → length (before ++ head_text 0 c.tag 0) ≡ end → EndsBy begin (before ++ head_text 0 c.tag 0) out (status_due c ran.results) ran ended.now
-        → result.items ≡ before ++ result_of c ran.results ran.again }
+    ensures { (before : List ℕ) (c : Compound) (results : List OpResult) (refused : Option Denial) (again : Option (List ℕ)) → length before ≡ begin → length (before ++ head_text 0 c.tag 0) ≡ end →
+        EndsBy begin (before ++ head_text 0 c.tag 0) out (status_due c results) results refused again ended.now →
+        result.items ≡ before ++ result_of c results again }
 {
     let mut reply = out.into_bytes();
     if let Ended::New { status, count, .. } = ended {

@@ -1,12 +1,16 @@
-//! One COMPOUND on the clients and their sessions: its operations in order, up to the first that fails,
-//! under the slot rule (RFC 8881 sections 2.10.6 and 16.2.3).
+//! One COMPOUND on clients with their sessions and on nodes with their names: its operations in order, up to the first
+//! that fails, under the slot rule (RFC 8881 sections 2.10.6 and 16.2.3). Operations beside those of the table are
+//! served by an `Extra`.
 #![tactic(auto)]
 
 mod admission;
 mod clients;
 mod engine;
+mod extra;
+mod further;
 mod head;
 mod keep;
+mod nodes;
 mod perform;
 mod place;
 mod reply;
@@ -14,9 +18,11 @@ mod results;
 mod room;
 mod run;
 mod sessions;
-#[cfg(test)]
-mod tests;
+mod store;
 
 pub use engine::{Engine, Ran};
+pub use extra::{Extra, ExtraRan, NoExtra};
+pub use place::Place;
 pub use room::room_of;
 pub use run::Denial;
+pub use store::Store;

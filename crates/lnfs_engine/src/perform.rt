@@ -1,73 +1,70 @@
 //! One operation in its COMPOUND.
 ghost use Rattle.std.specs.Prelude.{◌≡◌, ◌-◌, [], List, length, IfOk};
-ghost use Rattle.lnfs_outside.specs.declared.event.Moment.{Moment};
 ghost use Rattle.lnfs_arguments.specs.declared.types.Op.TheVariants as ops;
 ghost use Rattle.lnfs_results.specs.declared.types.OpResult.{OpResult};
-ghost use Rattle.lnfs_world.specs.World.{World};
+ghost use Rattle.lnfs_world.specs.World.{World, entry_order};
+ghost use Rattle.lnfs_world.specs.Rows.{Rising};
 ghost use Rattle.lnfs_world.specs.Outcome.{Site};
-ghost use Rattle.lnfs_world.specs.Both.{both};
-ghost use Rattle.lnfs_operations.specs.Extra.{no_extra};
+ghost use Rattle.lnfs_world.specs.Both.{both, BothStand};
 ghost use Rattle.lnfs_operations.specs.Sequence.{Sent};
 ghost use Rattle.lnfs_operations.specs.Admission.{used};
 ghost use Rattle.lnfs_operations.specs.Served.{Nowhere, row, operation};
 ghost use Rattle.lnfs_session.specs.Standing.{standing};
-ghost use Rattle.lnfs_engine.specs.declared.place.Place.TheVariants as places;
-ghost use Rattle.lnfs_engine.specs.Places.{place_of, Stands, HasToBeFirst};
+ghost use Rattle.lnfs_engine.specs.Places.{place_of, Stands, Starts, HasToBeFirst};
 ghost use Rattle.lnfs_engine.specs.Replies.{Acts, IsPlain, own_of};
-ghost use Rattle.lnfs_engine.specs.Performs.{sent_of, turn, Performs};
+ghost use Rattle.lnfs_engine.specs.Performs.{site_in, sent_of, turn, Performs};
 
 use crate::admission::admission;
 use crate::clients::{destroy_clientid, exchange_id, reclaim_complete};
-use crate::place::{Place, Refusal, Request};
+use crate::extra::Extra;
+use crate::further::{further, further_in};
+use crate::nodes::on_nodes;
+use crate::place::{Keeper, Place, Request};
 use crate::reply::{Answer, Came, say};
 use crate::sessions::{create_session, destroy_session, sequence};
+use crate::store::Store;
 use lnfs_arguments::Op;
-use lnfs_arguments::statuses::{NFS4ERR_NOTSUPP, NFS4ERR_OP_NOT_IN_SESSION};
-use lnfs_operations::Gate;
-use lnfs_session::Clients;
+use lnfs_arguments::statuses::NFS4ERR_OP_NOT_IN_SESSION;
+use lnfs_operations::{Gate, Refusal};
+use lnfs_session::{ClientRef, Clients};
 use lnfs_xdr::XdrWriter;
-use std::alloc::{AllocError, Global};
+use std::alloc::AllocError;
 
-/// Serves a RECLAIM_COMPLETE of a level, which has to stand in a session.
-fn reclaim_in(
-    clients: &mut Clients,
-    level: u32,
-    place: &Place,
-    one_fs: bool,
-) -> Result<Answer, AllocError>
-    requires { Stands level clients.old.sessions place.now }
-    ensures acts { IfOk result (λ answer. (sent : Sent) (moment : Moment) (rest : World) → rest.opens ≡ [] →
+/// Serves a RECLAIM_COMPLETE, which has to stand in a session.
+fn reclaim_in(clients: &mut Clients, place: &Place, one_fs: bool) -> Result<Answer, AllocError>
+    ensures acts { IfOk result (λ answer. (site : Site) (sent : Sent) (rest : World) → rest.opens ≡ [] →
         let op = ops.ReclaimComplete one_fs in
-        let at = place_of level moment place.now in
-        Acts (row sent op at (standing rest clients.old)) (own_of op Nowhere answer) at (standing rest clients.old) (standing rest clients.new)) }
+        Acts (row site sent op (place_of place.now) (standing rest clients.old)) (own_of op Nowhere answer) (place_of place.now) (standing rest clients.old) (standing rest clients.new)) }
     ensures plain { IfOk result (λ answer. IsPlain answer) }
     ensures sessions { IfOk result (λ answer. clients.new.sessions ≡ clients.old.sessions) }
 {
-    let Place::Session(session) = place else {
+    let Some(number) = place.client else {
         return Ok(Err(Refusal {
             gate: Gate::Session,
             status: NFS4ERR_OP_NOT_IN_SESSION,
         }));
     };
-    reclaim_complete(clients, session.client, one_fs)
+    let level = place.subject.0;
+    reclaim_complete(clients, ClientRef { level, number }, one_fs)
 }
 
-/// Serves an operation whose place was tested, and appends its result.
+/// Serves an operation of the table whose place was tested, and appends its result.
 fn serve(
-    alloc: Global,
-    clients: &mut Clients,
     request: &Request<'_>,
+    store: &mut Store,
     place: &mut Place,
+    keeper: &mut Keeper,
     op: &Op,
     out: &mut XdrWriter,
 ) -> Result<Came, AllocError>
-    requires first { HasToBeFirst op.now → place.old ≡ places.Outside }
-    requires stands { Stands request.now.level clients.old.sessions place.old }
-    ensures performs { IfOk result (λ came. (moment : Moment) (rest : World) → rest.opens ≡ [] →
-        Performs request.now.level moment request.now.begin out.old out.new place.old place.new (standing rest clients.new) (turn (sent_of request.now) op.now (place_of request.now.level moment place.old) (standing rest clients.old)) came) }
-    ensures stands { IfOk result (λ came. Stands request.now.level clients.new.sessions place.new) }
+    requires first { HasToBeFirst op.now → Starts (place_of place.old) keeper.old }
+    requires rise { Rising entry_order store.old.entries }
+    requires stands { Stands (place_of place.old) store.old.sessions keeper.old }
+    ensures performs { IfOk result (λ came.
+        Performs request.now.begin out.old out.new keeper.old keeper.new (place_of place.new) store.new (turn (site_in request.now) (sent_of request.now) op.now (place_of place.old) store.old) came) }
+    ensures stands { IfOk result (λ came. Stands (place_of place.new) store.new.sessions keeper.new) }
 {
-    let level = request.level;
+    let level = place.subject.0;
     match op {
         Op::ExchangeId {
             verifier,
@@ -75,21 +72,30 @@ fn serve(
             flags,
             ..
         } => {
-            let answer = exchange_id(alloc, clients, level, *verifier, owner.as_slice(), *flags)?;
+            let answer = exchange_id(
+                request.alloc,
+                &mut store.clients,
+                level,
+                *verifier,
+                owner.as_slice(),
+                *flags,
+            )?;
             say(out, op, answer)
         }
-        Op::CreateSession(args) => create_session(clients, request, args, op, place, out),
+        Op::CreateSession(args) => {
+            create_session(&mut store.clients, request, args, op, place, keeper, out)
+        }
         Op::DestroySession { session } => {
-            let answer = destroy_session(clients, level, *session)?;
+            let answer = destroy_session(&mut store.clients, level, *session)?;
             say(out, op, answer)
         }
-        Op::Sequence(args) => sequence(clients, request, args, op, place, out),
+        Op::Sequence(args) => sequence(&store.clients, request, args, op, place, keeper, out),
         Op::DestroyClientId { client } => {
-            let answer = destroy_clientid(clients, level, *client)?;
+            let answer = destroy_clientid(&mut store.clients, level, *client)?;
             say(out, op, answer)
         }
         Op::ReclaimComplete { one_fs } => {
-            let answer = reclaim_in(clients, level, place, *one_fs)?;
+            let answer = reclaim_in(&mut store.clients, place, *one_fs)?;
             say(out, op, answer)
         }
         Op::Outside { status, .. } => {
@@ -97,33 +103,35 @@ fn serve(
             let status = *status;
             say(out, op, Err(Refusal { gate, status }))
         }
-        _ => {
-            let gate = Gate::Outside;
-            let status = NFS4ERR_NOTSUPP;
-            say(out, op, Err(Refusal { gate, status }))
-        }
+        _ => on_nodes(request, &mut store.tree, place, op, out),
     }
 }
 
 /// Runs an operation behind so many others, and appends its result.
-pub fn perform(
-    alloc: Global,
-    clients: &mut Clients,
+pub fn perform<X: Extra>(
     request: &Request<'_>,
+    store: &mut Store,
+    extra: &mut X,
     place: &mut Place,
+    keeper: &mut Keeper,
     done: usize,
     op: &Op,
     out: &mut XdrWriter,
 ) -> Result<Came, AllocError>
-    requires first { done ≡ 0 → place.old ≡ places.Outside }
-    requires stands { Stands request.now.level clients.old.sessions place.old }
-    ensures performs { IfOk result (λ came. (site : Site) (moment : Moment) (rest : World) (so_far : List OpResult) → rest.opens ≡ [] → length so_far ≡ done → used request.now.compound.now so_far ≡ length out.old - request.now.begin →
-        Performs request.now.level moment request.now.begin out.old out.new place.old place.new (standing rest clients.new) (operation no_extra site (sent_of request.now) request.now.compound.now so_far op.now (place_of request.now.level moment place.old) (both (standing rest clients.old) [])) came) }
-    ensures stands { IfOk result (λ came. Stands request.now.level clients.new.sessions place.new) }
+    requires first { done ≡ 0 → Starts (place_of place.old) keeper.old }
+    requires stands { Stands (place_of place.old) store.old.sessions keeper.old }
+    requires facts { BothStand X.extra.Fact (site_in request.now).dom (place_of place.old) (both store.old (X.rows extra.old)) }
+    ensures performs { IfOk result (λ came. (so_far : List OpResult) → length so_far ≡ done → used request.now.compound.now so_far ≡ length out.old - request.now.begin →
+        Performs request.now.begin out.old out.new keeper.old keeper.new (place_of place.new) (both store.new (X.rows extra.new))
+        (operation X.extra (site_in request.now) (sent_of request.now) request.now.compound.now so_far op.now (place_of place.old) (both store.old (X.rows extra.old))) came) }
+    ensures stands { IfOk result (λ came. Stands (place_of place.new) store.new.sessions keeper.new) }
 {
     let written = out.mark().saturating_sub(request.begin);
-    match admission(request.compound, place, done, written, op) {
-        Some(why) => say(out, op, Err(why)),
-        None => serve(alloc, clients, request, place, op, out),
+    if let Some(why) = admission(request.compound, extra, keeper, done, written, op) {
+        return say(out, op, Err(why));
+    }
+    match further_in(op, extra) {
+        Some(asked) => further(request, store, extra, place, &asked, out),
+        None => serve(request, store, place, keeper, op, out),
     }
 }

@@ -3,10 +3,10 @@ ghost use Rattle.std.specs.Prelude.{ℕ, IfOk};
 ghost use Rattle.lnfs_operations.specs.Served.{Keeper, Kept};
 ghost use Rattle.lnfs_engine.specs.Replies.{IsRefusal, IsPlain, own_of, Says};
 
-use crate::place::Refusal;
 use crate::results::failed;
 use lnfs_arguments::Op;
-use lnfs_operations::{Gate, Rule};
+use lnfs_monitor::Rule;
+use lnfs_operations::{Gate, Refusal};
 use lnfs_results::{OpResult, append_result};
 use lnfs_session::SessionError;
 use lnfs_xdr::XdrWriter;

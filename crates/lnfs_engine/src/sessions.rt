@@ -4,18 +4,17 @@ ghost use Rattle.std.specs.Prelude.{◌≡◌, [], List, ℕ, IfOk, MatchOption}
 ghost use Rattle.lnfs_outside.specs.declared.event.Moment.{Moment};
 ghost use Rattle.lnfs_arguments.specs.declared.types.Op.TheVariants as ops;
 ghost use Rattle.lnfs_world.specs.World.{Session, World, client_at};
-ghost use Rattle.lnfs_world.specs.Outcome.{begins_at};
+ghost use Rattle.lnfs_world.specs.Outcome.{Site, begins_at};
 ghost use Rattle.lnfs_operations.specs.Sequence.{Sent};
 ghost use Rattle.lnfs_operations.specs.Served.{Nowhere, created_keeper, row};
 ghost use Rattle.lnfs_operations.specs.Identifiers.{client_named};
 ghost use Rattle.lnfs_session.specs.Creates.{kept_reply, or_none};
 ghost use Rattle.lnfs_session.specs.Standing.{standing};
-ghost use Rattle.lnfs_engine.specs.declared.place.Place.TheVariants as places;
-ghost use Rattle.lnfs_engine.specs.Places.{place_of, keeper_of, Stands};
+ghost use Rattle.lnfs_engine.specs.Places.{place_of, keeper_of, Stands, Starts};
 ghost use Rattle.lnfs_engine.specs.Replies.{Acts, IsPlain, own_of};
-ghost use Rattle.lnfs_engine.specs.Performs.{made_of, sent_of, turn, Performs};
+ghost use Rattle.lnfs_engine.specs.Performs.{made_of, site_in, sent_of, turn, Performs};
 
-use crate::place::{InSession, Place, Request};
+use crate::place::{InSession, Keeper, Place, Request};
 use crate::reply::{Answer, Came, refused_by, repeat, say};
 use crate::results::{created_result, sequence_result};
 use lnfs_arguments::{CreateSession, Op, Sequence};
@@ -30,9 +29,9 @@ pub fn destroy_session(
     level: u32,
     session: [u8; 16],
 ) -> Result<Answer, AllocError>
-    ensures acts { IfOk result (λ answer. (sent : Sent) (moment : Moment) (rest : World) → rest.opens ≡ [] →
+    ensures acts { IfOk result (λ answer. (site : Site) (sent : Sent) (moment : Moment) (rest : World) → rest.opens ≡ [] →
         let op = ops.DestroySession session in
-        Acts (row sent op (begins_at level moment) (standing rest clients.old)) (own_of op Nowhere answer) (begins_at level moment) (standing rest clients.old) (standing rest clients.new)) }
+        Acts (row site sent op (begins_at level moment) (standing rest clients.old)) (own_of op Nowhere answer) (begins_at level moment) (standing rest clients.old) (standing rest clients.new)) }
     ensures plain { IfOk result (λ answer. IsPlain answer) }
 {
     match clients.destroy_session(level, session) {
@@ -41,16 +40,15 @@ pub fn destroy_session(
     }
 }
 
-/// Where a CREATE_SESSION of a level stands once it is done: its answer is kept, be it a refusal, where it
-/// brings the next sequence of its client.
-fn created_place(clients: &Clients, level: u32, args: &CreateSession) -> Place
+/// Where the result of a CREATE_SESSION of a level is kept, be it a refusal: in the record of its client, where it
+/// brings the next sequence there.
+fn created_keeper(clients: &Clients, level: u32, args: &CreateSession) -> Keeper
     ensures keeper { (moment : Moment) (rest : World) → keeper_of result ≡ created_keeper args.now (begins_at level moment) (standing rest clients.now) }
-    ensures place { (moment : Moment) → place_of level moment result ≡ begins_at level moment }
-    ensures stands { (sessions : List Session) → Stands level sessions result }
+    ensures stands { (moment : Moment) (sessions : List Session) → Stands (begins_at level moment) sessions result }
 {
     match clients.next_created(level, args) {
-        Some(client) => Place::Created(client),
-        None => Place::Outside,
+        Some(client) => Keeper::Client(client),
+        None => Keeper::Nowhere,
     }
 }
 
@@ -71,11 +69,11 @@ fn make_session(
     args: &CreateSession,
     bytes: &[u8],
 ) -> Result<Option<Answer>, AllocError>
-    ensures acts { IfOk result (λ answer. (size count : ℕ) (moment : Moment) (rest : World) → rest.opens ≡ [] →
+    ensures acts { IfOk result (λ answer. (site : Site) (size count : ℕ) (moment : Moment) (rest : World) → rest.opens ≡ [] →
         let sent : Sent = record { arguments = bytes.now; size = size; count = count } in
         let op = ops.CreateSession args.now in
         let keeper = created_keeper args.now (begins_at level moment) (standing rest clients.old) in
-        Acts (row sent op (begins_at level moment) (standing rest clients.old)) (made_of op keeper clients.new args.now answer) (begins_at level moment) (standing rest clients.old) (standing rest clients.new)) }
+        Acts (row site sent op (begins_at level moment) (standing rest clients.old)) (made_of op keeper clients.new args.now answer) (begins_at level moment) (standing rest clients.old) (standing rest clients.new)) }
     ensures plain { IfOk result (λ answer. MatchOption answer (Unit {0}) IsPlain) }
 {
     match clients.create_session(level, args, bytes) {
@@ -97,19 +95,21 @@ pub fn create_session(
     request: &Request<'_>,
     args: &CreateSession,
     op: &Op,
-    place: &mut Place,
+    place: &Place,
+    keeper: &mut Keeper,
     out: &mut XdrWriter,
 ) -> Result<Came, AllocError>
     requires op { op.now ≡ ops.CreateSession args.now }
-    requires first { place.old ≡ places.Outside }
-    ensures performs { IfOk result (λ came. (moment : Moment) (rest : World) → rest.opens ≡ [] →
-        Performs request.now.level moment request.now.begin out.old out.new place.old place.new (standing rest clients.new) (turn (sent_of request.now) op.now (begins_at request.now.level moment) (standing rest clients.old)) came) }
-    ensures stands { IfOk result (λ came. Stands request.now.level clients.new.sessions place.new) }
+    requires first { Starts (place_of place.now) keeper.old }
+    ensures performs { IfOk result (λ came. (rest : World) → rest.opens ≡ [] →
+        Performs request.now.begin out.old out.new keeper.old keeper.new (place_of place.now) (standing rest clients.new) (turn (site_in request.now) (sent_of request.now) op.now (place_of place.now) (standing rest clients.old)) came) }
+    ensures stands { IfOk result (λ came. Stands (place_of place.now) clients.new.sessions keeper.new) }
 {
-    let created = created_place(clients, request.level, args);
-    match make_session(clients, request.level, args, request.bytes)? {
+    let level = place.subject.0;
+    let created = created_keeper(clients, level, args);
+    match make_session(clients, level, args, request.bytes)? {
         Some(answer) => {
-            *place = created;
+            *keeper = created;
             say(out, op, answer)
         }
         None => repeat(out, request.begin, kept_created(clients, args)),
@@ -123,16 +123,17 @@ pub fn sequence(
     args: &Sequence,
     op: &Op,
     place: &mut Place,
+    keeper: &mut Keeper,
     out: &mut XdrWriter,
 ) -> Result<Came, AllocError>
     requires op { op.now ≡ ops.Sequence args.now }
-    requires first { place.old ≡ places.Outside }
-    ensures performs { IfOk result (λ came. (moment : Moment) (rest : World) →
-        Performs request.now.level moment request.now.begin out.old out.new place.old place.new (standing rest clients.now) (turn (sent_of request.now) op.now (begins_at request.now.level moment) (standing rest clients.now)) came) }
-    ensures stands { IfOk result (λ came. Stands request.now.level clients.now.sessions place.new) }
+    requires first { Starts (place_of place.old) keeper.old }
+    ensures performs { IfOk result (λ came. (rest : World) →
+        Performs request.now.begin out.old out.new keeper.old keeper.new (place_of place.new) (standing rest clients.now) (turn (site_in request.now) (sent_of request.now) op.now (place_of place.old) (standing rest clients.now)) came) }
+    ensures stands { IfOk result (λ came. Stands (place_of place.new) clients.now.sessions keeper.new) }
 {
     let count = request.compound.count;
-    match clients.sequence(request.level, args, request.bytes, request.size, count) {
+    match clients.sequence(place.subject.0, args, request.bytes, request.size, count) {
         Ok(
             Seq::New {
                 at,
@@ -141,7 +142,9 @@ pub fn sequence(
                 highest,
             },
         ) => {
-            *place = Place::Session(InSession {
+            place.client = Some(client.number);
+            place.session = Some(at.session.number);
+            *keeper = Keeper::Session(InSession {
                 at,
                 sequence: args.sequence,
                 client,

@@ -1,26 +1,31 @@
--- What the vault keeps is the world after its journal.
-use Rattle.std.proofs.Common.{◌≡◌, [], ◌∷◌, List, sym, ap, ◌∙◌}
+-- What the vault keeps is the state after its journal.
+use Rattle.std.proofs.Common.{◌≡◌, ℕ, List, [], sym, ap, ◌∙◌, subst}
 use Rattle.lnfs_outside.specs.declared.event.Event.{Event}
 use Rattle.lnfs_policy.specs.Policy.{Policy}
 use Rattle.lnfs_world.specs.World.{World}
-use Rattle.lnfs_world.specs.Both.{both}
-use Rattle.lnfs_operations.specs.Extra.{no_extra}
-use Rattle.lnfs_step.specs.First.{first_world}
-use Rattle.lnfs_step.specs.Journal.{state_after, world_after}
-use Rattle.lnfs_step.proofs.FirstWorlds.{IsBare, first_bare}
-use Rattle.lnfs_session.specs.Standing.{Lists, no_lists, standing}
+use Rattle.lnfs_world.specs.Both.{Both, both}
+use Rattle.lnfs_operations.specs.Extra.{Extra}
+use Rattle.lnfs_session.specs.Standing.{no_lists}
+use Rattle.lnfs_site.specs.Site.{first_world}
+use Rattle.lnfs_step.specs.Journal.{state_after, state_from}
+use Rattle.lnfs_world.proofs.FirstTrees.{IsBare}
+use Rattle.lnfs_site.proofs.FirstWorlds.{first_bare}
+use Rattle.lnfs_step.specs.Step.{step_with}
+use Rattle.lnfs_tree.specs.Rows.{Rows, rows_of}
+use Rattle.lnfs_engine.specs.Stores.{stored}
+use Rattle.lnfs_vault.specs.Says.{SaysServed}
+use Rattle.lnfs_vault.specs.declared.vault.Served.{Served}
 
-bare_stands : (w : World) → IsBare w → standing w no_lists ≡ w
-bare_stands w bare = sym (λ i. record w { clients = bare.clients i; sessions = bare.sessions i; lasts = record w.lasts { clients = bare.last_clients i; sessions = bare.last_sessions i } })
+-- a world with nothing but nodes and entries
+bare_stands : (w : World) → IsBare w → stored no_lists (rows_of w) ≡ w
+bare_stands w bare = sym (λ i. record w { clients = bare.clients i; sessions = bare.sessions i; contexts = bare.contexts i; opens = bare.opens i; lasts = record w.lasts { clients = bare.last_clients i; sessions = bare.last_sessions i; contexts = bare.last_contexts i; opens = bare.last_opens i } })
 
--- no client and no session stands in the first world
-pub first_stands : (p : Policy) → standing (first_world p) no_lists ≡ first_world p
-first_stands p = bare_stands (first_world p) (first_bare p)
+-- the state before all events
+pub begins : (X : Extra) (p : Policy) (rows : Rows) (own : List X.Row) → rows ≡ rows_of (first_world p) → own ≡ [] → both (stored no_lists rows) own ≡ state_after X p []
+unfolding state_from
+begins X p rows own is none = (λ i. both (stored no_lists (is i)) (none i)) ∙ ap (λ w. both w []) (bare_stands (first_world p) (first_bare p))
 
--- there are no further rows
-no_rows : (own : List ⊥) → [] ≡ own
-no_rows [] = λ i. []
-no_rows (x ∷ xs) = absurd x
-
-pub stands_alone : (p : Policy) (journal : List Event) (lists : Lists) → standing (first_world p) lists ≡ world_after p journal → both (standing (first_world p) lists) [] ≡ state_after no_extra p journal
-stands_alone p journal lists is = ap (λ w. both w []) is ∙ ap (λ own. both (state_after no_extra p journal).world own) (no_rows (state_after no_extra p journal).own)
+-- what was said of an event, as the step on the state after the journal
+pub said : (X : Extra) (p q : Policy) (journal : List Event) (event : Event) (place : ℕ) (before after : Both X.Row) (served : Served) → q ≡ p → before ≡ state_after X p journal → SaysServed place after (step_with X q before event) served → SaysServed place after (step_with X p (state_after X p journal) event) served
+said X p q journal event place before after served same is says =
+    subst (λ (b : Both X.Row). SaysServed place after (step_with X p b event) served) is (subst (λ r. SaysServed place after (step_with X r before event) served) same says)

@@ -1,8 +1,9 @@
 -- What an event that is answered again is to who served it.
 use Rattle.std.proofs.Common.{◌≡◌, ◌+◌, ℕ, List, [], ◌∷◌, ◌++◌, length, Option, Some, None, refl, ◌∙◌}
 use Rattle.lnfs_outside.specs.declared.event.Event.{Event}
+use Rattle.lnfs_operations.specs.Extra.{Extra}
 use Rattle.lnfs_step.specs.Step.{Line}
-use Rattle.lnfs_step.specs.Journal.{world_after, reply_at, line_at}
+use Rattle.lnfs_step.specs.Journal.{state_after, reply_with, line_with}
 use Rattle.lnfs_step.specs.Sessions.{HasOrigin, IsAnswered}
 use Rattle.lnfs_vault.specs.Kept.{Kept}
 use Rattle.lnfs_vault.specs.Lines.{IsLineOf}
@@ -14,12 +15,12 @@ no_line : (event : ℕ) (line : Option Line) (told : Option AuditLine) → IsLin
 no_line event line None is none = refl
 no_line event line (Some l) is none = absurd (let some = is.0 in cc)
 
-pub retried : (old new : Kept) (event : Event) (level xid : ℕ) (arguments first : List ℕ) (served : Served) →
-    served.reply ≡ reply_at old.policy old.journal event → IsLineOf (length old.journal + 1) (line_at old.policy old.journal event) served.line →
-    new.policy ≡ old.policy → new.journal ≡ old.journal ++ event ∷ [] → HasOrigin old.policy old.journal level (record { arguments = arguments; reply = first }) → IsAnswered old.policy old.journal event xid first → IsRetried old new level xid arguments first served
-retried old new event level xid arguments first served reply line policy journal origin answered = record {
+pub retried : (X : Extra) (old new : Kept) (event : Event) (level xid : ℕ) (arguments first : List ℕ) (served : Served) →
+    served.reply ≡ reply_with X old.policy old.journal event → IsLineOf (length old.journal + 1) (line_with X old.policy old.journal event) served.line →
+    new.policy ≡ old.policy → new.journal ≡ old.journal ++ event ∷ [] → HasOrigin X old.policy old.journal level (record { arguments = arguments; reply = first }) → IsAnswered X old.policy old.journal event xid first → IsRetried X old new level xid arguments first served
+retried X old new event level xid arguments first served reply line policy journal origin answered = record {
   origin = origin;
   reply = reply ∙ answered.reply;
-  line = no_line (length old.journal + 1) (line_at old.policy old.journal event) served.line line answered.line;
-  world = (λ i. world_after (policy i) (journal i)) ∙ answered.world;
+  line = no_line (length old.journal + 1) (line_with X old.policy old.journal event) served.line line answered.line;
+  state = (λ i. state_after X (policy i) (journal i)) ∙ answered.state;
 }

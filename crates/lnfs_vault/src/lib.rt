@@ -7,4 +7,4 @@ mod step;
 mod vault;
 
 pub use audit::{AuditLine, write_line};
-pub use vault::{Served, Vault};
+pub use vault::{Served, Vault, VaultOf};

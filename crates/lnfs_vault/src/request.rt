@@ -2,11 +2,10 @@
 ghost use Rattle.std.specs.Prelude.{◌≡◌, ℕ, Err, IfOk, option_map};
 ghost use Rattle.lnfs_rpc.specs.Calls.{seen_auth, seen_call};
 ghost use Rattle.lnfs_policy.specs.Policy.{Policy};
-ghost use Rattle.lnfs_arguments.specs.Further.{nothing_further};
-ghost use Rattle.lnfs_step.specs.Request.{user_of, null_call, asked_by, asked_in, asked_of, request_of};
+ghost use Rattle.lnfs_step.specs.Request.{user_of, null_call, asked_by, asked_in, asked_of, request_with};
 ghost use Rattle.lnfs_vault.specs.Requests.{seen_user, seen_asked, IsShortly};
 
-use lnfs_arguments::{Compound, CompoundError, NoExtraGrammar, read_compound};
+use lnfs_arguments::{Compound, CompoundError, ExtraGrammar, read_compound};
 use lnfs_calipso::Level;
 use lnfs_policy::Policy;
 use lnfs_rpc::{Auth, Call, CallError, read_call, read_sys};
@@ -86,13 +85,14 @@ fn null_call<'a>(xid: u32, args: &[u8]) -> Asked<'a>
 }
 
 /// A COMPOUND of a caller whose level is known, or isn't.
-fn asked_by<'a>(
+fn asked_by<'a, E: ExtraGrammar>(
     alloc: Global,
+    extra: &E,
     level: Option<Level>,
     xid: u32,
     args: &'a [u8],
 ) -> Result<Asked<'a>, AllocError>
-    ensures asked { IfOk result (λ asked. seen_asked asked ≡ asked_by nothing_further (option_map (λ l. l.0) level) xid args.now) }
+    ensures asked { IfOk result (λ asked. seen_asked asked ≡ asked_by E.grammar (option_map (λ l. l.0) level) xid args.now) }
     ensures short { IfOk result IsShortly }
 {
     let Some(level) = level else {
@@ -102,7 +102,7 @@ fn asked_by<'a>(
             cause: Cause::Caller { stat: AUTH_TOOWEAK },
         });
     };
-    match read_compound(alloc, args, &NoExtraGrammar) {
+    match read_compound(alloc, args, extra) {
         Ok(compound) => Ok(Asked::Run(Run {
             level,
             xid,
@@ -119,13 +119,14 @@ fn asked_by<'a>(
 }
 
 /// What a call asks. The caller is judged before the arguments.
-fn asked_in<'a>(
+fn asked_in<'a, E: ExtraGrammar>(
     alloc: Global,
     policy: &Policy,
+    extra: &E,
     class: u32,
     call: &Call<'a>,
 ) -> Result<Asked<'a>, AllocError>
-    ensures asked { IfOk result (λ asked. seen_asked asked ≡ asked_in nothing_further policy.now class (seen_call call.now) (user_of (seen_auth call.now.cred))) }
+    ensures asked { IfOk result (λ asked. seen_asked asked ≡ asked_in E.grammar policy.now class (seen_call call.now) (user_of (seen_auth call.now.cred))) }
     ensures short { IfOk result IsShortly }
 {
     let user = match user_of(&call.cred) {
@@ -141,12 +142,18 @@ fn asked_in<'a>(
     if call.proc == PROC_NULL {
         return Ok(null_call(call.xid, call.args));
     }
-    asked_by(alloc, policy.guest_level(class, user), call.xid, call.args)
+    asked_by(
+        alloc,
+        extra,
+        policy.guest_level(class, user),
+        call.xid,
+        call.args,
+    )
 }
 
 /// The refusal of a record that is no call that is served.
-fn refused<'a>(error: CallError) -> Asked<'a>
-    ensures asked { (policy : Policy) (class : ℕ) → seen_asked result ≡ asked_of nothing_further policy class (Err error) }
+fn refused<'a, E: ExtraGrammar>(error: CallError) -> Asked<'a>
+    ensures asked { (policy : Policy) (class : ℕ) → seen_asked result ≡ asked_of E.grammar policy class (Err error) }
     ensures short { IsShortly result }
 {
     let (xid, cause) = match error {
@@ -162,19 +169,20 @@ fn refused<'a>(error: CallError) -> Asked<'a>
     }
 }
 
-/// What a record of a class asks under a policy.
+/// What a record of a class asks under a policy, where further operations are read too.
 #[tactic(auto, unfolding(lnfs_step::specs::Request::request_with))]
-pub fn request_of<'a>(
+pub fn request_of<'a, E: ExtraGrammar>(
     alloc: Global,
     policy: &Policy,
+    extra: &E,
     class: u32,
     message: &'a [u8],
 ) -> Result<Asked<'a>, AllocError>
-    ensures asked { IfOk result (λ asked. seen_asked asked ≡ request_of policy.now class message.now) }
+    ensures asked { IfOk result (λ asked. seen_asked asked ≡ request_with E.grammar policy.now class message.now) }
     ensures short { IfOk result IsShortly }
 {
     match read_call(message) {
-        Ok(call) => asked_in(alloc, policy, class, &call),
-        Err(error) => Ok(refused(error)),
+        Ok(call) => asked_in(alloc, policy, extra, class, &call),
+        Err(error) => Ok(refused::<E>(error)),
     }
 }

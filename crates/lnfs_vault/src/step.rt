@@ -1,28 +1,29 @@
 //! The step that an event makes: its reply and its audit line.
 ghost use Rattle.std.specs.Prelude.{◌≡◌, ◌≤◌, [], Some, None, length, IfOk, option_map};
 ghost use Rattle.lnfs_rpc.specs.Replies.{reply_text, seen_head};
-ghost use Rattle.lnfs_world.specs.World.{World};
-ghost use Rattle.lnfs_world.specs.Both.{both};
-ghost use Rattle.lnfs_operations.specs.Extra.{no_extra};
+ghost use Rattle.lnfs_world.specs.Outcome.{begins_at};
+ghost use Rattle.lnfs_world.specs.Both.{both, BothStand};
 ghost use Rattle.lnfs_step.specs.Request.{head_of, results_in, plainly, Asked as asked};
 ghost use Rattle.lnfs_step.specs.Step.{step_with, step_of, rule_name, letter, line_of_cause, line_of};
 ghost use Rattle.lnfs_step.specs.declared.numbers.TheConstants.{SUCCESS};
 ghost use Rattle.lnfs_vault.specs.Lines.{IsLineOf};
 ghost use Rattle.lnfs_vault.specs.Requests.{seen_cause};
 ghost use Rattle.lnfs_vault.specs.Says.{Says};
-ghost use Rattle.lnfs_session.specs.Standing.{standing};
 ghost use Rattle.lnfs_engine.specs.Runs.{denial_of};
-ghost use Rattle.lnfs_policy.specs.Policy.{Policy};
+ghost use Rattle.lnfs_policy.specs.Policy.{dominance};
+ghost use Rattle.lnfs_step.specs.Journal.{Holds};
 ghost use Rattle.lnfs_outside.specs.Moments.{Fits};
 
 use crate::audit::AuditLine;
 use crate::request::{Asked, Cause, Run, request_of};
-use lnfs_engine::{Denial, Engine, room_of};
+use lnfs_engine::{Denial, Engine, Extra, room_of};
 use lnfs_lists::Octets;
-use lnfs_operations::{Gate, Rule};
+use lnfs_monitor::Rule;
+use lnfs_operations::Gate;
 use lnfs_outside::Event;
 use lnfs_policy::Policy;
 use lnfs_rpc::{Auth, Head, begin_reply, write_reply};
+use lnfs_site::Site;
 use lnfs_step::numbers::{AUTH_NONE, NFS_VERSION, PROG_MISMATCH, SUCCESS};
 use lnfs_xdr::XdrWriter;
 use std::alloc::{AllocError, Global};
@@ -163,9 +164,10 @@ fn line_of(alloc: Global, at: u64, denial: &Option<Denial>) -> Result<Option<Aud
 }
 
 /// Runs the COMPOUND of an event, and answers it. Its result is built in the reply's buffer.
-fn compound(
+fn compound<X: Extra>(
     alloc: Global,
-    engine: &mut Engine,
+    site: &Site<'_>,
+    engine: &mut Engine<X>,
     at: u64,
     event: &Event,
     run: &Run<'_>,
@@ -173,13 +175,22 @@ fn compound(
     requires event { Fits event.now }
     requires tag { length run.now.compound.tag ≤ 1024 }
     requires few { length run.now.compound.ops ≤ 32 }
-    ensures { IfOk result (λ said. (policy : Policy) (rest : World) → rest.opens ≡ [] →
-        Says at (standing rest engine.new) (step_of no_extra policy (both (standing rest engine.old) []) event.now (asked run.now.level.0 run.now.xid run.now.arguments.now run.now.compound)) said) }
+    requires facts { BothStand X.extra.Fact (dominance site.now) (begins_at run.now.level.0 event.now.moment) (both engine.old.store (X.rows engine.old.extra)) }
+    ensures { IfOk result (λ said.
+        Says at (both engine.new.store (X.rows engine.new.extra)) (step_of X.extra site.now (both engine.old.store (X.rows engine.old.extra)) event.now (asked run.now.level.0 run.now.xid run.now.arguments.now run.now.compound)) said) }
 {
     let size = event.message.len() as u32;
-    let room = room_of(&run.compound);
+    let room = room_of(&run.compound, &engine.extra);
     let out = begin_reply(alloc, run.xid, &plainly(SUCCESS), room)?;
-    let ran = engine.run(run.level, size, run.arguments, &run.compound, out)?;
+    let ran = engine.run(
+        site,
+        run.level,
+        event.moment,
+        size,
+        run.arguments,
+        &run.compound,
+        out,
+    )?;
     let line = line_of(alloc, at, &ran.denial)?;
     Ok(Said {
         reply: Some(Octets::new(ran.reply)),
@@ -189,24 +200,31 @@ fn compound(
 
 /// Makes the step of an event.
 #[tactic(auto, unfolding(lnfs_step::specs::Step::step_with))]
-pub fn say(
+pub fn say<X: Extra>(
     alloc: Global,
-    policy: &Policy,
-    engine: &mut Engine,
+    site: &Site<'_>,
+    engine: &mut Engine<X>,
     at: u64,
     event: &Event,
 ) -> Result<Said, AllocError>
-    requires { Fits event.now }
-    ensures { IfOk result (λ said. (rest : World) → rest.opens ≡ [] →
-        Says at (standing rest engine.new) (step_with no_extra policy.now (both (standing rest engine.old) []) event.now) said) }
+    requires event { Fits event.now }
+    requires holds { Holds X.extra site.now (both engine.old.store (X.rows engine.old.extra)) }
+    ensures { IfOk result (λ said.
+        Says at (both engine.new.store (X.rows engine.new.extra)) (step_with X.extra site.now (both engine.old.store (X.rows engine.old.extra)) event.now) said) }
 {
-    match request_of(alloc, policy, event.class, event.message.as_slice())? {
+    match request_of(
+        alloc,
+        site.policy(),
+        &engine.extra,
+        event.class,
+        event.message.as_slice(),
+    )? {
         Asked::Silent => Ok(Said {
             reply: None,
             line: None,
         }),
         Asked::Refused { xid, cause, .. } => refuse(alloc, at, xid, cause),
         Asked::Nothing { xid } => nothing(alloc, xid),
-        Asked::Run(run) => compound(alloc, engine, at, event, &run),
+        Asked::Run(run) => compound(alloc, site, engine, at, event, &run),
     }
 }

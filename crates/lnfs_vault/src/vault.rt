@@ -3,28 +3,27 @@ ghost use Rattle.std.specs.Prelude.{◌≡◌, ◌+◌, ◌≤◌, ℕ, List, []
 ghost use Rattle.lnfs_lists.specs.declared.limits.TheConstants.{RECORD_LIMIT};
 ghost use Rattle.lnfs_outside.specs.Moments.{Fits};
 ghost use Rattle.lnfs_policy.specs.Policy.{dominance};
-ghost use Rattle.lnfs_world.specs.Facts.{Facts};
 ghost use Rattle.lnfs_arguments.specs.declared.types.Compound.{Compound};
 ghost use Rattle.lnfs_arguments.specs.declared.types.CreateSession.{CreateSession};
 ghost use Rattle.lnfs_arguments.specs.declared.types.Sequence.{Sequence};
-ghost use Rattle.lnfs_world.specs.World.{Client, Session, Slot, World};
+ghost use Rattle.lnfs_world.specs.World.{Client, Session, Slot};
 ghost use Rattle.lnfs_world.specs.Both.{both};
-ghost use Rattle.lnfs_operations.specs.Extra.{no_extra};
 ghost use Rattle.lnfs_operations.specs.InOrder.{sequence_before};
 ghost use Rattle.lnfs_step.specs.Step.{step_with};
-ghost use Rattle.lnfs_step.specs.Journal.{world_after, reply_at, line_at, answer};
+ghost use Rattle.lnfs_step.specs.Journal.{Holds, state_after, reply_with, line_with, answer_with};
 ghost use Rattle.lnfs_step.specs.Sessions.{ComesOnSlot, ComesToClient};
 ghost use Rattle.lnfs_vault.specs.Lines.{IsLineOf};
 ghost use Rattle.lnfs_vault.specs.Retried.{IsRetried};
 ghost use Rattle.lnfs_vault.specs.Says.{SaysServed};
-ghost use Rattle.lnfs_session.specs.Standing.{standing};
 
 use crate::audit::AuditLine;
 use crate::step::say;
-use lnfs_engine::Engine;
+use lnfs_engine::{Engine, Extra, NoExtra};
+use lnfs_format::Codecs;
 use lnfs_lists::Octets;
 use lnfs_outside::Event;
 use lnfs_policy::Policy;
+use lnfs_site::{Labels, Site, first_tree};
 use lnfs_step::{purge, sessions};
 use std::alloc::{AllocError, Global};
 use std::marker::Model;
@@ -41,22 +40,23 @@ pub struct Served {
 }
 
 /// Makes the step of an event, and puts it into the journal. The journal's place is reserved first.
-fn attempt(
+fn attempt<X: Extra>(
     alloc: Global,
-    policy: &Policy,
-    engine: &mut Engine,
+    site: &Site<'_>,
+    engine: &mut Engine<X>,
     journal: &mut Vec<Event>,
     event: Event,
 ) -> Result<Served, AllocError>
-    requires { Fits event }
-    ensures says { IfOk result (λ served. (rest : World) → rest.opens ≡ [] →
-        SaysServed (length journal.old.items + 1) (standing rest engine.new) (step_with no_extra policy.now (both (standing rest engine.old) []) event) served) }
+    requires event { Fits event }
+    requires holds { Holds X.extra site.now (both engine.old.store (X.rows engine.old.extra)) }
+    ensures says { IfOk result (λ served.
+        SaysServed (length journal.old.items + 1) (both engine.new.store (X.rows engine.new.extra)) (step_with X.extra site.now (both engine.old.store (X.rows engine.old.extra)) event) served) }
     ensures ok { OnOk result (journal.new.items ≡ journal.old.items ++ event ∷ []) }
     ensures err { OnErr result (journal.new.items ≡ journal.old.items) }
 {
     journal.reserve(1)?;
     let at = journal.len() as u64 + 1;
-    let said = say(alloc, policy, engine, at, &event)?;
+    let said = say(alloc, site, engine, at, &event)?;
     journal.push(event)?;
     Ok(Served {
         reply: said.reply,
@@ -65,41 +65,59 @@ fn attempt(
     })
 }
 
-/// Serves events one at a time, and keeps the journal of all that it served.
+/// Serves events one at a time, with operations beside those of the table, and keeps the journal of all that
+/// it served.
 #[derive(Drop)]
-pub struct Vault {
+pub struct VaultOf<X: Extra> {
     alloc: Global,
     policy: Policy,
-    engine: Engine,
+    labels: Labels,
+    engine: Engine<X>,
     journal: Vec<Event>,
     stopped: bool,
 }
 
-impl Model for Vault {
+/// A vault with the operations of the table alone.
+pub type Vault = VaultOf<NoExtra>;
+
+impl<X: Extra> Model for VaultOf<X> {
     ghost use Rattle.std.specs.Prelude.{◌≡◌, false};
+    ghost use Rattle.lnfs_world.specs.Both.{both};
     ghost use Rattle.lnfs_vault.specs.Kept.{Kept};
 
     ghost Value = { Kept };
 
-    ghost use Rattle.lnfs_step.specs.First.{first_world};
-    ghost use Rattle.lnfs_step.specs.Journal.{world_after};
-    ghost use Rattle.lnfs_session.specs.Standing.{standing};
+    ghost use Rattle.lnfs_site.specs.Labels.{spellings};
+    ghost use Rattle.lnfs_step.specs.Journal.{state_after};
 
     ghost view = { λ v. record { policy = v.policy; journal = v.journal.items; stopped = v.stopped } };
 
-    // what stands is the world after the journal
-    ghost invariant = { λ v. v.stopped ≡ false → standing (first_world v.policy) v.engine ≡ world_after v.policy v.journal.items };
+    // the labels are the policy's, and what stands is the state after the journal
+    ghost invariant = { λ v. (v.labels ≡ spellings v.policy) × (v.stopped ≡ false → both v.engine.store (X.rows v.engine.extra) ≡ state_after X.extra v.policy v.journal.items) };
 }
 
-impl Vault {
-    /// A vault of a site, that was given no event.
-    pub fn new(alloc: Global, policy: Policy) -> Result<Vault, AllocError>
+impl<X: Extra> VaultOf<X> {
+    /// A vault of a site with further operations, that was given no event. The codecs write its labels.
+    ///
+    /// # Errors
+    ///
+    /// `AllocError` where there is no memory.
+    pub fn with_extra(
+        alloc: Global,
+        policy: Policy,
+        codecs: &Codecs,
+        extra: X,
+    ) -> Result<VaultOf<X>, AllocError>
+        requires { X.rows extra ≡ [] }
         ensures { IfOk result (λ vault. vault ≡ record { policy = policy; journal = []; stopped = false }) }
     {
-        Ok(Vault {
+        let labels = Labels::new(alloc, &policy, codecs)?;
+        let tree = first_tree(alloc, &Site::new(&policy, &labels))?;
+        Ok(VaultOf {
             alloc,
             policy,
-            engine: Engine::new(alloc),
+            labels,
+            engine: Engine::new(alloc, tree, extra),
             journal: Vec::new(alloc),
             stopped: false,
         })
@@ -119,56 +137,70 @@ impl Vault {
         &self.journal
     }
 
-    /// Serves an event: makes its step on the world after the journal, and adds it to the journal.
+    /// Serves an event: makes its step on the state after the journal, and adds it to the journal.
     ///
     /// Want of memory is the one error. It stops the vault: each later call answers it too, and changes
     /// nothing.
     pub fn serve(&mut self, event: Event) -> Result<Served, AllocError>
         requires { Fits event }
-        // The reply and the line are those of the event's step on the world after the journal.
-        ensures reply { IfOk result (λ served. served.reply ≡ reply_at self.old.policy self.old.journal event) }
-        ensures line { IfOk result (λ served. IsLineOf (length self.old.journal + 1) (line_at self.old.policy self.old.journal event) served.line) }
+        // The reply and the line are those of the event's step on the state after the journal.
+        ensures reply { IfOk result (λ served. served.reply ≡ reply_with X.extra self.old.policy self.old.journal event) }
+        ensures line { IfOk result (λ served. IsLineOf (length self.old.journal + 1) (line_with X.extra self.old.policy self.old.journal event) served.line) }
         // The reply is the one that its requester would get with every event outside its dominance
         // purged from the journal.
-        ensures answer { IfOk result (λ served. served.reply ≡ answer self.old.policy self.old.journal event) }
+        ensures answer { IfOk result (λ served. served.reply ≡ answer_with X.extra self.old.policy self.old.journal event) }
         // A COMPOUND that comes again on its slot, with the arguments that the slot keeps, gets the result of
         // the first time: what an event of the journal got (RFC 8881 section 2.10.6.1).
         ensures retry { (level xid : ℕ) (arguments : List ℕ) (c : Compound) (args : Sequence) (x : Session) (slot : Slot) (first : List ℕ) →
-            ComesOnSlot self.old.policy self.old.journal event level xid arguments c args x slot →
+            ComesOnSlot X.extra self.old.policy self.old.journal event level xid arguments c args x slot →
             slot ≡ record { sequence = args.sequence; kept = Some (record { arguments = arguments; reply = first }) } →
-            IfOk result (IsRetried self.old self.new level xid arguments first) }
+            IfOk result (IsRetried X.extra self.old self.new level xid arguments first) }
         // So does a CREATE_SESSION, with those that its client's record keeps (RFC 8881 section 18.36.4).
         ensures created { (level xid : ℕ) (arguments : List ℕ) (c : Compound) (args : CreateSession) (client : Client) (first : List ℕ) →
-            ComesToClient self.old.policy self.old.journal event level xid arguments c args client →
+            ComesToClient X.extra self.old.policy self.old.journal event level xid arguments c args client →
             args.sequence ≡ sequence_before client.sequence → client.kept ≡ Some (record { arguments = arguments; reply = first }) →
-            IfOk result (IsRetried self.old self.new level xid arguments first) }
+            IfOk result (IsRetried X.extra self.old self.new level xid arguments first) }
         // The reply to a COMPOUND on a slot has no more bytes than its session's responses.
         ensures room { (level xid : ℕ) (arguments : List ℕ) (c : Compound) (args : Sequence) (x : Session) (slot : Slot) →
-            ComesOnSlot self.old.policy self.old.journal event level xid arguments c args x slot →
+            ComesOnSlot X.extra self.old.policy self.old.journal event level xid arguments c args x slot →
             IfOk result (λ served. IfSome served.reply (λ reply. length reply ≤ x.channel.max_response)) }
         ensures short { IfOk result (λ served. IfSome served.reply (λ reply. length reply ≤ RECORD_LIMIT)) }
         ensures at { IfOk result (λ served. served.at ≡ length self.old.journal + 1) }
         ensures kept { OnOk result (self.new ≡ record self.old { journal = self.old.journal ++ event ∷ [] }) }
         ensures stops { OnErr result (self.new ≡ record self.old { stopped = true }) }
         ensures stopped { self.old.stopped ≡ true → IsErr result }
-        // What stands keeps the facts of every world.
-        ensures facts { Facts (dominance self.new.policy) (world_after self.new.policy self.new.journal) }
+        // What stands keeps the facts of every world, and that of the further operations.
+        ensures facts { Holds X.extra self.new.policy (state_after X.extra self.new.policy self.new.journal) }
     {
-        purge();
-        sessions();
+        purge::<X>();
+        sessions::<X>();
         self.policy.is_preordered();
         if self.stopped {
             return Err(AllocError);
         }
         self.stopped = true;
+        let site = Site::new(&self.policy, &self.labels);
         let served = attempt(
             self.alloc,
-            &self.policy,
+            &site,
             &mut self.engine,
             &mut self.journal,
             event,
         )?;
         self.stopped = false;
         Ok(served)
+    }
+}
+
+impl VaultOf<NoExtra> {
+    /// A vault of a site, that was given no event. The codecs write its labels.
+    ///
+    /// # Errors
+    ///
+    /// `AllocError` where there is no memory.
+    pub fn new(alloc: Global, policy: Policy, codecs: &Codecs) -> Result<Vault, AllocError>
+        ensures { IfOk result (λ vault. vault ≡ record { policy = policy; journal = []; stopped = false }) }
+    {
+        VaultOf::with_extra(alloc, policy, codecs, NoExtra)
     }
 }

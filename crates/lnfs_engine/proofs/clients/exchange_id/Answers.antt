@@ -11,7 +11,7 @@ use Rattle.lnfs_engine.proofs.Acting.{not_memory, refused_as, acts}
 use Rattle.lnfs_engine.proofs.clients.exchange_id.Goals as goal
 
 pub returns-in_ok-told_result-in-Ok-clause-acts : goal.returns-in_ok-told_result-in-Ok-clause-acts
-returns-in_ok-told_result-in-Ok-clause-acts c = λ sent implementation moment rest none.
+returns-in_ok-told_result-in-Ok-clause-acts c = λ site sent implementation moment rest none.
     let args : Arguments = record { verifier = c.args.verifier; owner = c.args.owner.now; flags = c.args.flags } in
     let op = ops.ExchangeId c.args.verifier c.args.owner.now c.args.flags implementation in
     let p = begins_at c.args.level moment in
@@ -21,7 +21,7 @@ returns-in_ok-told_result-in-Ok-clause-acts c = λ sent implementation moment re
     (c.in-Ok.ensures.lists moment rest)
 
 pub returns-in_ok-refused_by-in-Err-clause-acts : goal.returns-in_ok-refused_by-in-Err-clause-acts
-returns-in_ok-refused_by-in-Err-clause-acts c = λ sent implementation moment rest none.
+returns-in_ok-refused_by-in-Err-clause-acts c = λ site sent implementation moment rest none.
     let args : Arguments = record { verifier = c.args.verifier; owner = c.args.owner.now; flags = c.args.flags } in
     let op = ops.ExchangeId c.args.verifier c.args.owner.now c.args.flags implementation in
     let p = begins_at c.args.level moment in

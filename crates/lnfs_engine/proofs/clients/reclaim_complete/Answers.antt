@@ -14,7 +14,7 @@ abbrev told : Unit {0} → Reply
 told _ = success results.ReclaimComplete Nowhere
 
 pub returns-in-Ok-clause-acts : goal.returns-in-Ok-clause-acts
-returns-in-Ok-clause-acts c = λ sent at rest none.
+returns-in-Ok-clause-acts c = λ site sent at rest none.
     let op = ops.ReclaimComplete c.args.one_fs in
     let p : Place = record at { subject = c.args.client.level; client = Some c.args.client.number } in
     let w = standing rest c.args.clients.now in
@@ -23,7 +23,7 @@ returns-in-Ok-clause-acts c = λ sent at rest none.
     (c.in-Ok.ensures.lists at rest)
 
 pub returns-in_ok-refused_by-in-Err-clause-acts : goal.returns-in_ok-refused_by-in-Err-clause-acts
-returns-in_ok-refused_by-in-Err-clause-acts c = λ sent at rest none.
+returns-in_ok-refused_by-in-Err-clause-acts c = λ site sent at rest none.
     let op = ops.ReclaimComplete c.args.one_fs in
     let p : Place = record at { subject = c.args.client.level; client = Some c.args.client.number } in
     let w = standing rest c.args.clients.now in

@@ -1,6 +1,5 @@
 use Rattle.std.proofs.Common.{◌≡◌, ◌≤◌, ◌<◌, ◌+◌, ◌%◌, List, ℕ, ◌++◌, length, length-append, ap, sym, ◌∙◌, arith}
 use Rattle.std.specs.Prelude.{sum_by}
-use Rattle.lnfs_arguments.specs.Further.{nothing_further}
 use Rattle.lnfs_compound.specs.Bounds.{op_bound}
 use Rattle.lnfs_xdr.specs.Canon.{word, opaque}
 use Rattle.lnfs_xdr.specs.Format.{padding}
@@ -15,9 +14,9 @@ rounded : (n next : ℕ) → n ≤ next → next < n + 4 → next % 4 ≡ 0 → 
 rounded n next low high even = omega (arith, low, high, even)
 
 pub returns : goal.returns
-returns c =
+returns g c =
     let k = c.args.compound.now in
     let len : c.len.result ≡ length k.tag = c.len.ensures in
     let next = c.next_multiple_of-head.ensures in
     let head : 12 + c.next_multiple_of-head.result ≡ length (head_text 0 k.tag 0) = ap (λ n. 12 + n) (rounded c.len.result c.next_multiple_of-head.result next.lower_bound next.upper_bound next.multiple) ∙ ap (λ n. 12 + (n + padding n)) len ∙ sym (head_length k.tag) in
-    (λ i. head i + c.bounds_of.result) ∙ ap (λ n. length (head_text 0 k.tag 0) + n) (c.bounds_of.ensures.sum ∙ ap (sum_by (op_bound nothing_further)) c.as_slice.ensures)
+    (λ i. head i + c.bounds_of.result) ∙ ap (λ n. length (head_text 0 k.tag 0) + n) (c.bounds_of.ensures.sum ∙ ap (sum_by (op_bound g.E.ExtraGrammar.grammar)) c.as_slice.ensures)

@@ -1,74 +1,108 @@
 use Rattle.std.proofs.Common.{◌≤◌, [], length, sym, ap, subst, arith}
-use Rattle.lnfs_world.specs.Outcome.{begins_at}
-use Rattle.lnfs_world.specs.Both.{both}
-use Rattle.lnfs_operations.specs.Extra.{no_extra}
+use Rattle.lnfs_calipso.specs.Label.{IsPreorderWithBottom}
+use Rattle.lnfs_policy.specs.Policy.{dominance}
+use Rattle.lnfs_world.specs.Both.{both, BothStand}
 use Rattle.lnfs_operations.specs.Served.{operation}
 use Rattle.lnfs_operations.specs.SlotRule.{run_behind}
-use Rattle.lnfs_session.specs.Standing.{standing}
+use Rattle.lnfs_operations.proofs.ServedLaws.{operation_lawful}
 use Rattle.lnfs_engine.specs.Places.{place_of}
-use Rattle.lnfs_engine.specs.Performs.{sent_of, Performs}
-use Rattle.lnfs_engine.proofs.Running.{here, none-left, used_is, ahead_on, ahead_refused, ahead_again, ahead_ends}
+use Rattle.lnfs_engine.specs.Performs.{site_in, sent_of, Performs}
+use Rattle.lnfs_engine.proofs.Acting.{starts_stands}
+use Rattle.lnfs_engine.proofs.Running.{here, none-left, used_is, ahead_begin, ahead_on, ahead_refused, ahead_again, ahead_ends}
 use Rattle.lnfs_engine.proofs.run.run_operations.Goals as goal
 
+pub loop-done-init : goal.loop-done-init
+loop-done-init g c =
+    let X = g.X.ExtraRows.extra in
+    let r = c.args.request.now in
+    let k = r.compound.now in
+    let p = place_of c.args.place.now in
+    let b = both c.args.store.now (g.X.ExtraRows.rows c.args.extra.now) in
+    record {
+      within = omega arith;
+      first = λ none. c.requires.first;
+      stands = starts_stands p c.args.store.now.sessions c.args.keeper.now c.requires.first;
+      facts = c.requires.facts;
+      ahead = ahead_begin (operation X (site_in r) (sent_of r) k) k.ops r.begin c.args.out.now c.args.keeper.now p b c.requires.first.nowhere;
+    }
+
 pub loop-done-preserved : goal.loop-done-preserved
-loop-done-preserved c =
+loop-done-preserved g c =
+    let X = g.X.ExtraRows.extra in
+    let owed = g.X.ExtraRows.lawful in
+    let rows = g.X.ExtraRows.rows in
     let r = c.args.request.now in
     let k = r.compound.now in
     let done = c.loop-done.done in
     let op = c.index-ops-done.result in
     let e = here k.ops done op (omega (arith, ap length c.as_slice-ops.ensures)) (sym (rw c.as_slice-ops.ensures at c.index-ops-done.is)) in
+    let deeds = operation X (site_in r) (sent_of r) k in
+    let total = run_behind deeds [] k.ops (place_of c.args.place.now) (both c.args.store.now (rows c.args.extra.now)) in
+    let i = c.loop-done.invariant in
+    let p = place_of c.loop-done.place in
+    let b = both c.loop-done.store (rows c.loop-done.extra) in
+    let q = place_of c.perform.new.place in
+    let v = both c.perform.new.store (rows c.perform.new.extra) in
+    let did = c.in_ok-perform.ensures.performs i.ahead.so_far i.ahead.many (used_is k i.ahead.so_far c.args.out.now c.loop-done.out r.begin c.requires.head i.ahead.text) in
+    let on = subst (Performs r.begin c.loop-done.out c.perform.new.out c.loop-done.keeper c.perform.new.keeper q v (deeds i.ahead.so_far op p b)) c.in-Done.is did in
+    let law = (operation_lawful X owed (site_in r) (subst (λ q. IsPreorderWithBottom (dominance q)) c.policy.ensures c.is_preordered.ensures) (sent_of r) k i.ahead.so_far op).stands p b i.facts in
     record {
       within = omega (arith, ap length c.as_slice-ops.ensures);
       first = λ none. absurd (omega (arith, none));
       stands = c.in_ok-perform.ensures.stands;
-      ahead = λ site moment rest none.
-          let deeds = operation no_extra site (sent_of r) k in
-          let total = run_behind deeds [] k.ops (begins_at r.level moment) (both (standing rest c.args.clients.now) []) in
-          let a = c.loop-done.invariant.ahead site moment rest none in
-          let did = c.in_ok-perform.ensures.performs site moment rest a.so_far none a.many (used_is k a.so_far c.args.out.now c.loop-done.out r.begin c.requires.head a.text) in
-          let on = subst (Performs r.level moment r.begin c.loop-done.out c.perform.new.out c.loop-done.place c.perform.new.place (standing rest c.perform.new.clients) (deeds a.so_far op (place_of r.level moment c.loop-done.place) (both (standing rest c.loop-done.clients) []))) c.in-Done.is did in
-          ahead_on deeds k.ops r.level moment r.begin c.args.out.now total c.loop-done.out done c.loop-done.place (standing rest c.loop-done.clients) a op e c.perform.new.out c.perform.new.place (standing rest c.perform.new.clients) on;
+      facts = subst (BothStand X.Fact (site_in r).dom q) on.state (subst (λ at. BothStand X.Fact (site_in r).dom at (deeds i.ahead.so_far op p b).state) on.place_is law);
+      ahead = ahead_on deeds k.ops r.begin c.args.out.now total c.loop-done.out done c.loop-done.keeper p b i.ahead op e c.perform.new.out c.perform.new.keeper q v on;
     }
 
 pub returns-in-Refused-clause-ends : goal.returns-in-Refused-clause-ends
-returns-in-Refused-clause-ends c =
+returns-in-Refused-clause-ends g c =
+    let X = g.X.ExtraRows.extra in
+    let rows = g.X.ExtraRows.rows in
     let r = c.args.request.now in
     let k = r.compound.now in
     let done = c.loop-done.done in
     let op = c.index-ops-done.result in
     let e = here k.ops done op (omega (arith, ap length c.as_slice-ops.ensures)) (sym (rw c.as_slice-ops.ensures at c.index-ops-done.is)) in
-    λ site moment rest none.
-    let deeds = operation no_extra site (sent_of r) k in
-    let total = run_behind deeds [] k.ops (begins_at r.level moment) (both (standing rest c.args.clients.now) []) in
-    let a = c.loop-done.invariant.ahead site moment rest none in
-    let did = c.in_ok-perform.ensures.performs site moment rest a.so_far none a.many (used_is k a.so_far c.args.out.now c.loop-done.out r.begin c.requires.head a.text) in
-    let on = subst (Performs r.level moment r.begin c.loop-done.out c.perform.new.out c.loop-done.place c.perform.new.place (standing rest c.perform.new.clients) (deeds a.so_far op (place_of r.level moment c.loop-done.place) (both (standing rest c.loop-done.clients) []))) c.in-Refused.is did in
-    rw c.number.ensures (ahead_refused deeds k.ops r.level moment r.begin c.args.out.now total c.loop-done.out done c.loop-done.place (standing rest c.loop-done.clients) a op e c.perform.new.out c.perform.new.place (standing rest c.perform.new.clients) c.in-Refused.why on)
+    let deeds = operation X (site_in r) (sent_of r) k in
+    let total = run_behind deeds [] k.ops (place_of c.args.place.now) (both c.args.store.now (rows c.args.extra.now)) in
+    let a = c.loop-done.invariant.ahead in
+    let p = place_of c.loop-done.place in
+    let b = both c.loop-done.store (rows c.loop-done.extra) in
+    let q = place_of c.perform.new.place in
+    let v = both c.perform.new.store (rows c.perform.new.extra) in
+    let did = c.in_ok-perform.ensures.performs a.so_far a.many (used_is k a.so_far c.args.out.now c.loop-done.out r.begin c.requires.head a.text) in
+    let on = subst (Performs r.begin c.loop-done.out c.perform.new.out c.loop-done.keeper c.perform.new.keeper q v (deeds a.so_far op p b)) c.in-Refused.is did in
+    rw c.number.ensures (ahead_refused deeds k.ops r.begin c.args.out.now total c.loop-done.out done c.loop-done.keeper p b a op e c.perform.new.out c.perform.new.keeper q v c.in-Refused.why on)
 
 pub returns-in-Again-clause-ends : goal.returns-in-Again-clause-ends
-returns-in-Again-clause-ends c =
+returns-in-Again-clause-ends g c =
+    let X = g.X.ExtraRows.extra in
+    let rows = g.X.ExtraRows.rows in
     let r = c.args.request.now in
     let k = r.compound.now in
     let done = c.loop-done.done in
     let op = c.index-ops-done.result in
     let e = here k.ops done op (omega (arith, ap length c.as_slice-ops.ensures)) (sym (rw c.as_slice-ops.ensures at c.index-ops-done.is)) in
-    λ site moment rest none.
-    let deeds = operation no_extra site (sent_of r) k in
-    let total = run_behind deeds [] k.ops (begins_at r.level moment) (both (standing rest c.args.clients.now) []) in
-    let a = c.loop-done.invariant.ahead site moment rest none in
-    let did = c.in_ok-perform.ensures.performs site moment rest a.so_far none a.many (used_is k a.so_far c.args.out.now c.loop-done.out r.begin c.requires.head a.text) in
-    let on = subst (Performs r.level moment r.begin c.loop-done.out c.perform.new.out c.loop-done.place c.perform.new.place (standing rest c.perform.new.clients) (deeds a.so_far op (place_of r.level moment c.loop-done.place) (both (standing rest c.loop-done.clients) []))) c.in-Again.is did in
+    let deeds = operation X (site_in r) (sent_of r) k in
+    let total = run_behind deeds [] k.ops (place_of c.args.place.now) (both c.args.store.now (rows c.args.extra.now)) in
+    let a = c.loop-done.invariant.ahead in
+    let p = place_of c.loop-done.place in
+    let b = both c.loop-done.store (rows c.loop-done.extra) in
+    let q = place_of c.perform.new.place in
+    let v = both c.perform.new.store (rows c.perform.new.extra) in
+    let did = c.in_ok-perform.ensures.performs a.so_far a.many (used_is k a.so_far c.args.out.now c.loop-done.out r.begin c.requires.head a.text) in
+    let on = subst (Performs r.begin c.loop-done.out c.perform.new.out c.loop-done.keeper c.perform.new.keeper q v (deeds a.so_far op p b)) c.in-Again.is did in
     let within : r.begin ≤ length c.args.out.now = omega (arith, c.requires.head) in
-    ahead_again deeds k.ops r.level moment r.begin c.args.out.now total c.loop-done.out done c.loop-done.place (standing rest c.loop-done.clients) a op e c.perform.new.out c.perform.new.place (standing rest c.perform.new.clients) within on
+    ahead_again deeds k.ops r.begin c.args.out.now total c.loop-done.out done c.loop-done.keeper p b a op e c.perform.new.out c.perform.new.keeper q v within on
 
 pub returns-clause-ends : goal.returns-clause-ends
-returns-clause-ends c =
+returns-clause-ends g c =
+    let X = g.X.ExtraRows.extra in
+    let rows = g.X.ExtraRows.rows in
     let r = c.args.request.now in
     let k = r.compound.now in
     let done = c.loop-done.done in
     let e = none-left k.ops done (omega (arith, ap length c.as_slice-ops.ensures)) in
-    λ site moment rest none.
-    let deeds = operation no_extra site (sent_of r) k in
-    let total = run_behind deeds [] k.ops (begins_at r.level moment) (both (standing rest c.args.clients.now) []) in
-    let a = c.loop-done.invariant.ahead site moment rest none in
-    ahead_ends deeds k.ops r.level moment r.begin c.args.out.now total c.loop-done.out done c.loop-done.place (standing rest c.loop-done.clients) a e
+    let deeds = operation X (site_in r) (sent_of r) k in
+    let total = run_behind deeds [] k.ops (place_of c.args.place.now) (both c.args.store.now (rows c.args.extra.now)) in
+    ahead_ends deeds k.ops r.begin c.args.out.now total c.loop-done.out done c.loop-done.keeper (place_of c.loop-done.place) (both c.loop-done.store (rows c.loop-done.extra)) c.loop-done.invariant.ahead e

@@ -3,9 +3,8 @@ use Rattle.std.proofs.lemmas.Result.{IfOk-weaker}
 use Rattle.lnfs_arguments.specs.declared.types.Op.{Op}
 use Rattle.lnfs_arguments.specs.declared.types.Op.TheVariants as ops
 use Rattle.lnfs_arguments.specs.declared.types.CreateSession.{CreateSession}
-use Rattle.lnfs_outside.specs.declared.event.Moment.{Moment}
 use Rattle.lnfs_world.specs.World.{World, client_at}
-use Rattle.lnfs_world.specs.Outcome.{Place, begins_at}
+use Rattle.lnfs_world.specs.Outcome.{Site, Place, begins_at}
 use Rattle.lnfs_operations.specs.Identifiers.{client_named}
 use Rattle.lnfs_operations.specs.Sequence.{Sent}
 use Rattle.lnfs_operations.specs.Served.{Reply, Kept, row, created_keeper}
@@ -14,13 +13,13 @@ use Rattle.lnfs_session.specs.Standing.{standing}
 use Rattle.lnfs_engine.specs.declared.reply.Came.{Came}
 use Rattle.lnfs_engine.specs.Places.{Stands, place_of, keeper_of}
 use Rattle.lnfs_engine.specs.Replies.{own_of, Acts, Says}
-use Rattle.lnfs_engine.specs.Performs.{first_kept, made_of, sent_of, turn, Performs}
-use Rattle.lnfs_engine.proofs.Acting.{performs}
+use Rattle.lnfs_engine.specs.Performs.{first_kept, made_of, site_in, sent_of, turn, Performs}
+use Rattle.lnfs_engine.proofs.Acting.{performs, starts_stands}
 use Rattle.lnfs_engine.proofs.sessions.create_session.Goals as goal
 
 -- with the arguments as an operation, and what was answered
-named : (sent : Sent) (op : Op) (args : CreateSession) (p : Place) (w v : World) (r : Op → Reply) → op ≡ ops.CreateSession args → Acts (row sent (ops.CreateSession args) p w) (r (ops.CreateSession args)) p w v → Acts (row sent op p w) (r op) p w v
-named sent op args p w v r is = subst (λ o. Acts (row sent o p w) (r o) p w v) (sym is)
+named : (site : Site) (sent : Sent) (op : Op) (args : CreateSession) (p : Place) (w v : World) (r : Op → Reply) → op ≡ ops.CreateSession args → Acts (row site sent (ops.CreateSession args) p w) (r (ops.CreateSession args)) p w v → Acts (row site sent op p w) (r op) p w v
+named site sent op args p w v r is = subst (λ o. Acts (row site sent o p w) (r o) p w v) (sym is)
 
 pub returns-in-Some-clause-performs : goal.returns-in-Some-clause-performs
 returns-in-Some-clause-performs c =
@@ -29,23 +28,29 @@ returns-in-Some-clause-performs c =
     let op = c.args.op.now in
     let before = c.args.clients.now in
     let after = c.make_session.new.clients in
-    let next = c.created_place-created.result in
-    let Goal : Came → Type 0 = λ came. (moment : Moment) (rest : World) → rest.opens ≡ [] → Performs r.level moment r.begin c.args.out.now c.say.new.out c.args.place.now next (standing rest after) (turn (sent_of r) op (begins_at r.level moment) (standing rest before)) came in
+    let next = c.created_keeper-created.result in
+    let at = place_of c.args.place.now in
+    let p = begins_at at.subject at.moment in
+    let Goal : Came → Type 0 = λ came. (rest : World) → rest.opens ≡ [] → Performs r.begin c.args.out.now c.say.new.out c.args.keeper.now next at (standing rest after) (turn (site_in r) (sent_of r) op at (standing rest before)) came in
     IfOk-weaker c.say.result _ Goal
-    (λ came says moment rest none.
-    let p = begins_at r.level moment in
+    (λ came says rest none.
     let w = standing rest before in
     let keeper = created_keeper args p w in
-    let did = subst (λ answer. Acts (row (sent_of r) (ops.CreateSession args) p w) (made_of (ops.CreateSession args) keeper after args answer) p w (standing rest after)) c.in-Some.is (c.in_ok-answer.ensures.acts r.size r.compound.now.count moment rest none) in
-    performs r.level moment r.begin c.args.out.now c.say.new.out c.args.place.now next (sent_of r) op p p w (standing rest after) (own_of op keeper c.in-Some.answer) came
-    (named (sent_of r) op args p w (standing rest after) (λ o. own_of o keeper c.in-Some.answer) c.requires.op did)
-    (sym (c.created_place-created.ensures.place moment))
-    (ap (λ x. first_kept (keeper_of x) keeper) c.requires.first ∙ sym (c.created_place-created.ensures.keeper moment rest))
-    (says r.begin keeper))
+    let did = subst (λ answer. Acts (row (site_in r) (sent_of r) (ops.CreateSession args) p w) (made_of (ops.CreateSession args) keeper after args answer) p w (standing rest after)) c.in-Some.is (c.in_ok-answer.ensures.acts (site_in r) r.size r.compound.now.count at.moment rest none) in
+    subst (λ q. Performs r.begin c.args.out.now c.say.new.out c.args.keeper.now next q (standing rest after) (turn (site_in r) (sent_of r) op q w) came) (sym c.requires.first.place)
+    (performs r.begin c.args.out.now c.say.new.out c.args.keeper.now next p (site_in r) (sent_of r) op p p w (standing rest after) (own_of op keeper c.in-Some.answer) came
+    (named (site_in r) (sent_of r) op args p w (standing rest after) (λ o. own_of o keeper c.in-Some.answer) c.requires.op did)
+    refl
+    (ap (λ x. first_kept (keeper_of x) keeper) c.requires.first.nowhere ∙ sym (c.created_keeper-created.ensures.keeper at.moment rest))
+    (says r.begin keeper)))
     c.say.ensures
 
 pub returns-in-Some-clause-stands : goal.returns-in-Some-clause-stands
-returns-in-Some-clause-stands c = IfOk-weaker c.say.result _ (λ (came : Came). Stands c.args.request.now.level c.make_session.new.clients.sessions c.created_place-created.result) (λ came says. c.created_place-created.ensures.stands c.make_session.new.clients.sessions) c.say.ensures
+returns-in-Some-clause-stands c =
+    let at = place_of c.args.place.now in
+    IfOk-weaker c.say.result _ (λ (came : Came). Stands at c.make_session.new.clients.sessions c.created_keeper-created.result)
+    (λ came says. subst (λ q. Stands q c.make_session.new.clients.sessions c.created_keeper-created.result) (sym c.requires.first.place) (c.created_keeper-created.ensures.stands at.moment c.make_session.new.clients.sessions))
+    c.say.ensures
 
 pub returns-in-None-clause-performs : goal.returns-in-None-clause-performs
 returns-in-None-clause-performs c =
@@ -54,18 +59,23 @@ returns-in-None-clause-performs c =
     let op = c.args.op.now in
     let before = c.args.clients.now in
     let after = c.make_session.new.clients in
-    let here = c.args.place.now in
-    let Goal : Came → Type 0 = λ came. (moment : Moment) (rest : World) → rest.opens ≡ [] → Performs r.level moment r.begin c.args.out.now c.repeat.new.out here here (standing rest after) (turn (sent_of r) op (begins_at r.level moment) (standing rest before)) came in
+    let here = c.args.keeper.now in
+    let at = place_of c.args.place.now in
+    let p = begins_at at.subject at.moment in
+    let Goal : Came → Type 0 = λ came. (rest : World) → rest.opens ≡ [] → Performs r.begin c.args.out.now c.repeat.new.out here here at (standing rest after) (turn (site_in r) (sent_of r) op at (standing rest before)) came in
     IfOk-weaker c.repeat.result _ Goal
-    (λ came says moment rest none.
-    let p = begins_at r.level moment in
+    (λ came says rest none.
     let w = standing rest before in
     let keeper = created_keeper args p w in
     let kept = or_none (kept_reply (client_at after.clients (client_named args.client))) in
-    let did = subst (λ answer. Acts (row (sent_of r) (ops.CreateSession args) p w) (made_of (ops.CreateSession args) keeper after args answer) p w (standing rest after)) c.in-None.is (c.in_ok-answer.ensures.acts r.size r.compound.now.count moment rest none) in
-    performs r.level moment r.begin c.args.out.now c.repeat.new.out here here (sent_of r) op p p w (standing rest after) (Kept kept) came
-    (named (sent_of r) op args p w (standing rest after) (λ o. Kept kept) c.requires.op did)
-    (ap (place_of r.level moment) (sym c.requires.first))
+    let did = subst (λ answer. Acts (row (site_in r) (sent_of r) (ops.CreateSession args) p w) (made_of (ops.CreateSession args) keeper after args answer) p w (standing rest after)) c.in-None.is (c.in_ok-answer.ensures.acts (site_in r) r.size r.compound.now.count at.moment rest none) in
+    subst (λ q. Performs r.begin c.args.out.now c.repeat.new.out here here q (standing rest after) (turn (site_in r) (sent_of r) op q w) came) (sym c.requires.first.place)
+    (performs r.begin c.args.out.now c.repeat.new.out here here p (site_in r) (sent_of r) op p p w (standing rest after) (Kept kept) came
+    (named (site_in r) (sent_of r) op args p w (standing rest after) (λ o. Kept kept) c.requires.op did)
     refl
-    (subst (λ k. Says r.begin c.args.out.now c.repeat.new.out (Kept k) came) c.kept_created.ensures says))
+    refl
+    (subst (λ k. Says r.begin c.args.out.now c.repeat.new.out (Kept k) came) c.kept_created.ensures says)))
     c.repeat.ensures
+
+pub returns-in-None-clause-stands : goal.returns-in-None-clause-stands
+returns-in-None-clause-stands c = IfOk-weaker c.repeat.result _ (λ (came : Came). Stands (place_of c.args.place.now) c.make_session.new.clients.sessions c.args.keeper.now) (λ came says. starts_stands (place_of c.args.place.now) c.make_session.new.clients.sessions c.args.keeper.now c.requires.first) c.repeat.ensures

@@ -14,7 +14,7 @@ abbrev told : Unit {0} → Reply
 told _ = success results.DestroySession Nowhere
 
 pub returns-in-Ok-clause-acts : goal.returns-in-Ok-clause-acts
-returns-in-Ok-clause-acts c = λ sent moment rest none.
+returns-in-Ok-clause-acts c = λ site sent moment rest none.
     let op = ops.DestroySession c.args.session in
     let p = begins_at c.args.level moment in
     let w = standing rest c.args.clients.now in
@@ -23,7 +23,7 @@ returns-in-Ok-clause-acts c = λ sent moment rest none.
     (c.in-Ok.ensures.lists moment rest)
 
 pub returns-in_ok-refused_by-in-Err-clause-acts : goal.returns-in_ok-refused_by-in-Err-clause-acts
-returns-in_ok-refused_by-in-Err-clause-acts c = λ sent moment rest none.
+returns-in_ok-refused_by-in-Err-clause-acts c = λ site sent moment rest none.
     let op = ops.DestroySession c.args.session in
     let p = begins_at c.args.level moment in
     let w = standing rest c.args.clients.now in

@@ -20,7 +20,7 @@ granted_plain : (granted : Channel) → granted.headerpad ≡ 0 → granted.ird 
 granted_plain granted pad ird = λ i. record granted { headerpad = sym pad i; ird = sym ird i }
 
 pub returns-in-Ok-New-clause-acts : goal.returns-in-Ok-New-clause-acts
-returns-in-Ok-New-clause-acts c = λ size count moment rest none.
+returns-in-Ok-New-clause-acts c = λ site size count moment rest none.
     let args = c.args.args.now in
     let op = ops.CreateSession args in
     let p = begins_at c.args.level moment in
@@ -37,7 +37,7 @@ returns-in-Ok-New-clause-acts c = λ size count moment rest none.
     (x.ensures.lists moment rest)
 
 pub returns-in_ok-refused_by-in-Err-clause-acts : goal.returns-in_ok-refused_by-in-Err-clause-acts
-returns-in_ok-refused_by-in-Err-clause-acts c = λ size count moment rest none.
+returns-in_ok-refused_by-in-Err-clause-acts c = λ site size count moment rest none.
     let args = c.args.args.now in
     let op = ops.CreateSession args in
     let p = begins_at c.args.level moment in

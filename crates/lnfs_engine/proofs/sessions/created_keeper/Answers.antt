@@ -9,8 +9,8 @@ use Rattle.lnfs_operations.specs.Served.{Nowhere, Record}
 use Rattle.lnfs_session.specs.declared.rows.ClientRef.{ClientRef}
 use Rattle.lnfs_session.specs.Listed.{id_of}
 use Rattle.lnfs_session.specs.Standing.{standing}
-use Rattle.lnfs_engine.proofs.Acting.{some_world, some_moment}
-use Rattle.lnfs_engine.proofs.sessions.created_place.Goals as goal
+use Rattle.lnfs_engine.proofs.Acting.{some_world}
+use Rattle.lnfs_engine.proofs.sessions.created_keeper.Goals as goal
 
 -- the record that keeps is the one that is named
 kept_in : (b : Bool) (i : Id) (client : ClientRef) → Some (id_of client) ≡ cond b (Some i) None → (b ≡ true) × (id_of client ≡ i)
@@ -33,13 +33,13 @@ returns-in-Some-clause-keeper c = λ moment rest.
     ap (λ (i : Id). Record i.number) is.1 ∙ ap (λ b. cond b (Record (client_named args.client).number) Nowhere) (sym is.0)
 
 pub returns-in-Some-clause-stands : goal.returns-in-Some-clause-stands
-returns-in-Some-clause-stands c = λ sessions.
+returns-in-Some-clause-stands c = λ moment sessions.
     let args = c.args.args.now in
     let w = standing some_world c.args.clients.now in
     let own = (client_named args.client).level == c.args.level in
-    let is = kept_in (is_next_created args (begins_at c.args.level some_moment) w) (client_named args.client) c.in-Some.client (c.in-Some.ensures some_moment some_world) in
+    let is = kept_in (is_next_created args (begins_at c.args.level moment) w) (client_named args.client) c.in-Some.client (c.in-Some.ensures moment some_world) in
     let level : own ≡ true = both_left own (is_next_of args.sequence (client_at w.clients (client_named args.client))) is.0 in
-    ap (λ (i : Id). i.level) is.1 ∙ grind (arith, nat_tests, level)
+    record { own = ap (λ (i : Id). i.level) is.1 ∙ grind (arith, nat_tests, level); outside = record { client = refl; session = refl } }
 
 pub returns-in-None-clause-keeper : goal.returns-in-None-clause-keeper
 returns-in-None-clause-keeper c = λ moment rest.

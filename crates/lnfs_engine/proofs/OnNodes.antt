@@ -1,0 +1,130 @@
+-- An operation on nodes, by what is told of it.
+use Rattle.std.proofs.Common.{◌≡◌, ℕ, List, Some, None, Ok, Err, refl, sym, ◌∙◌, subst}
+use Rattle.std.specs.Prelude.{Result, IfOk}
+use Rattle.std.proofs.lemmas.Result.{IfOk-weaker}
+use Rattle.lnfs_attrs.specs.declared.bitmap.Bitmap.{Bitmap}
+use Rattle.lnfs_attrs.specs.declared.raw.RawAttrs.{RawAttrs}
+use Rattle.lnfs_arguments.specs.declared.types.Op.{Op}
+use Rattle.lnfs_arguments.specs.declared.types.Op.TheVariants as ops
+use Rattle.lnfs_arguments.specs.declared.statuses.TheConstants.{NFS4ERR_NOTSUPP}
+use Rattle.lnfs_results.specs.declared.types.OpResult.{OpResult}
+use Rattle.lnfs_results.specs.Numbered.{status_of}
+use Rattle.lnfs_world.specs.World.{World}
+use Rattle.lnfs_world.specs.Outcome.{Site, Place, Outcome}
+use Rattle.lnfs_world.specs.Lawful.{turn_of}
+use Rattle.lnfs_operations.specs.declared.Refusal.{Refusal}
+use Rattle.lnfs_operations.specs.Chain as chain
+use Rattle.lnfs_operations.specs.Chain.{Answer, Done, Refused, refuse}
+use Rattle.lnfs_operations.specs.declared.Gate.TheVariants as gates
+use Rattle.lnfs_operations.specs.Results.{failed}
+use Rattle.lnfs_operations.specs.Sequence.{Sent}
+use Rattle.lnfs_operations.specs.Served.{Keeper, Nowhere, Reply, success, told_reply, reply_of, replied, plainly, row}
+use Rattle.lnfs_tree.specs.Rows.{Rows}
+use Rattle.lnfs_tree.specs.declared.node.NodeId.{NodeId}
+use Rattle.lnfs_nodes.specs.Trees.{with_tree, refusal_of, answered, stays, goes, saves}
+use Rattle.lnfs_nodes.specs.Writes.{Wrote, Writes}
+use Rattle.lnfs_engine.specs.declared.place.Place as code_place
+use Rattle.lnfs_engine.specs.declared.place.Keeper as code
+use Rattle.lnfs_engine.specs.declared.reply.Came.{Came}
+use Rattle.lnfs_engine.specs.Places.{place_of, keeper_of, IsOnNodes}
+use Rattle.lnfs_engine.specs.Replies.{Acts, Says, SaysOwn, SaysWritten, own_of}
+use Rattle.lnfs_engine.specs.Performs.{turn, kept_behind, Performs}
+use Rattle.lnfs_engine.specs.Nodes.{told_as, goes_to, saves_as}
+use Rattle.lnfs_engine.proofs.Acting.{first_nowhere, performs}
+use Rattle.lnfs_engine.proofs.Telling.{Said}
+
+-- ---- what an operation comes to
+
+module _ (op : Op) (w : World) where
+  pub goes_acts : (told : OpResult) (p : code_place.Place) (found : Result NodeId Refusal) (o : Outcome (Answer (Unit {0}))) → o ≡ goes (place_of p) found →
+      Acts (replied op (plainly told) o) (own_of op Nowhere (told_as (λ i. told) found)) (place_of (goes_to p found)) w w
+  goes_acts told p (Ok i) o is = subst (λ x. Acts (replied op (plainly told) x) (own_of op Nowhere (Ok told)) (place_of (goes_to p (Ok i))) w w) (sym is) (record { answer = refl; place = refl; world = refl })
+  goes_acts told p (Err why) o is = subst (λ x. Acts (replied op (plainly told) x) (own_of op Nowhere (Err why)) (place_of p) w w) (sym is) (record { answer = refl; place = refl; world = refl })
+
+  pub saves_acts : (told : OpResult) (p : code_place.Place) (found : Result NodeId Refusal) (o : Outcome (Answer (Unit {0}))) → o ≡ saves (place_of p) found →
+      Acts (replied op (plainly told) o) (own_of op Nowhere (told_as (λ i. told) found)) (place_of (saves_as p found)) w w
+  saves_acts told p (Ok i) o is = subst (λ x. Acts (replied op (plainly told) x) (own_of op Nowhere (Ok told)) (place_of (saves_as p (Ok i))) w w) (sym is) (record { answer = refl; place = refl; world = refl })
+  saves_acts told p (Err why) o is = subst (λ x. Acts (replied op (plainly told) x) (own_of op Nowhere (Err why)) (place_of p) w w) (sym is) (record { answer = refl; place = refl; world = refl })
+
+  pub stays_acts : {A R : Type 0} (result : R → OpResult) (seen : A → R) (p : Place) (found : Result A Refusal) (o : Outcome (Answer R)) → o ≡ stays p (answered seen found) →
+      Acts (replied op (λ r. success (result r) Nowhere) o) (own_of op Nowhere (told_as (λ a. result (seen a)) found)) p w w
+  stays_acts result seen p (Ok a) o is = subst (λ x. Acts (replied op (λ r. success (result r) Nowhere) x) (own_of op Nowhere (Ok (result (seen a)))) p w w) (sym is) (record { answer = refl; place = refl; world = refl })
+  stays_acts result seen p (Err why) o is = subst (λ x. Acts (replied op (λ r. success (result r) Nowhere) x) (own_of op Nowhere (Err why)) p w w) (sym is) (record { answer = refl; place = refl; world = refl })
+
+-- ---- an operation whose answer is appended
+
+module _ (begin : ℕ) (old new : List ℕ) (site : Site) (sent : Sent) (op same : Op) (p q : Place) (answer : Result OpResult Refusal) (is : op ≡ same) {E : Type 0} (result : Result Came E) (said : IfOk result (Said old new op answer)) where
+  -- it leaves the world
+  pub told_on : (tree : Rows) → ((rest : World) → Acts (row site sent same p (with_tree rest tree)) (own_of same Nowhere answer) q (with_tree rest tree) (with_tree rest tree)) →
+      IfOk result (λ came. (keeper : code.Keeper) (rest : World) → Performs begin old new keeper keeper q (with_tree rest tree) (turn site sent op p (with_tree rest tree)) came)
+  told_on tree did = IfOk-weaker result (Said old new op answer) (λ came. (keeper : code.Keeper) (rest : World) → Performs begin old new keeper keeper q (with_tree rest tree) (turn site sent op p (with_tree rest tree)) came)
+      (λ came says keeper rest.
+      let w = with_tree rest tree in
+      performs begin old new keeper keeper q site sent op p q w w (own_of op Nowhere answer) came (subst (λ o. Acts (row site sent o p w) (own_of o Nowhere answer) q w w) (sym is) (did rest)) refl (first_nowhere (keeper_of keeper)) (says begin Nowhere))
+      said
+
+-- ---- an operation that wrote its result
+
+module _ {R : Type 0} (told : R → OpResult) (ok : (r : R) → status_of (told r) ≡ 0) (op : Op) (begin : ℕ) (old mid new : List ℕ) where
+  abbrev reply : R → Reply
+  reply r = success (told r) Nowhere
+
+  says_all : (a : Answer R) (answer : Result (Unit {0}) Refusal) (comes : Came) → Wrote old mid told a answer → SaysWritten mid new op answer comes → Says begin old new (reply_of op reply a) comes
+  says_all (Done r) (Ok it) comes wrote more = subst (λ x. SaysOwn old new (told r) None x) (sym more.0) (refl, ok r, more.1 ∙ wrote)
+  says_all (Done r) (Err e) comes wrote more = absurd wrote
+  says_all (Refused why) (Ok it) comes wrote more = absurd wrote
+  says_all (Refused why) (Err e) comes wrote more =
+      subst (λ (x : chain.Refusal). SaysOwn old new (failed op x.status) (Some x) comes) wrote.0 (subst (λ out. SaysOwn out new (failed op e.status) (Some (refusal_of e)) comes) wrote.1 more)
+
+  own : (k : Keeper) (a : Answer R) → kept_behind k (reply_of op reply a) ≡ k
+  own k (Done r) = first_nowhere k
+  own k (Refused why) = first_nowhere k
+
+  pub wrote_performs : (keeper : code.Keeper) (q : Place) (before after : World) (o : Outcome (Answer R)) (answer : Result (Unit {0}) Refusal) (comes : Came) → Writes old mid told q before after o answer → SaysWritten mid new op answer comes →
+      Performs begin old new keeper keeper q after (turn_of before (replied op reply o)) comes
+  wrote_performs keeper q before after o answer comes wrote more = record {
+    place_is = wrote.place;
+    state = sym wrote.world;
+    keeper = own (keeper_of keeper) o.answer;
+    says = says_all o.answer answer comes wrote.wrote more;
+  }
+
+-- ---- an operation that isn't served
+
+pub record IsOther (op : Op) : Type 0 where
+  pub put_fh : (handle : List ℕ) → op ≡ ops.PutFh handle → ⊥
+  pub put_root_fh : op ≡ ops.PutRootFh → ⊥
+  pub get_fh : op ≡ ops.GetFh → ⊥
+  pub save_fh : op ≡ ops.SaveFh → ⊥
+  pub restore_fh : op ≡ ops.RestoreFh → ⊥
+  pub lookup : (name : List ℕ) → op ≡ ops.Lookup name → ⊥
+  pub lookup_parent : op ≡ ops.LookupP → ⊥
+  pub get_attr : (asked : Bitmap) → op ≡ ops.GetAttr asked → ⊥
+  pub verify : (given : RawAttrs) → op ≡ ops.Verify given → ⊥
+  pub nverify : (given : RawAttrs) → op ≡ ops.NVerify given → ⊥
+  pub access : (bits : ℕ) → op ≡ ops.Access bits → ⊥
+  pub read_dir : (cookie : ℕ) (verifier : List ℕ) (dircount maxcount : ℕ) (asked : Bitmap) → op ≡ ops.ReadDir cookie verifier dircount maxcount asked → ⊥
+  pub read_link : op ≡ ops.ReadLink → ⊥
+
+pub other_row : (site : Site) (sent : Sent) (op : Op) (p : Place) (w : World) → IsOnNodes op → IsOther op → row site sent op p w ≡ replied op (told_reply p.subject) (refuse p gates.Outside NFS4ERR_NOTSUPP)
+other_row site sent (ops.ExchangeId verifier owner flags implementation) p w own other = absurd own
+other_row site sent (ops.CreateSession args) p w own other = absurd own
+other_row site sent (ops.DestroySession session) p w own other = absurd own
+other_row site sent (ops.Sequence args) p w own other = absurd own
+other_row site sent (ops.DestroyClientId client) p w own other = absurd own
+other_row site sent (ops.ReclaimComplete one_fs) p w own other = absurd own
+other_row site sent (ops.Outside number status) p w own other = absurd own
+other_row site sent (ops.PutFh handle) p w own other = absurd (other.put_fh handle refl)
+other_row site sent ops.PutRootFh p w own other = absurd (other.put_root_fh refl)
+other_row site sent ops.GetFh p w own other = absurd (other.get_fh refl)
+other_row site sent ops.SaveFh p w own other = absurd (other.save_fh refl)
+other_row site sent ops.RestoreFh p w own other = absurd (other.restore_fh refl)
+other_row site sent (ops.Lookup name) p w own other = absurd (other.lookup name refl)
+other_row site sent ops.LookupP p w own other = absurd (other.lookup_parent refl)
+other_row site sent (ops.GetAttr asked) p w own other = absurd (other.get_attr asked refl)
+other_row site sent (ops.Verify given) p w own other = absurd (other.verify given refl)
+other_row site sent (ops.NVerify given) p w own other = absurd (other.nverify given refl)
+other_row site sent (ops.Access bits) p w own other = absurd (other.access bits refl)
+other_row site sent (ops.ReadDir cookie verifier dircount maxcount asked) p w own other = absurd (other.read_dir cookie verifier dircount maxcount asked refl)
+other_row site sent ops.ReadLink p w own other = absurd (other.read_link refl)
+other_row site sent op p w own other = refl
