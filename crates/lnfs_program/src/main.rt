@@ -8,6 +8,8 @@ mod laws;
 #[cfg(test)]
 mod policy_tests;
 #[cfg(test)]
+mod reading_tests;
+#[cfg(test)]
 mod record_tests;
 mod replay;
 #[cfg(test)]

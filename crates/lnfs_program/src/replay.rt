@@ -11,6 +11,7 @@ ghost use Rattle.lnfs_program.specs.Writes.{Does, answer_writes, writes_after};
 
 use crate::status::{Status, Stop};
 use crate::streams::{frame, put, put_line};
+use lnfs_format::Codecs;
 use lnfs_outside::{Event, Sink};
 use lnfs_policy::Policy;
 use lnfs_traffic::{BEGINNING, next_event};
@@ -51,6 +52,7 @@ fn serve_event<K: Sink, A: Sink>(
 /// left behind them.
 fn serve_events<K: Sink, A: Sink>(
     alloc: Global,
+    codecs: &Codecs,
     policy: Policy,
     bytes: &[u8],
     out: &mut K,
@@ -60,7 +62,7 @@ fn serve_events<K: Sink, A: Sink>(
     ensures left { IfOk result (λ left. (left ≡ length (parts_of bytes.now).rest) × (left ≤ length bytes.now)) }
     ensures cause { WritesOnly result (counts (K.write_faults out.old) (A.write_faults audit.old)) (counts (K.write_faults out.new) (A.write_faults audit.new)) }
 {
-    let mut vault = Vault::new(alloc, policy)?;
+    let mut vault = Vault::new(alloc, policy, codecs)?;
     let mut rest = bytes;
     while let Some((event, others)) = next_event(alloc, rest)? {
         serve_event(alloc, &mut vault, event, out, audit)?;
@@ -72,6 +74,7 @@ fn serve_events<K: Sink, A: Sink>(
 /// Replays a recording in a new server.
 pub fn replay<K: Sink, A: Sink>(
     alloc: Global,
+    codecs: &Codecs,
     policy: Policy,
     traffic: &[u8],
     out: &mut K,
@@ -83,7 +86,7 @@ pub fn replay<K: Sink, A: Sink>(
     let Some(body) = traffic.strip_prefix(BEGINNING) else {
         return Ok(Status::TrafficDamaged { at: 0 });
     };
-    let left = serve_events(alloc, policy, body, out, audit)?;
+    let left = serve_events(alloc, codecs, policy, body, out, audit)?;
     if left == 0 {
         Ok(Status::Ok)
     } else {

@@ -54,6 +54,7 @@ fn no_policy(error: PolicyError) -> Result<Status, Stop>
 /// Replays the recording of a name.
 fn replay_file<F: Files, K: Sink, A: Sink>(
     alloc: Global,
+    codecs: &Codecs,
     policy: Policy,
     traffic: &str,
     files: &mut F,
@@ -71,7 +72,7 @@ fn replay_file<F: Files, K: Sink, A: Sink>(
     let Some(bytes) = read_file(alloc, files, traffic)? else {
         return no_file(alloc, traffic);
     };
-    replay(alloc, policy, &bytes, out, audit)
+    replay(alloc, codecs, policy, &bytes, out, audit)
 }
 
 /// Does a task under a policy that was read.
@@ -90,7 +91,7 @@ fn perform<F: Files, K: Sink, A: Sink>(
 {
     match task {
         Task::Check => check(alloc, &policy, out),
-        Task::Replay { traffic } => replay_file(alloc, policy, traffic, files, out, audit),
+        Task::Replay { traffic } => replay_file(alloc, codecs, policy, traffic, files, out, audit),
         Task::Translate {
             source,
             target,

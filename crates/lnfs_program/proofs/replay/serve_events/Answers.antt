@@ -1,10 +1,14 @@
-use Rattle.std.proofs.Common.{length, arith, rules, sym, ap, ◌∙◌}
+use Rattle.std.proofs.Common.{List, length, [], arith, rules, refl, sym, ap, ◌∙◌}
+use Rattle.lnfs_outside.specs.declared.event.Event.{Event}
 use Rattle.lnfs_step.specs.Journal.{answer, audit_at}
-use Rattle.lnfs_traffic.specs.Parts.{Parts}
+use Rattle.lnfs_traffic.specs.Parts.{Parts, parts_of}
+use Rattle.lnfs_vault.specs.Kept.{Kept}
 use Rattle.lnfs_traffic.proofs.Cutting.{cut, left_length}
 use Rattle.lnfs_traffic.proofs.Fronts.{parts_some, parts_none}
 use Rattle.lnfs_program.proofs.Serving.{writes_on, writes_stop, writes_end}
-use Rattle.lnfs_program.proofs.Writing.{does_none, stops_here}
+use Rattle.lnfs_program.specs.Streams.{streams}
+use Rattle.lnfs_program.specs.Writes.{Write, writes_after}
+use Rattle.lnfs_program.proofs.Writing.{does_none, stops_here, takes_none}
 use Rattle.lnfs_program.proofs.replay.serve_events.Goals as goal
 
 pub returns-in_err-vault-clause-does : goal.returns-in_err-vault-clause-does
@@ -12,6 +16,18 @@ returns-in_err-vault-clause-does g c = does_none _ _ (search rules)
 
 pub returns-in_err-event-clause-does : goal.returns-in_err-event-clause-does
 returns-in_err-event-clause-does g c = record { begun = stops_here c.loop-vault.invariant.0; done = search rules }
+
+pub loop-vault-init : goal.loop-vault-init
+loop-vault-init g c =
+    let e = c.in_ok-vault.ensures in
+    let begun = streams (g.K.Sink.taken c.args.out.now) (g.A.Sink.taken c.args.audit.now) in
+    let writes : List Event → List Write = λ journal. writes_after (answer c.args.policy) (audit_at c.args.policy) journal (parts_of c.args.bytes.now).events in (
+      record { part = []; parts = ap writes (sym (ap (λ (v : Kept). v.journal) e)); takes = takes_none begun },
+      ap (λ (v : Kept). v.policy) e,
+      refl,
+      omega arith,
+      record { out = omega arith; audit = omega arith },
+    )
 
 pub serve_event-requires : goal.serve_event-requires
 serve_event-requires g c = record { fits = (cut _ _ _ (rw c.in-Some.is at c.in_ok-event.ensures)).fits }
