@@ -1,9 +1,11 @@
 //! A plain program that answers the recordings of bench/replay as `lnfs replay` does, to compare times with.
 //!
 //! It takes the guests of a policy file, reads a recording whole, keeps every event, and writes the frames of the
-//! replies: to an EXCHANGE_ID or a CREATE_SESSION that stands alone its result; to a SEQUENCE with a RECLAIM_COMPLETE
+//! replies: to an EXCHANGE_ID or a CREATE_SESSION that stands alone its result; to a SEQUENCE with what stands behind it
 //! theirs, which it keeps in the slot for when the request comes again; to any other COMPOUND the refusal of its first
-//! operation. It answers nothing else, checks no more than it must to find its way, and proves nothing.
+//! operation. Behind a SEQUENCE it knows RECLAIM_COMPLETE, PUTROOTFH, LOOKUP, GETATTR and READDIR, of the attributes type,
+//! fileid and sec_label, and of the policy the first directories in the root with labels as CALIPSO bodies. It answers
+//! nothing else, checks no more than it must to find its way, and proves nothing.
 
 use std::collections::BTreeMap;
 use std::io::{BufWriter, Read, Write};
@@ -58,6 +60,75 @@ fn guests(policy: &str) -> Vec<(u32, Option<u32>, u32)> {
     }).collect()
 }
 
+/// A directory: its number in level 0 and the body of its label.
+struct Dir {
+    number: u32,
+    label: Vec<u8>,
+}
+
+/// The body of a label: its DOI, the number of words, the sensitivity, and the words of its compartments.
+fn body(doi: u32, sens: u8, comps: &str) -> Vec<u8> {
+    let mut bits = [0u8; 32];
+    for run in comps.split(',').filter(|run| *run != "-") {
+        let mut ends = run.split('.').map(|c| c[1..].parse::<usize>().unwrap());
+        let first = ends.next().unwrap();
+        for c in first..=ends.next().unwrap_or(first) {
+            bits[c / 8] |= 0x80 >> (c % 8);
+        }
+    }
+    let words = bits.iter().rposition(|b| *b != 0).map_or(0, |at| at / 4 + 1);
+    let mut body = doi.to_be_bytes().to_vec();
+    body.extend([words as u8, sens]);
+    body.extend(&bits[..4 * words]);
+    body
+}
+
+/// The labels of the levels of a policy, and its directories in the root by their names: the root itself has none.
+fn dirs(policy: &str) -> BTreeMap<Vec<u8>, Dir> {
+    let labels: Vec<Vec<u8>> = policy.lines().filter_map(|line| line.strip_prefix("level ")).map(|line| {
+        let words: Vec<&str> = line.split(' ').collect();
+        body(words[1].parse().unwrap(), words[2].parse().unwrap(), words[3])
+    }).collect();
+    let mut dirs = BTreeMap::from([(Vec::new(), Dir { number: 1, label: labels[0].clone() })]);
+    for line in policy.lines().filter_map(|line| line.strip_prefix("dir /")) {
+        let (name, level) = line.split_once(' ').unwrap();
+        let number = dirs.len() as u32 + 1;
+        dirs.insert(name.as_bytes().to_vec(), Dir { number, label: labels[level.parse::<usize>().unwrap()].clone() });
+    }
+    dirs
+}
+
+/// Appends the attributes that are asked of a directory, of those that are known, with their bitmap.
+fn attrs_to(out: &mut Vec<u8>, asked: &[u32], dir: &Dir) {
+    let mut mask = [0u32; 3];
+    for (word, known) in mask.iter_mut().zip([0x0010_0002, 0, 0x0001_0000]) {
+        *word = known;
+    }
+    for (at, word) in mask.iter_mut().enumerate() {
+        *word &= asked.get(at).copied().unwrap_or(0);
+    }
+    let words = mask.iter().rposition(|word| *word != 0).map_or(0, |at| at + 1);
+    out.extend((words as u32).to_be_bytes());
+    for word in &mask[..words] {
+        out.extend(word.to_be_bytes());
+    }
+    let begin = out.len();
+    out.extend([0; 4]);
+    if mask[0] & 2 != 0 {
+        out.extend(2u32.to_be_bytes());
+    }
+    if mask[0] & 0x0010_0000 != 0 {
+        out.extend(u64::from(dir.number).to_be_bytes());
+    }
+    if mask[2] != 0 {
+        out.extend(101u32.to_be_bytes());
+        out.extend(1u32.to_be_bytes());
+        opaque_to(out, &dir.label);
+    }
+    let length = (out.len() - begin - 4) as u32;
+    out[begin..begin + 4].copy_from_slice(&length.to_be_bytes());
+}
+
 fn opaque_to(out: &mut Vec<u8>, bytes: &[u8]) {
     out.extend((bytes.len() as u32).to_be_bytes());
     out.extend(bytes);
@@ -71,6 +142,9 @@ struct Server {
     last: BTreeMap<u32, u32>,
     sessions: BTreeMap<(u32, u64), Vec<Slot>>,
     last_session: BTreeMap<u32, u64>,
+    /// The first directories by their names, the root by none; and the root's names by their cookies.
+    dirs: BTreeMap<Vec<u8>, Dir>,
+    cookies: BTreeMap<u64, Vec<u8>>,
     journal: Vec<Event>,
 }
 
@@ -124,11 +198,11 @@ impl Server {
                 out.extend(u32::to_be_bytes(*word));
             }
         } else if number == 53 {
-            self.sequence(tag, arguments, &mut call, out)?;
+            self.sequence(tag, arguments, count, &mut call, out)?;
         } else {
-            out.extend(10004u32.to_be_bytes());
+            out.extend(10071u32.to_be_bytes());
             opaque_to(out, tag);
-            for word in [1, number, 10004] {
+            for word in [1, number, 10071] {
                 out.extend(u32::to_be_bytes(word));
             }
         }
@@ -145,10 +219,11 @@ impl Server {
         *last
     }
 
-    /// Appends the result of a COMPOUND of SEQUENCE and RECLAIM_COMPLETE, the first time or again.
-    fn sequence(&mut self, tag: &[u8], arguments: &[u8], call: &mut Reader<'_>, out: &mut Vec<u8>) -> Option<()> {
+    /// Appends the result of a COMPOUND behind a SEQUENCE, the first time or again.
+    fn sequence(&mut self, tag: &[u8], arguments: &[u8], count: u32, call: &mut Reader<'_>, out: &mut Vec<u8>) -> Option<()> {
         let id = call.take(16)?;
         let (sequence, at) = (call.word()?, call.word()?);
+        call.take(8)?;
         let level = u32::from_be_bytes(id[..4].try_into().ok()?);
         let slots = self.sessions.get_mut(&(level, u64::from_be_bytes(id[4..12].try_into().ok()?)))?;
         let highest = slots.len() as u32 - 1;
@@ -165,10 +240,52 @@ impl Server {
         let begin = out.len();
         out.extend(0u32.to_be_bytes());
         opaque_to(out, tag);
-        out.extend([0, 0, 0, 2, 0, 0, 0, 53, 0, 0, 0, 0]);
+        out.extend(count.to_be_bytes());
+        out.extend([0, 0, 0, 53, 0, 0, 0, 0]);
         out.extend(id);
-        for word in [sequence, at, highest, highest, 0, 58, 0] {
+        for word in [sequence, at, highest, highest, 0] {
             out.extend(u32::to_be_bytes(word));
+        }
+        let mut current: Option<&Dir> = None;
+        for _ in 1..count {
+            let number = call.word()?;
+            out.extend(number.to_be_bytes());
+            out.extend(0u32.to_be_bytes());
+            match number {
+                58 => {
+                    call.word()?;
+                }
+                24 => current = self.dirs.get([].as_slice()),
+                15 => current = Some(self.dirs.get(call.opaque()?)?),
+                9 => {
+                    let asked: Vec<u32> = (0..call.word()?).map_while(|_| call.word()).collect();
+                    attrs_to(out, &asked, current?);
+                }
+                26 => {
+                    let cookie = u64::from_be_bytes(call.take(8)?.try_into().ok()?);
+                    call.take(12)?;
+                    let size = call.word()? as usize;
+                    let asked: Vec<u32> = (0..call.word()?).map_while(|_| call.word()).collect();
+                    let start = out.len();
+                    out.extend([0; 8]);
+                    let mut eof = 1u32;
+                    for (cookie, name) in self.cookies.range(cookie + 1..) {
+                        let mark = out.len();
+                        out.extend(1u32.to_be_bytes());
+                        out.extend(cookie.to_be_bytes());
+                        opaque_to(out, name);
+                        attrs_to(out, &asked, self.dirs.get(name)?);
+                        if out.len() - start + 8 > size {
+                            out.truncate(mark);
+                            eof = 0;
+                            break;
+                        }
+                    }
+                    out.extend(0u32.to_be_bytes());
+                    out.extend(eof.to_be_bytes());
+                }
+                _ => return None,
+            }
         }
         *slot = Slot { sequence, kept: Some((arguments.to_vec(), out[begin..].to_vec())) };
         Some(())
@@ -187,7 +304,12 @@ impl Server {
 
 fn main() -> std::io::Result<()> {
     let args: Vec<String> = std::env::args().collect();
-    let mut server = Server { guests: guests(&std::fs::read_to_string(&args[1])?), ..Server::default() };
+    let policy = std::fs::read_to_string(&args[1])?;
+    let dirs = dirs(&policy);
+    let mut names: Vec<(u32, Vec<u8>)> = dirs.iter().map(|(name, dir)| (dir.number, name.clone())).collect();
+    names.sort();
+    let cookies = names.into_iter().skip(1).enumerate().map(|(at, (_, name))| (at as u64 + 3, name)).collect();
+    let mut server = Server { guests: guests(&policy), dirs, cookies, ..Server::default() };
     let mut recording = Vec::new();
     std::fs::File::open(&args[2])?.read_to_end(&mut recording)?;
     let mut events = Reader(&recording);
