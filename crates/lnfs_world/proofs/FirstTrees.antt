@@ -1,14 +1,17 @@
 -- The first world has all facts of a world, and nothing but directories.
 use Rattle.std.proofs.Common.{◌≡◌, ℕ, Bool, true, false, cond, ◌||◌, List, [], ◌∷◌, Option, Some, None, refl, ap, ◌∙◌}
-use Rattle.std.specs.Prelude.{◌==◌, option_map}
+use Rattle.std.specs.Prelude.{◌==◌, ◌+◌, option_map}
 use Rattle.std.specs.List.{fold, AllByRecursion}
 use Rattle.lnfs_calipso.specs.Label.{IsPreorderWithBottom}
 use Rattle.lnfs_words.specs.Words.{split, slash}
-use Rattle.lnfs_world.specs.World.{Id, Stored, Node, World, same_id, node_at, directory_at, is_given}
+use Rattle.lnfs_world.specs.World.{Id, Stored, Node, Directory, World, node_order, same_id, node_at, directory_at, is_given}
 use Rattle.lnfs_world.specs.Tree.{Tree, root, has_name}
 use Rattle.lnfs_world.specs.Change.{apply_all}
 use Rattle.lnfs_world.specs.Within.{all_within}
 use Rattle.lnfs_world.specs.Facts.{Facts, NodeFacts}
+use Rattle.lnfs_world.specs.Usage.{bytes_of}
+use Rattle.lnfs_world.proofs.Rows.{all_weaker, all_updated}
+use Rattle.lnfs_world.proofs.Sorted.{all_inserted}
 use Rattle.lnfs_world.proofs.Keys.{id_same}
 use Rattle.lnfs_world.proofs.Seen.{node_at-id}
 use Rattle.lnfs_world.proofs.Seals.{seal}
@@ -109,3 +112,13 @@ pub first_bare : (dom : ℕ → ℕ → Bool) (stored : Option Stored) (dirs : L
 first_bare dom stored dirs = first_keeps dom (λ dir. Unit {0}) IsBare
     (λ w line name n is there within bare. record { clients = bare.clients; sessions = bare.sessions; contexts = bare.contexts; opens = bare.opens; last_clients = bare.last_clients; last_sessions = bare.last_sessions; last_contexts = bare.last_contexts; last_opens = bare.last_opens })
     stored dirs (any_dirs dirs) (record { clients = refl; sessions = refl; contexts = refl; opens = refl; last_clients = refl; last_sessions = refl; last_contexts = refl; last_opens = refl })
+
+-- none but directories, which have no bytes
+abbrev AreDirectories : World → Type 0
+AreDirectories w = AllByRecursion (λ n. n.kind ≡ Directory) w.nodes
+
+pub first_empty : (dom : ℕ → ℕ → Bool) (stored : Option Stored) (dirs : List FirstDir) → AllByRecursion (λ n. bytes_of n n.kind ≡ 0) (first_tree dom stored dirs).nodes
+first_empty dom stored dirs = all_weaker (λ n. n.kind ≡ Directory) (λ n. bytes_of n n.kind ≡ 0) (λ n is. ap (bytes_of n) is) (first_tree dom stored dirs).nodes
+    (first_keeps dom (λ dir. Unit {0}) AreDirectories
+    (λ w line name n is there within are. all_inserted node_order (λ x. x.kind ≡ Directory) _ _ refl (all_updated (λ x. x.kind ≡ Directory) (λ x. same_id n.id x.id) (λ x. record x { inner = record n.inner { cookies = n.inner.cookies + 1 } }) w.nodes (λ x same kind. kind) are))
+    stored dirs (any_dirs dirs) (refl, tt))

@@ -17,9 +17,14 @@ pub mod KeptOpens
 pub mod Kept
 pub mod Tamed
 pub mod Lawfulness
+pub mod Labels
 pub mod Beside
 pub mod Views
 pub mod Seen
+pub mod Parents
+pub mod Usage
+pub mod NewNames
 pub mod Places
 pub mod Alone
+pub mod WholeWalks
 pub mod FirstTrees

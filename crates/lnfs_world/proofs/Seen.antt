@@ -83,7 +83,7 @@ module _ (dom : ℕ → ℕ → Bool) (lattice : IsPreorderWithBottom dom) (leve
   -- ---- names of a node that is seen
 
   module _ (i : Id) (seen : sees dom level w.nodes i ≡ true) where
-    names_seen : AllByRecursion (λ e. same_id i e.node ≡ true → sees dom level w.nodes e.directory ≡ true) w.entries
+    pub names_seen : AllByRecursion (λ e. same_id i e.node ≡ true → sees dom level w.nodes e.directory ≡ true) w.entries
     names_seen = all_weaker _ _ (λ e good same. sees_name dom lattice level w facts i seen e good same) w.entries facts.nodes.fit
 
     pub name_of-seen : name_of (erased dom level w).entries i ≡ name_of w.entries i

@@ -1,13 +1,16 @@
 pub mod Rows
 pub mod World
 pub mod Names
+pub mod Usage
 pub mod Erased
 pub mod Tree
 pub mod Change
 pub mod Facts
 pub mod Within
+pub mod Effects
 pub mod Outcome
 pub mod Tame
+pub mod Labels
 pub mod Lawful
 pub mod Both
 pub mod First

@@ -7,6 +7,13 @@ use Rattle.lnfs_world.specs.Change.{Change, apply_all}
 use Rattle.lnfs_world.specs.Facts.{Facts, has_confirmed}
 use Rattle.lnfs_world.specs.Within.{all_within}
 
+-- What is read of a label as it was given (RFC 7862 section 12.2.4): its level; or that there is no such format, or that the
+-- bytes spell the label of no level in it.
+pub data LabelRead : Type 0 where
+  LevelOf : (level : ℕ) → LabelRead
+  WrongFormat : LabelRead
+  BadLabel : LabelRead
+
 -- What an operation may look at of the policy of its site.
 pub record Site : Type 0 where
   -- dominance of the levels, and how many there are
@@ -19,6 +26,8 @@ pub record Site : Type 0 where
   pub bytes : ℕ → ℕ
   -- the label of each level as the site writes it
   pub spelling : ℕ → Stored
+  -- the level of a label that is given
+  pub reading : Stored → LabelRead
 
 -- Where an operation stands: who asks, and when; the client and the session under which it came, both
 -- numbers of the subject's level; and the two file handles of its COMPOUND (RFC 8881 section 2.2.2).

@@ -1,14 +1,17 @@
 //! The laws of worlds, as contracts of functions that do nothing.
-ghost use Rattle.std.specs.Prelude.{◌≡◌, ◌↔◌, ℕ, suc, Bool, true, false, List, Option, Some, option_map};
+ghost use Rattle.std.specs.Prelude.{◌≡◌, ◌↔◌, ℕ, suc, Bool, true, false, List, length, Option, Some, option_map};
+ghost use Rattle.std.specs.List.{AllByRecursion};
 ghost use Rattle.lnfs_calipso.specs.Label.{IsPreorderWithBottom};
 ghost use Rattle.lnfs_world.specs.World.{Id, Stored, Node, World, node_at, label_at, directory_at};
 ghost use Rattle.lnfs_world.specs.Erased.{erased, sees, shrunk, blank, outer_of, dominates_label};
-ghost use Rattle.lnfs_world.specs.Tree.{Tree, LeadsTo, parent_of, way_up, goes_under};
+ghost use Rattle.lnfs_world.specs.Tree.{Tree, LeadsTo, parent_of, way_up, is_above, goes_under};
 ghost use Rattle.lnfs_world.specs.Change.{Change, apply};
 ghost use Rattle.lnfs_world.specs.Facts.{Facts};
 ghost use Rattle.lnfs_world.specs.Within.{is_within};
 ghost use Rattle.lnfs_world.specs.Tame.{Tame};
+ghost use Rattle.lnfs_world.specs.Labels.{LabelsRise};
 ghost use Rattle.lnfs_world.specs.First.{FirstDir, first_tree};
+ghost use Rattle.lnfs_world.specs.Usage.{bytes_of};
 
 /// What each change comes to that a subject may make.
 pub fn changes()
@@ -23,6 +26,9 @@ pub fn changes()
     ensures facts { (dom : ℕ → ℕ → Bool) → IsPreorderWithBottom dom → (s : ℕ) (c : Change) (w : World) →
         Facts dom w → is_within dom s w c ≡ true → Facts dom (apply c w) }
     ensures tame { (dom : ℕ → ℕ → Bool) (s : ℕ) (c : Change) (w : World) → is_within dom s w c ≡ true → Tame w (apply c w) }
+    // Labels go up alone.
+    ensures labels { (dom : ℕ → ℕ → Bool) → IsPreorderWithBottom dom → (s : ℕ) (c : Change) (w : World) →
+        Facts dom w → is_within dom s w c ≡ true → LabelsRise dom w (apply c w) }
 {}
 
 /// What a level sees is a matter of labels: of a world that was seen by a level above it sees the
@@ -50,10 +56,16 @@ pub fn tree()
     ensures walk { (dom : ℕ → ℕ → Bool) → IsPreorderWithBottom dom → (s : ℕ) (w : World) (moved target : Id) → Facts dom w →
         directory_at w.nodes target ≡ Some true → sees dom s w.nodes target ≡ true →
         (goes_under dom s w moved target ≡ true) ↔ LeadsTo (parent_of w.entries) target moved }
+    // So does a walk of as many steps as there are nodes, to any directory.
+    ensures whole { (dom : ℕ → ℕ → Bool) (w : World) (moved target : Id) → Facts dom w → directory_at w.nodes target ≡ Some true →
+        (is_above (length w.nodes) (parent_of w.entries) moved target ≡ true) ↔ LeadsTo (parent_of w.entries) target moved }
 {}
 
-/// The first world has the facts, whatever directories are to stand.
+/// The first world has the facts, and no bytes, whatever directories are to stand.
 pub fn first()
     ensures facts { (dom : ℕ → ℕ → Bool) → IsPreorderWithBottom dom → (stored : Option Stored) (dirs : List FirstDir) →
         Facts dom (first_tree dom stored dirs) }
+    // No node has bytes.
+    ensures empty { (dom : ℕ → ℕ → Bool) (stored : Option Stored) (dirs : List FirstDir) →
+        AllByRecursion (λ n. bytes_of n n.kind ≡ 0) (first_tree dom stored dirs).nodes }
 {}

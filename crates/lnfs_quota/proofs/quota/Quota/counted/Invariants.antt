@@ -1,0 +1,7 @@
+use Rattle.std.proofs.Common.{take}
+use Rattle.lnfs_quota.proofs.FromHomes.{IsCounted}
+use Rattle.lnfs_quota.proofs.quota.Quota.counted.Given as goal
+
+-- the homes so far are counted
+abbrev pub invariant-loop-home : goal.invariant-loop-home
+invariant-loop-home l = IsCounted l.fn.limits (take l.home-index l.homes) l.quota

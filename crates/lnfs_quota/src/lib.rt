@@ -1,0 +1,16 @@
+//! What each level uses of its limits, kept as totals.
+//!
+//! A level is charged a node where it is the node's home, and a file's bytes where it is the file's label.
+//! `specs/Quota.antt` says what each call does to a level's totals, and `specs/Totals.antt` that they are the usage of a
+//! world's nodes; the laws say which calls keep that under which change of the world.
+#![tactic(auto)]
+
+mod counted;
+mod laws;
+mod quota;
+
+pub use laws::{totals, usage};
+pub use quota::{Quota, QuotaError, Row};
+
+#[cfg(test)]
+mod tests;

@@ -1,0 +1,160 @@
+//! Totals, level by level, against limits.
+ghost use Rattle.std.specs.Prelude.{◌≡◌, ◌+◌, ◌-◌, ◌^◌, ◌<◌, ◌≤◌, length, map, nat_lt, IfOk};
+ghost use Rattle.lnfs_quota.specs.Quota.{row_at, unused, node_room, byte_room, node_charged, node_credited, resized, moved};
+
+use lnfs_calipso::Level;
+use std::alloc::{AllocError, Global};
+use std::marker::Model;
+
+/// Why there is no room.
+#[derive(Clone, Copy, Debug, PartialEq, Eq)]
+pub enum QuotaError {
+    /// The level has as many nodes as it may have.
+    NoSpc,
+    /// The bytes would pass the level's limit.
+    DQuot,
+}
+
+/// A level's limits, and what it uses of them.
+#[derive(Clone, Copy, Debug, PartialEq, Eq)]
+pub struct Row {
+    /// The most nodes.
+    pub node_limit: u64,
+    /// The most bytes.
+    pub byte_limit: u64,
+    /// The nodes whose home the level is.
+    pub nodes: u64,
+    /// The bytes of the files whose label the level is.
+    pub bytes: u64,
+}
+
+/// What each level uses, in the order of levels. Its value is their rows.
+#[derive(Drop)]
+pub struct Quota {
+    rows: Vec<Row>,
+}
+
+impl Model for Quota {
+    ghost use Rattle.std.specs.Prelude.{List};
+    ghost use Rattle.lnfs_quota.specs.declared.quota.Row.{Row};
+
+    ghost Value = { List Row };
+
+    ghost view = { λ q. q.rows.items };
+}
+
+impl Quota {
+    /// Nothing is used yet. The limits of each level are its most nodes and its most bytes.
+    ///
+    /// # Errors
+    ///
+    /// `AllocError` where there is no memory.
+    pub fn new(alloc: Global, limits: &[(u64, u64)]) -> Result<Quota, AllocError>
+        ensures { IfOk result (λ quota. quota ≡ map unused limits.now) }
+    {
+        let mut rows = Vec::new(alloc);
+        for limit in limits {
+            rows.push(Row {
+                node_limit: limit.0,
+                byte_limit: limit.1,
+                nodes: 0,
+                bytes: 0,
+            })?;
+        }
+        Ok(Quota { rows })
+    }
+
+    /// Whether a level is one of those that are counted.
+    pub fn knows(&self, level: Level) -> bool
+        ensures { result ≡ nat_lt level.0 (length self.now) }
+    {
+        (level.0 as usize) < self.rows.len()
+    }
+
+    /// What a level uses: nodes, then bytes.
+    pub fn used(&self, level: Level) -> (u64, u64)
+        requires { level.0 < length self.now }
+        ensures nodes { result.0 ≡ (row_at self.now level.0).nodes }
+        ensures bytes { result.1 ≡ (row_at self.now level.0).bytes }
+    {
+        let row = &self.rows[level.0 as usize];
+        (row.nodes, row.bytes)
+    }
+
+    /// Whether a level has room for one more node.
+    ///
+    /// # Errors
+    ///
+    /// `NoSpc` where the nodes that it uses are at its limit or above.
+    pub fn room_node(&self, level: Level) -> Result<(), QuotaError>
+        requires { level.0 < length self.now }
+        ensures { result ≡ node_room (row_at self.now level.0) }
+    {
+        let row = &self.rows[level.0 as usize];
+        if row.nodes < row.node_limit {
+            Ok(())
+        } else {
+            Err(QuotaError::NoSpc)
+        }
+    }
+
+    /// Whether a level has room for a file of it to go from `old` bytes to `new`. There always is for a file that doesn't
+    /// grow, above the limit too.
+    ///
+    /// # Errors
+    ///
+    /// `DQuot` where the file grows, and the level's bytes would then pass its limit.
+    pub fn room_bytes(&self, level: Level, old: u64, new: u64) -> Result<(), QuotaError>
+        requires known { level.0 < length self.now }
+        requires held { old ≤ (row_at self.now level.0).bytes }
+        ensures { result ≡ byte_room (row_at self.now level.0) old new }
+    {
+        let row = &self.rows[level.0 as usize];
+        let others = row.bytes - old;
+        if new > old && (others > row.byte_limit || new > row.byte_limit - others) {
+            return Err(QuotaError::DQuot);
+        }
+        Ok(())
+    }
+
+    /// One more node whose home a level is.
+    pub fn charge_node(&mut self, level: Level)
+        requires known { level.0 < length self.old }
+        requires fits { (row_at self.old level.0).nodes + 1 < 2 ^ 63 }
+        ensures { self.new ≡ node_charged self.old level.0 }
+    {
+        self.rows[level.0 as usize].nodes += 1;
+    }
+
+    /// One node less whose home a level is.
+    pub fn credit_node(&mut self, level: Level)
+        requires known { level.0 < length self.old }
+        requires held { 0 < (row_at self.old level.0).nodes }
+        ensures { self.new ≡ node_credited self.old level.0 }
+    {
+        self.rows[level.0 as usize].nodes -= 1;
+    }
+
+    /// A file of a level goes from `old` bytes to `new`.
+    pub fn resize(&mut self, level: Level, old: u64, new: u64)
+        requires known { level.0 < length self.old }
+        requires held { old ≤ (row_at self.old level.0).bytes }
+        requires fits { (row_at self.old level.0).bytes - old + new < 2 ^ 63 }
+        ensures { self.new ≡ resized self.old level.0 old new }
+    {
+        let row = &mut self.rows[level.0 as usize];
+        row.bytes = row.bytes - old + new;
+    }
+
+    /// The bytes of a file go from one level to another, which takes them whatever its limit. Both may be the same level.
+    pub fn move_up(&mut self, from: Level, to: Level, bytes: u64)
+        requires from_known { from.0 < length self.old }
+        requires to_known { to.0 < length self.old }
+        requires held { bytes ≤ (row_at self.old from.0).bytes }
+        requires fits { (row_at self.old to.0).bytes + bytes < 2 ^ 63 }
+        ensures { self.new ≡ moved self.old from.0 to.0 bytes }
+    {
+        self.rows[from.0 as usize].bytes -= bytes;
+        self.rows[to.0 as usize].bytes += bytes;
+    }
+}
