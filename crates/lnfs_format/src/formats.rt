@@ -150,6 +150,13 @@ impl Formats {
         Ok(())
     }
 
+    /// The formats, in order.
+    pub fn as_slice(&self) -> &[FormatEntry]
+        ensures { result.now ≡ self.now }
+    {
+        &self.entries
+    }
+
     /// The first format.
     pub fn first(&self) -> Option<&FormatEntry>
         ensures { option_copied result ≡ slice_get self.now 0 }

@@ -1,2 +1,3 @@
 pub mod FirstWorlds
 pub mod Spelled
+pub mod Readings

@@ -1,3 +1,4 @@
 pub mod Site
 pub mod Labels
 pub mod Example
+pub mod Reading

@@ -1,7 +1,10 @@
 -- What operations look at of a policy, and the world that stands before all events.
-use Rattle.std.specs.Prelude.{ℕ, Bool, true, false, cond, List, [], length, Option, Some, None, map, slice_get, nat_le}
+use Rattle.std.specs.Prelude.{ℕ, Bool, true, false, cond, List, [], length, Option, Some, None, Result, Ok, Err, map, slice_get, nat_le}
 use Rattle.lnfs_calipso.specs.Label.{label_at}
 use Rattle.lnfs_format.specs.Kinds.{writes}
+use Rattle.lnfs_format.specs.LevelRead.{level_read}
+use Rattle.lnfs_format.specs.declared.formats.ReadError.{ReadError}
+use Rattle.lnfs_format.specs.declared.formats.ReadError.TheVariants as errors
 use Rattle.lnfs_format.specs.declared.formats.TheConstants.{MAX_SPELLING}
 use Rattle.lnfs_format.specs.declared.formats.FormatEntry.{FormatEntry}
 use Rattle.lnfs_policy.specs.Policy.{Policy, dominance, limit_of}
@@ -10,7 +13,7 @@ use Rattle.lnfs_policy.specs.declared.mode.Mode.TheVariants.{Enforcing, Limited}
 use Rattle.lnfs_policy.specs.declared.rows.DirLine.{DirLine}
 use Rattle.lnfs_world.specs.World.{Stored, World}
 use Rattle.lnfs_world.specs.First.{FirstDir, first_tree}
-use Rattle.lnfs_world.specs.Outcome.{Site}
+use Rattle.lnfs_world.specs.Outcome.{LabelRead, LevelOf, WrongFormat, BadLabel, Site}
 
 abbrev pub is_limited : Mode → Bool
 is_limited Enforcing = false
@@ -35,6 +38,19 @@ spelled_in p level (Some entry) = spelled_as entry (writes entry.kind (label_at 
 unfoldable pub spelling : Policy → (level : ℕ) → Stored
 spelling p level = spelled_in p level (slice_get p.formats 0)
 
+-- The level of a label in any format of the site. Where labels are carried alone, every label is taken that isn't too long.
+abbrev pub told_by : Result ℕ ReadError → LabelRead
+told_by (Ok level) = LevelOf level
+told_by (Err errors.WrongLfs) = WrongFormat
+told_by (Err errors.BadLabel) = BadLabel
+told_by (Err errors.Memory) = BadLabel
+
+abbrev pub carried : Stored → LabelRead
+carried s = cond (nat_le (length s.bytes) MAX_SPELLING) (LevelOf 0) BadLabel
+
+abbrev pub reading : Policy → Stored → LabelRead
+reading p s = cond (is_limited p.mode) (carried s) (told_by (level_read p.formats p.labels s.lfs s.pi s.bytes))
+
 -- ---- what operations look at
 
 abbrev pub site_of : Policy → Site
@@ -45,6 +61,7 @@ site_of p = record {
   nodes = λ level. (limit_of p level).nodes;
   bytes = λ level. (limit_of p level).bytes;
   spelling = spelling p;
+  reading = reading p;
 }
 
 -- ---- the first world

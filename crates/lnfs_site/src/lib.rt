@@ -4,11 +4,14 @@
 mod example;
 mod first;
 mod labels;
+mod reading;
 mod site;
+mod table;
 
 pub use example::first_world_of_four_lines;
 pub use first::{first_dirs, first_tree, root_label};
 pub use labels::Labels;
+pub use reading::LabelRead;
 pub use site::Site;
 
 #[cfg(test)]

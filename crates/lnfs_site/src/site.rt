@@ -4,9 +4,12 @@ ghost use Rattle.lnfs_tree.specs.Rows.{stored_of};
 ghost use Rattle.lnfs_monitor.specs.Questions.{asked, verdict};
 ghost use Rattle.lnfs_site.specs.Site.{site_of};
 ghost use Rattle.lnfs_site.specs.Labels.{spellings};
+ghost use Rattle.lnfs_site.specs.Reading.{read_of};
 
 use crate::labels::Labels;
+use crate::reading::LabelRead;
 use lnfs_calipso::Level;
+use lnfs_format::MAX_SPELLING;
 use lnfs_monitor::{Question, Verdict, dominates, judge};
 use lnfs_policy::{Mode, Policy};
 use lnfs_tree::Stored;
@@ -94,5 +97,24 @@ impl<'a> Site<'a> {
         ensures { stored_of result.now ≡ (site_of self.now).spelling level.0 }
     {
         self.labels.get(level)
+    }
+
+    /// The level of a label as it was given, in any format of the policy. Where labels are carried alone, any label of at
+    /// most 1,024 bytes is level 0. Takes no memory.
+    pub fn read_label(&self, lfs: u32, pi: u32, bytes: &[u8]) -> LabelRead
+        ensures { read_of result ≡ (site_of self.now).reading (record { lfs = lfs; pi = pi; bytes = bytes.now }) }
+    {
+        if self.is_limited() {
+            return if bytes.len() <= MAX_SPELLING {
+                LabelRead::LevelOf(Level(0))
+            } else {
+                LabelRead::BadLabel
+            };
+        }
+        // Each format reads what it writes, and nothing else.
+        self.policy.is_policy();
+        lnfs_policy::laws::site();
+        lnfs_format::laws::formats();
+        self.labels.read(lfs, pi, bytes)
     }
 }

@@ -3,7 +3,7 @@ ghost use Rattle.std.specs.Prelude.{◌≡◌, IfOk};
 ghost use Rattle.std.specs.Option.{option_map};
 ghost use Rattle.lnfs_format.specs.Kinds.{reads, writes};
 
-use crate::{Labels, Site, first_dirs, root_label};
+use crate::{LabelRead, Labels, Site, first_dirs, root_label};
 use lnfs_calipso::{Label, Level};
 use lnfs_format::{Codec, Codecs, Kind, read_kind, write_kind};
 use lnfs_monitor::{Question, Rule, Verdict};
@@ -65,6 +65,44 @@ fn expect_labels(rt: &impl Abort, site: &Site<'_>) {
     }
 }
 
+/// What is read of labels in both formats, and of what is no label in them.
+const READ: &[(u32, u32, &[u8], LabelRead)] = &[
+    (101, 1, BOTTOM, LabelRead::LevelOf(Level(0))),
+    (101, 1, TOP, LabelRead::LevelOf(Level(3))),
+    (102, 1, b"s0", LabelRead::LevelOf(Level(0))),
+    (102, 1, b"s1:c1", LabelRead::LevelOf(Level(2))),
+    (102, 1, b"s3:c0.c2,c5", LabelRead::LevelOf(Level(3))),
+    // A label of no level, another spelling, and a spelling in the other format.
+    (102, 1, b"s2", LabelRead::BadLabel),
+    (102, 1, b"s3:c0,c1,c2,c5", LabelRead::BadLabel),
+    (101, 1, b"s0", LabelRead::BadLabel),
+    (102, 1, b"", LabelRead::BadLabel),
+    (103, 1, b"s0", LabelRead::WrongFormat),
+    (102, 2, b"s0", LabelRead::WrongFormat),
+];
+
+fn expect_read(rt: &impl Abort, site: &Site<'_>) {
+    for (lfs, pi, bytes, read) in READ {
+        assert_eq!(rt; site.read_label(*lfs, *pi, bytes), *read);
+    }
+}
+
+/// Where labels are carried alone, every label is taken that isn't too long.
+fn expect_carried(rt: &impl Abort, site: &Site<'_>) {
+    for (lfs, pi, bytes, _) in READ {
+        assert_eq!(rt;
+            site.read_label(*lfs, *pi, bytes),
+            LabelRead::LevelOf(Level(0))
+        );
+    }
+    let long = [0; 1_025];
+    assert_eq!(rt; site.read_label(101, 1, &long), LabelRead::BadLabel);
+    assert_eq!(rt;
+        site.read_label(9, 9, &long[..1_024]),
+        LabelRead::LevelOf(Level(0))
+    );
+}
+
 /// The paths, and the level and the bytes that the second directory bears.
 fn expect_dirs(
     rt: &impl Abort,
@@ -97,8 +135,10 @@ fn what_operations_look_at(rt: HostRuntime) -> Result<(), Fail> {
         expect_labels(&rt, &site);
         assert_eq!(rt; root_label(alloc, &site)?.is_some(), limited);
         if limited {
+            expect_carried(&rt, &site);
             expect_dirs(&rt, alloc, &site, 0, Some(TOP))?;
         } else {
+            expect_read(&rt, &site);
             expect_dirs(&rt, alloc, &site, 3, None)?;
         }
     }

@@ -1,7 +1,7 @@
 use Rattle.lnfs_tree.specs.Rows.{stored_of}
 use Rattle.lnfs_site.specs.Site.{spelling}
 use Rattle.lnfs_site.proofs.Spelled.{one_more}
-use Rattle.lnfs_site.proofs.labels.Labels.new.Goals as goal
+use Rattle.lnfs_site.proofs.labels.written.Goals as goal
 
 pub loop-number-preserved : goal.loop-number-preserved
 loop-number-preserved g c =

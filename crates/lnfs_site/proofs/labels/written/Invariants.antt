@@ -2,7 +2,7 @@ use Rattle.std.proofs.Common.{◌≡◌, map}
 use Rattle.std.specs.List.{range_with_len}
 use Rattle.lnfs_tree.specs.Rows.{stored_of}
 use Rattle.lnfs_site.specs.Site.{spelling}
-use Rattle.lnfs_site.proofs.labels.Labels.new.Given as goal
+use Rattle.lnfs_site.proofs.labels.written.Given as goal
 
 -- the labels of the levels so far
 abbrev pub invariant-loop-number : goal.invariant-loop-number
