@@ -38,7 +38,7 @@ not_after : (n : Node) (ns : List Node) → AllByRecursion (λ m. node_order n m
 not_after n ns less = all_weaker _ _ (λ m lt. same_id_is n.id m.id ∙ ap is_eq lt) ns less
 
 -- the entries behind a directory's own are of others
-others_after : (d : Id) (n : Node) (ns : List Node) → same_id d (id_of n.id) ≡ true → AllByRecursion (λ m. node_order n m ≡ Less) ns → AllByRecursion (λ e. same_id d e.directory ≡ false) (entries_in ns)
+pub others_after : (d : Id) (n : Node) (ns : List Node) → same_id d (id_of n.id) ≡ true → AllByRecursion (λ m. node_order n m ≡ Less) ns → AllByRecursion (λ e. same_id d e.directory ≡ false) (entries_in ns)
 others_after d n ns same less = all_weaker _ _ (λ e differ. ap (λ (j : Id). same_id j e.directory) (id_same d (id_of n.id) same) ∙ differ) (entries_in ns) (all_entries (λ j. same_id (id_of n.id) j ≡ false) ns (not_after n ns less))
 
 find-own : (d i : Id) (p : NameRow → Bool) (xs : List Entry) → same_id d i ≡ true → find (λ e. same_id d e.directory && p e) (map (row_of_entry i) xs) ≡ option_map (row_of_entry i) (find (λ x. p (row_of_entry i x)) xs)

@@ -97,7 +97,7 @@ module _ {K : Type 0} where
       both : (x : K) → is_eq (slice_cmp nat_cmp q (items k)) ≡ true → is_eq (slice_cmp nat_cmp q (items x)) ≡ true → slice_cmp nat_cmp (items k) (items x) ≡ Equal
       both x a b = is_equal _ (grind (arith, same_bytes_is q (items k), same_bytes_is q (items x), bytes_tied q (items k), bytes_tied q (items x), bytes_self q, same_bytes_is q q))
 
-  index-removed : (items : K → List ℕ) (es now : List (K × Place)) (n q : List ℕ) → now ≡ remove_entry (λ x. is_eq (slice_cmp nat_cmp n (items x))) es → lookup (λ x. is_eq (slice_cmp nat_cmp n (items x))) now ≡ None → lookup (λ x. is_eq (slice_cmp nat_cmp q (items x))) now ≡ cond (same_bytes n q) None (lookup (λ x. is_eq (slice_cmp nat_cmp q (items x))) es)
+  pub index-removed : (items : K → List ℕ) (es now : List (K × Place)) (n q : List ℕ) → now ≡ remove_entry (λ x. is_eq (slice_cmp nat_cmp n (items x))) es → lookup (λ x. is_eq (slice_cmp nat_cmp n (items x))) now ≡ None → lookup (λ x. is_eq (slice_cmp nat_cmp q (items x))) now ≡ cond (same_bytes n q) None (lookup (λ x. is_eq (slice_cmp nat_cmp q (items x))) es)
   index-removed items es now n q is none = at (same_bytes n q) refl
     where
       apart : same_bytes n q ≡ false → (x : K) → is_eq (slice_cmp nat_cmp n (items x)) ≡ true → is_eq (slice_cmp nat_cmp q (items x)) ≡ false

@@ -28,7 +28,7 @@ use Rattle.lnfs_tree.specs.Flat.{row_of, entries_in, rows_in}
 use Rattle.lnfs_tree.specs.Places.{world_of, may_take, IsPlaceFor}
 use Rattle.lnfs_tree.proofs.Flat.{node_at-rows, find-entries, in_node}
 
-any_same : {X : Type 0} (p q : X → Bool) (xs : List X) → AllByRecursion (λ x. p x ≡ q x) xs → list_any p xs ≡ list_any q xs
+pub any_same : {X : Type 0} (p q : X → Bool) (xs : List X) → AllByRecursion (λ x. p x ≡ q x) xs → list_any p xs ≡ list_any q xs
 any_same p q [] all = refl
 any_same p q (x ∷ xs) all = grind (arith, all.0, any_same p q xs all.1)
 

@@ -52,7 +52,7 @@ module _ (ns : List Node) (lasts : List (Level × ℕ)) (i : Id) where
 
 -- ---- what a node tells
 module _ (ns : List Node) (rising : Rising node_order ns) (tree : IsTree ns) where
-  size_is : (n : Node) (k : Kind) → node_at ns (id_of n.id) ≡ Some n → size_in n k ≡ size_of (entries_in ns) (row_of n) k
+  pub size_is : (n : Node) (k : Kind) → node_at ns (id_of n.id) ≡ Some n → size_in n k ≡ size_of (entries_in ns) (row_of n) k
   size_is n File found = refl
   size_is n Directory found = sym (count-entries (id_of n.id) ns rising ∙ ap names_held found)
   size_is n SymbolicLink found = refl

@@ -29,11 +29,11 @@ use Rattle.lnfs_tree.specs.declared.store.Node.{Node}
 use Rattle.lnfs_tree.specs.Rows.{Rows, rows_of, id_of, row_of_entry}
 use Rattle.lnfs_tree.specs.Listed.{name_at}
 use Rattle.lnfs_tree.specs.Held.{is_node, node_at, node_order, with_name, IsOpenTo}
-use Rattle.lnfs_tree.specs.Flat.{row_of, entries_in, last_row, rows_in, links_at, KeepsParent, IsTree}
+use Rattle.lnfs_tree.specs.Flat.{row_of, entries_in, level_cmp, last_row, rows_in, links_at, KeepsParent, IsTree}
 use Rattle.lnfs_tree.specs.Places.{world_of, IsPlaceFor}
 use Rattle.lnfs_tree.proofs.Flat.{node_at-rows, found_id, find-entries, in_node, count-none}
 use Rattle.lnfs_tree.proofs.Added.{rows-inserted, node_at-inserted, entries-empty, row, named, node_at-named, rows-named, entries-named, count-inserted}
-use Rattle.lnfs_tree.proofs.LastNumbers.{level_cmp, last_set}
+use Rattle.lnfs_tree.proofs.LastNumbers.{last_set}
 use Rattle.lnfs_tree.proofs.Lines.{key_free}
 
 -- what is known where it is made: the nodes, the directory and its name there, the new identifier
@@ -58,7 +58,7 @@ making dom ns lasts i name n number t is rising tree facts found free next = rec
   number = next;
 }
 
-all_own : (P : NameRow → Type 0) (i : Id) (n : Node) (ns : List Node) → AllByRecursion P (entries_in ns) → node_at ns i ≡ Some n → AllByRecursion (λ x. P (row_of_entry (id_of n.id) x)) n.names
+pub all_own : (P : NameRow → Type 0) (i : Id) (n : Node) (ns : List Node) → AllByRecursion P (entries_in ns) → node_at ns i ≡ Some n → AllByRecursion (λ x. P (row_of_entry (id_of n.id) x)) n.names
 all_own P i n [] all found = absurd (cc)
 all_own P i n (m ∷ ns) all found = at (is_node i m) found (λ u. all_own P i n ns (back (map (row_of_entry (id_of m.id)) m.names) all) u)
   where

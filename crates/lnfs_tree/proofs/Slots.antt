@@ -64,11 +64,11 @@ held_rise s (e ∷ es) all sorted = at (get s e.1) all.0 (held_rise s es all.1 (
     at (Some n) id rest = (all_held (λ k. id_cmp n.id k ≡ Less) s es all.1 (all_keys _ es (subst (λ (k : NodeId). AllByRecursion (λ y. id_cmp k y ≡ Less) (keys_of es)) (sym id) (sorted_head id_cmp e.0 (keys_of es) sorted))), rest)
 
 -- ---- slots that change where no entry looks
-held-same : (s t : Slab Node) (es : List (NodeId × ℕ)) → AllByRecursion (λ e. get t e.1 ≡ get s e.1) es → held t es ≡ held s es
+pub held-same : (s t : Slab Node) (es : List (NodeId × ℕ)) → AllByRecursion (λ e. get t e.1 ≡ get s e.1) es → held t es ≡ held s es
 held-same s t [] all = refl
 held-same s t (e ∷ es) all = ap (λ (o : Option Node). cons_some o (held t es)) all.0 ∙ ap (cons_some (get s e.1)) (held-same s t es all.1)
 
-are_held-same : (s t : Slab Node) (es : List (NodeId × ℕ)) → AllByRecursion (λ e. get t e.1 ≡ get s e.1) es → AreHeld s es → AreHeld t es
+pub are_held-same : (s t : Slab Node) (es : List (NodeId × ℕ)) → AllByRecursion (λ e. get t e.1 ≡ get s e.1) es → AreHeld s es → AreHeld t es
 are_held-same s t [] same all = tt
 are_held-same s t (e ∷ es) same all = (subst (λ (o : Option Node). IsSomeAnd o (λ n. n.id ≡ e.0)) (sym same.0) all.0, are_held-same s t es same.1 all.1)
 
@@ -85,7 +85,7 @@ apart_vacant s t k o vacant updates (e ∷ es) all = (updates.others e.1 (differ
         some_none e = cc
 
 -- nor is a slot of a node with another number
-apart_other : (s t : Slab Node) (k : ℕ) (i : NodeId) (node : Node) (o : Option Node) → get s k ≡ Some node → node.id ≡ i → Updates s t k o → (es : List (NodeId × ℕ)) → AreHeld s es → AllByRecursion (λ e. is_eq (id_cmp i e.0) ≡ false) es → AllByRecursion (λ e. get t e.1 ≡ get s e.1) es
+pub apart_other : (s t : Slab Node) (k : ℕ) (i : NodeId) (node : Node) (o : Option Node) → get s k ≡ Some node → node.id ≡ i → Updates s t k o → (es : List (NodeId × ℕ)) → AreHeld s es → AllByRecursion (λ e. is_eq (id_cmp i e.0) ≡ false) es → AllByRecursion (λ e. get t e.1 ≡ get s e.1) es
 apart_other s t k i node o here is_i updates [] all others = tt
 apart_other s t k i node o here is_i updates (e ∷ es) all others = (updates.others e.1 (differs (get s e.1) refl all.0 others.0), apart_other s t k i node o here is_i updates es all.1 others.1)
   where
@@ -97,7 +97,7 @@ apart_other s t k i node o here is_i updates (e ∷ es) all others = (updates.ot
         clash same = grind (arith, is, here, same, id, is_i, other, id_self i)
 
 -- what a look-up leaves out
-none_tied : (i : NodeId) (es : List (NodeId × ℕ)) → lookup (λ k. is_eq (id_cmp i k)) es ≡ None → AllByRecursion (λ e. is_eq (id_cmp i e.0) ≡ false) es
+pub none_tied : (i : NodeId) (es : List (NodeId × ℕ)) → lookup (λ k. is_eq (id_cmp i k)) es ≡ None → AllByRecursion (λ e. is_eq (id_cmp i e.0) ≡ false) es
 none_tied i [] none = tt
 none_tied i (e ∷ es) none = (grind arith, none_tied i es (grind arith))
 
@@ -138,7 +138,7 @@ went_in s t k node es now w =
     )
 
 -- the slot that the index names has the node
-node_there : (i : NodeId) (k : ℕ) (s : Slab Node) (es : List (NodeId × ℕ)) → AreHeld s es → lookup (λ x. is_eq (id_cmp i x)) es ≡ Some k → IsSomeAnd (get s k) (λ n. n.id ≡ i)
+pub node_there : (i : NodeId) (k : ℕ) (s : Slab Node) (es : List (NodeId × ℕ)) → AreHeld s es → lookup (λ x. is_eq (id_cmp i x)) es ≡ Some k → IsSomeAnd (get s k) (λ n. n.id ≡ i)
 node_there i k s [] all is = absurd (cc)
 node_there i k s (e ∷ es) all is = at (id_cmp i e.0) refl (λ u. node_there i k s es all.1 u) is
   where

@@ -1,5 +1,8 @@
 -- The rows of a tree from its nodes.
 use Rattle.std.specs.Prelude.{◌≡◌, ℕ, true, List, [], ◌∷◌, ◌++◌, length, map, Option, Some, None, option_map}
+use Rattle.std.specs.Ordering.{nat_cmp, is_eq}
+use Rattle.std.specs.declared.cmp.Ordering.{Ordering}
+use Rattle.std.specs.Map.{lookup}
 use Rattle.lnfs_calipso.specs.declared.Level.{Level}
 use Rattle.lnfs_world.specs.World.{Id, Kind, Directory, Node as NodeRow, Entry as NameRow, is_directory}
 use Rattle.lnfs_world.specs.Names.{names_of}
@@ -33,6 +36,13 @@ entries_in (n ∷ ns) = map (row_of_entry (id_of n.id)) n.names ++ entries_in ns
 
 abbrev pub last_row : Level × ℕ → Id
 last_row last = record { level = last.0.0; number = last.1 }
+
+abbrev pub level_cmp : Level → Level → Ordering
+level_cmp a b = nat_cmp a.0 b.0
+
+-- the last number that a level gave, where it gave one
+abbrev pub last_given : Level → List (Level × ℕ) → Option ℕ
+last_given home lasts = lookup (λ k. is_eq (level_cmp home k)) lasts
 
 abbrev pub rows_in : List Node → List (Level × ℕ) → Rows
 rows_in ns lasts = record { nodes = map row_of ns; entries = entries_in ns; lasts = map last_row lasts }

@@ -1,17 +1,20 @@
 -- The nodes that the slots hold, in the order of the index.
-use Rattle.std.specs.Prelude.{◌≡◌, ◌<◌, ◌+◌, ℕ, Bool, List, [], ◌∷◌, Option, Some, None, Result, Ok, Err, IsSomeAnd, if◌then◌else◌}
-use Rattle.std.specs.List.{AllByRecursion, find}
+use Rattle.std.specs.Prelude.{◌≡◌, ◌<◌, ◌+◌, ◌-◌, not, cond, nat_lt, ℕ, Bool, List, [], ◌∷◌, Option, Some, None, Result, Ok, Err, IsSomeAnd, if◌then◌else◌}
+use Rattle.std.specs.List.{AllByRecursion, find, filter}
 use Rattle.std.specs.declared.cmp.Ordering.{Ordering}
 use Rattle.slab.specs.Slab.{Slab, get}
 use Rattle.lnfs_outside.specs.declared.event.Moment.{Moment}
-use Rattle.lnfs_world.specs.Rows.{inserted}
+use Rattle.lnfs_world.specs.Rows.{inserted, updated}
 use Rattle.lnfs_world.specs.World.{Id, id_order, same_id, is_directory}
+use Rattle.lnfs_world.specs.Effects.{stepped}
 use Rattle.lnfs_tree.specs.declared.node.NodeId.{NodeId}
 use Rattle.lnfs_tree.specs.declared.node.TreeError.{TreeError}
 use Rattle.lnfs_tree.specs.declared.node.TreeError.TheVariants.{Stale, NotDir}
+use Rattle.lnfs_tree.specs.declared.setting.Setting.{Setting}
+use Rattle.lnfs_tree.specs.declared.setting.Setting.TheVariants as settings
 use Rattle.lnfs_tree.specs.declared.store.Node.{Node}
 use Rattle.lnfs_tree.specs.Rows.{id_of, kind_of}
-use Rattle.lnfs_tree.specs.Listed.{name_at, name_order}
+use Rattle.lnfs_tree.specs.Listed.{name_at, name_order, without_name}
 
 abbrev pub id_cmp : NodeId → NodeId → Ordering
 id_cmp a b = id_order (id_of a) (id_of b)
@@ -52,5 +55,58 @@ pub record IsOpenTo (nodes : List Node) (i : Id) (cookie : ℕ) (name : List ℕ
 abbrev pub with_name : ℕ → List ℕ → NodeId → Node → Node
 with_name cookie name child n = record n { cookies = cookie + 1; names = inserted name_order (record { cookie = cookie; name = name; node = child }) n.names }
 
+abbrev pub without : List ℕ → Node → Node
+without name n = record n { names = without_name name n.names }
+
+-- a directory has given no cookie from one on
+pub record HasCookie (nodes : List Node) (i : Id) (cookie : ℕ) : Type 0 where
+  pub node : Node
+  pub found : node_at nodes i ≡ Some node
+  pub above : AllByRecursion (λ x. x.cookie < cookie) node.names
+
+-- a name in place of one that is the same
+abbrev pub with_put : ℕ → List ℕ → NodeId → Node → Node
+with_put cookie name child n = with_name cookie name child (without name n)
+
+abbrev pub with_links : ℕ → Node → Node
+with_links links n = record n { links = links }
+
+abbrev pub with_parent : NodeId → Node → Node
+with_parent parent n = record n { parent = Some parent }
+
 abbrev pub with_access : Moment → Node → Node
 with_access at n = record n { access = at }
+
+-- a node whose attributes changed, and a directory whose names did
+abbrev pub with_step : Moment → Node → Node
+with_step at n = record n { change = stepped n.change; metadata = at }
+
+abbrev pub with_names_step : Moment → Node → Node
+with_names_step at n = record n { change = stepped n.change; metadata = at; modify = at }
+
+abbrev pub with_set : Setting → Node → Node
+with_set (settings.Mode mode) n = record n { mode = mode }
+with_set (settings.Stored stored) n = record n { stored = Some stored }
+with_set (settings.Label label) n = record n { label = label }
+
+abbrev pub with_setting : Setting → Moment → Node → Node
+with_setting s at n = with_step at (with_set s n)
+
+abbrev pub stepped_from : (from to : Id) → Moment → List Node → List Node
+stepped_from from to at nodes = cond (same_id from to) nodes (updated (is_node from) (with_names_step at) nodes)
+
+-- the nodes after a name moved from one directory to another, which are touched once each
+abbrev pub moved_nodes : (from to : Id) → (old new : List ℕ) → (cookie : ℕ) (at : Moment) → (target child : NodeId) → List Node → List Node
+moved_nodes from to old new cookie at target child nodes =
+    updated (is_node to) (with_names_step at) (
+    stepped_from from to at (
+    updated (is_node (id_of child)) (with_parent target) (
+    updated (is_node from) (without old) (
+    updated (is_node to) (with_put cookie new child) nodes))))
+
+-- the nodes after one lost a name of so many
+abbrev pub less_nodes : Id → (links : ℕ) → Moment → List Node → List Node
+less_nodes i links at nodes =
+    cond (nat_lt 1 links)
+    (updated (is_node i) (with_step at) (updated (is_node i) (with_links (links - 1)) nodes))
+    (filter (λ n. not (is_node i n)) nodes)

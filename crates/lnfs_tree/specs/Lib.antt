@@ -3,3 +3,4 @@ pub mod Listed
 pub mod Held
 pub mod Flat
 pub mod Places
+pub mod Changed

@@ -1,5 +1,5 @@
 -- The names of a directory, as its two indexes keep them.
-use Rattle.std.specs.Prelude.{◌≡◌, ℕ, Bool, false, List, [], ◌∷◌, map, Option, find, nat_lt}
+use Rattle.std.specs.Prelude.{◌≡◌, ℕ, Bool, false, List, [], ◌∷◌, not, map, Option, find, filter, nat_lt}
 use Rattle.std.specs.Str.{bytes_eq}
 use Rattle.std.specs.Option.{option_map}
 use Rattle.std.specs.Ordering.{nat_cmp}
@@ -23,6 +23,9 @@ same_bytes name other = bytes_eq other name
 
 abbrev pub name_at : List Entry → List ℕ → Option Entry
 name_at names name = find (λ x. same_bytes name x.name) names
+
+abbrev pub without_name : List ℕ → List Entry → List Entry
+without_name name names = filter (λ x. not (same_bytes name x.name)) names
 
 abbrev pub name_after : List Entry → ℕ → Option Entry
 name_after names cookie = find (λ x. nat_lt cookie x.cookie) names

@@ -4,6 +4,7 @@ ghost use Rattle.std.specs.Prelude.{◌≡◌, ◌<◌, ◌+◌, length, cond, [
 ghost use Rattle.lnfs_calipso.specs.Label.{dom_of};
 ghost use Rattle.lnfs_words.specs.Words.{split, slash};
 ghost use Rattle.lnfs_world.specs.World.{last_of};
+ghost use Rattle.lnfs_world.specs.Effects.{has_number};
 ghost use Rattle.lnfs_world.specs.Names.{entry_at};
 ghost use Rattle.lnfs_world.specs.Tree.{root as the_root};
 ghost use Rattle.lnfs_world.specs.Facts.{Facts as WorldFacts};
@@ -75,8 +76,9 @@ fn copy_of(alloc: Global, stored: &Option<Stored>) -> Result<Option<Stored>, All
 }
 
 /// The number behind the last that a level gave, where there is one.
-fn next_number(lasts: &BTreeMap<Level, u32>, home: Level) -> Option<u32>
-    ensures { IfSome result (λ number. number ≡ last_of home.0 (map last_row lasts.now.entries) + 1) }
+pub(crate) fn next_number(lasts: &BTreeMap<Level, u32>, home: Level) -> Option<u32>
+    ensures some { IfSome result (λ number. number ≡ last_of home.0 (map last_row lasts.now.entries) + 1) }
+    ensures left { is_some result ≡ has_number (map last_row lasts.now.entries) home.0 }
 {
     match lasts.get(&home) {
         Some(last) => last.checked_add(1),

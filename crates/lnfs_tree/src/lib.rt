@@ -3,12 +3,22 @@
 
 mod directory;
 mod first;
+mod homes;
+mod inserting;
+mod linking;
 mod node;
+mod removing;
+mod renaming;
+mod setting;
+mod stepping;
 mod store;
 mod tree;
+mod tying;
 
-pub use node::{DirSpec, Entry, Facts, NodeId, NodeKind, Stored, TreeError};
+pub use node::{DirSpec, Dropped, Entry, Facts, Fresh, Info, NodeId, NodeKind, Stored, TreeError};
 pub use tree::Tree;
 
+#[cfg(test)]
+mod many_tests;
 #[cfg(test)]
 mod tests;

@@ -5,6 +5,7 @@ ghost use Rattle.lnfs_tree.specs.Rows.{kind_of};
 use lnfs_calipso::Level;
 use lnfs_lists::Octets;
 use lnfs_outside::Moment;
+use std::alloc::AllocError;
 
 /// The identifier of a node: the level that is its home, and its number there. It is never given twice.
 #[derive(Clone, Copy, Debug, PartialEq, Eq, PartialOrd, Ord)]
@@ -71,6 +72,36 @@ pub struct Entry {
     pub node: NodeId,
 }
 
+/// What a new node is made with.
+#[derive(Debug, Drop)]
+pub struct Fresh {
+    pub kind: NodeKind,
+    /// The level that gives its number.
+    pub home: Level,
+    pub label: Level,
+    pub stored: Option<Stored>,
+    pub mode: u32,
+    /// The text of a symbolic link.
+    pub text: Octets,
+    /// What an exclusive create brought (RFC 8881 section 18.16.3).
+    pub verifier: Option<[u8; 8]>,
+}
+
+/// The change numbers of a directory before and after a call (`change_info4`, RFC 8881 section 3.3.8).
+#[derive(Clone, Copy, Debug, PartialEq, Eq)]
+pub struct Info {
+    pub before: u64,
+    pub after: u64,
+}
+
+/// A node that went with its last name: the label and the size that it had.
+#[derive(Clone, Copy, Debug, PartialEq, Eq)]
+pub struct Dropped {
+    pub node: NodeId,
+    pub label: Level,
+    pub size: u64,
+}
+
 /// Why a call did nothing.
 #[derive(Clone, Copy, Debug, PartialEq, Eq)]
 pub enum TreeError {
@@ -80,4 +111,28 @@ pub enum TreeError {
     NotDir,
     /// There is no such name.
     NoEnt,
+    /// The node is a directory.
+    IsDir,
+    /// The name is there.
+    Exist,
+    /// The directory holds names.
+    NotEmpty,
+    /// A directory would go under itself.
+    Inval,
+    /// The node has as many names as one may have.
+    MLink,
+    /// The level has no number left, or the directory no cookie.
+    Spent,
+    /// There is no memory.
+    Memory,
+}
+
+impl From<AllocError> for TreeError {
+    ghost use Rattle.lnfs_tree.specs.declared.node.TreeError.TheVariants.{Memory};
+
+    ghost from_gives = { λ _ e. e ≡ Memory };
+
+    fn from(_error: AllocError) -> TreeError {
+        TreeError::Memory
+    }
 }

@@ -44,8 +44,8 @@ pub struct Node {
 /// Nodes, seen as their list in the order of their identifiers.
 #[derive(Drop)]
 pub struct Store {
-    slots: Slab<Node>,
-    by_id: BTreeMap<NodeId, usize>,
+    pub(crate) slots: Slab<Node>,
+    pub(crate) by_id: BTreeMap<NodeId, usize>,
 }
 
 impl Model for Store {

@@ -1,5 +1,9 @@
 //! The tree of four lines, each call with ample memory.
-use crate::{DirSpec, Facts, NodeId, NodeKind, Stored, Tree, TreeError};
+
+ghost use Rattle.std.specs.Prelude.{IfOk};
+ghost use Rattle.lnfs_tree.specs.Changed.{HasFacts};
+
+use crate::{DirSpec, Facts, Fresh, Info, NodeId, NodeKind, Stored, Tree, TreeError};
 use lnfs_calipso::{Label, Lattice, Level};
 use lnfs_lists::Octets;
 use lnfs_outside::Moment;
@@ -56,7 +60,9 @@ fn line(alloc: Global, path: &[u8], level: u32) -> Result<DirSpec, AllocError> {
     })
 }
 
-fn first_tree(alloc: Global) -> Result<Tree, Fail> {
+fn first_tree(alloc: Global) -> Result<Tree, Fail>
+    ensures { IfOk result (λ tree. HasFacts tree) }
+{
     let lines = [
         line(alloc, b"/one", 1)?,
         line(alloc, b"/two", 2)?,
@@ -68,7 +74,9 @@ fn first_tree(alloc: Global) -> Result<Tree, Fail> {
         pi: 0,
         bytes: Octets::from_slice(alloc, b"lowest")?,
     };
-    Ok(Tree::new(alloc, &levels(alloc)?, &lines, Some(stored))?)
+    let lattice = levels(alloc)?;
+    lattice.is_preordered();
+    Ok(Tree::new(alloc, &lattice, &lines, Some(stored))?)
 }
 
 fn directory(label: u32, names: u64) -> Option<Facts> {
@@ -82,6 +90,21 @@ fn directory(label: u32, names: u64) -> Option<Facts> {
         access: BEGINNING,
         metadata: BEGINNING,
         modify: BEGINNING,
+        verifier: None,
+    })
+}
+
+fn made(label: u32, at: Moment) -> Option<Facts> {
+    Some(Facts {
+        kind: NodeKind::File,
+        label: Level(label),
+        mode: 0o600,
+        size: 0,
+        change: 2,
+        links: 1,
+        access: at,
+        metadata: at,
+        modify: at,
         verifier: None,
     })
 }
@@ -172,5 +195,110 @@ fn lines_that_are_left_out(rt: HostRuntime) -> Result<(), Fail> {
     assert!(rt; tree.node(ONE) == directory(1, 1));
     assert_eq!(rt; tree.lookup(ONE, b"up")?, UP);
     assert!(rt; tree.stored(ROOT).is_none());
+    Ok(())
+}
+
+fn file(alloc: Global, home: u32, label: u32) -> Fresh {
+    Fresh {
+        kind: NodeKind::File,
+        home: Level(home),
+        label: Level(label),
+        stored: None,
+        mode: 0o640,
+        text: Octets::new(Vec::new(alloc)),
+        verifier: None,
+    }
+}
+
+#[test]
+fn nodes_that_are_made(rt: HostRuntime) -> Result<(), Fail> {
+    let alloc = rt.alloc();
+    let at = Moment { secs: 9, nanos: 1 };
+    let rows: [(NodeId, &[u8], u32, Result<u32, TreeError>); 5] = [
+        (ROOT, b"new", 0, Ok(5)),
+        (ONE, b"one", 1, Ok(2)),
+        (UP, b"up", 3, Ok(1)),
+        (ROOT, b"one", 0, Err(TreeError::Exist)),
+        (OTHER, b"new", 3, Err(TreeError::Stale)),
+    ];
+    for (dir, name, home, number) in rows {
+        let mut tree = first_tree(alloc)?;
+        match tree.insert(alloc, dir, name, file(alloc, home, 3), at) {
+            Ok((node, info)) => {
+                assert_eq!(rt; node.number, number?);
+                assert_eq!(rt;
+                    info,
+                    Info {
+                        before: 1,
+                        after: 2
+                    }
+                );
+                assert_eq!(rt; tree.lookup(dir, name)?, node);
+                assert!(rt; tree.lookup(node, name) == Err(TreeError::NotDir));
+                assert!(rt; tree.raise(dir, Level(3), at) == Err(TreeError::NotEmpty));
+                tree.set_mode(node, 0o600, at)?;
+                assert!(rt; tree.node(node) == made(3, at));
+            }
+            Err(error) => assert!(rt; number == Err(error)),
+        }
+    }
+    Ok(())
+}
+
+#[test]
+fn names_that_move(rt: HostRuntime) -> Result<(), Fail> {
+    let alloc = rt.alloc();
+    let at = Moment { secs: 9, nanos: 1 };
+    let rows: [(
+        NodeId,
+        &[u8],
+        NodeId,
+        &[u8],
+        Result<Option<NodeId>, TreeError>,
+    ); 7] = [
+        (ROOT, b"two", ONE, b"second", Ok(None)),
+        (ROOT, b"top", ONE, b"up", Ok(Some(UP))),
+        (ROOT, b"two", ROOT, b"two", Ok(None)),
+        (ROOT, b"two", ROOT, b"one", Err(TreeError::Exist)),
+        (ROOT, b"one", UP, b"one", Err(TreeError::Inval)),
+        (ROOT, b"three", ONE, b"third", Err(TreeError::NoEnt)),
+        (ROOT, b"two", OTHER, b"two", Err(TreeError::Stale)),
+    ];
+    for (from, old, to, new, replaced) in rows {
+        let mut tree = first_tree(alloc)?;
+        match tree.rename(alloc, from, old, to, new, at) {
+            Ok((_, _, gone)) => {
+                let node = tree.lookup(to, new)?;
+                assert_eq!(rt; tree.parent(node)?, to);
+                assert!(rt; gone.map(|dropped| dropped.node) == replaced?);
+            }
+            Err(error) => assert!(rt; replaced == Err(error)),
+        }
+    }
+    Ok(())
+}
+
+#[test]
+fn names_that_go(rt: HostRuntime) -> Result<(), Fail> {
+    let alloc = rt.alloc();
+    let at = Moment { secs: 9, nanos: 1 };
+    let rows: [(NodeId, &[u8], Option<TreeError>); 3] = [
+        (ONE, b"up", None),
+        (ROOT, b"one", Some(TreeError::NotEmpty)),
+        (UP, b"up", Some(TreeError::NoEnt)),
+    ];
+    for (dir, name, refused) in rows {
+        let mut tree = first_tree(alloc)?;
+        match tree.remove(dir, name, at) {
+            Ok((info, gone)) => {
+                assert!(rt; refused.is_none() && gone.is_some());
+                assert!(rt; info.before == 1 && info.after == 2);
+                assert!(rt; tree.lookup(dir, name) == Err(TreeError::NoEnt));
+            }
+            Err(error) => assert!(rt; refused == Some(error)),
+        }
+    }
+    let mut tree = first_tree(alloc)?;
+    assert!(rt; tree.link(alloc, UP, ROOT, b"up", at) == Err(TreeError::IsDir));
     Ok(())
 }

@@ -47,7 +47,7 @@ impl Model for Tree {
 }
 
 /// What a node tells.
-fn facts_of(node: &Node) -> Facts
+pub(crate) fn facts_of(node: &Node) -> Facts
     ensures { result ≡ facts_in node.now }
 {
     let (size, links) = match node.kind {
