@@ -8,3 +8,6 @@ pub mod Operating
 pub mod Staying
 pub mod Running
 pub mod Serving
+pub mod OnNames
+pub mod Counting
+pub mod NamesCounts

@@ -7,3 +7,5 @@ pub mod Served
 pub mod Stores
 pub mod Further
 pub mod Nodes
+pub mod Counts
+pub mod Names

@@ -67,7 +67,16 @@ HasToBeFirst (ops.Sequence args) = Unit {0}
 HasToBeFirst (ops.DestroyClientId client) = Unit {0}
 HasToBeFirst _ = ⊥
 
--- an operation on nodes, or one that isn't served
+-- an operation that makes, names, moves, takes out or sets
+abbrev pub IsOnNames : Op → Type 0
+IsOnNames (ops.Create what name given) = Unit {0}
+IsOnNames (ops.Link name) = Unit {0}
+IsOnNames (ops.Remove name) = Unit {0}
+IsOnNames (ops.Rename old new) = Unit {0}
+IsOnNames (ops.SetAttr id given) = Unit {0}
+IsOnNames _ = ⊥
+
+-- another operation on nodes, or one that isn't served
 abbrev pub IsOnNodes : Op → Type 0
 IsOnNodes (ops.ExchangeId verifier owner flags implementation) = ⊥
 IsOnNodes (ops.CreateSession args) = ⊥
@@ -75,6 +84,11 @@ IsOnNodes (ops.DestroySession session) = ⊥
 IsOnNodes (ops.Sequence args) = ⊥
 IsOnNodes (ops.DestroyClientId client) = ⊥
 IsOnNodes (ops.ReclaimComplete one_fs) = ⊥
+IsOnNodes (ops.Create what name given) = ⊥
+IsOnNodes (ops.Link name) = ⊥
+IsOnNodes (ops.Remove name) = ⊥
+IsOnNodes (ops.Rename old new) = ⊥
+IsOnNodes (ops.SetAttr id given) = ⊥
 IsOnNodes (ops.Outside number status) = ⊥
 IsOnNodes _ = Unit {0}
 

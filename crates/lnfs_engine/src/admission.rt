@@ -43,6 +43,11 @@ fn is_served<E: ExtraGrammar>(op: &Op, extra: &E) -> bool
         | Op::Access { .. }
         | Op::ReadDir { .. }
         | Op::ReadLink
+        | Op::Create { .. }
+        | Op::Link { .. }
+        | Op::Remove { .. }
+        | Op::Rename { .. }
+        | Op::SetAttr { .. }
         | Op::Outside { .. } => true,
         Op::Extra { number, .. } => extra.serves(*number),
         _ => false,

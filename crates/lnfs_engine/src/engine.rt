@@ -1,6 +1,8 @@
 //! The state of a server, and a COMPOUND on it.
 ghost use Rattle.std.specs.Prelude.{◌≡◌, ◌≤◌, ◌++◌, drop, length, IfOk, option_map};
+ghost use Rattle.std.specs.List.{AllByRecursion};
 ghost use Rattle.lnfs_policy.specs.Policy.{dominance};
+ghost use Rattle.lnfs_world.specs.Usage.{bytes_of};
 ghost use Rattle.lnfs_world.specs.Outcome.{begins_at};
 ghost use Rattle.lnfs_world.specs.Both.{both, BothStand};
 ghost use Rattle.lnfs_site.specs.Site.{site_of};
@@ -99,16 +101,26 @@ fn serve<X: Extra>(
 }
 
 impl<X: Extra> Engine<X> {
-    /// The nodes of a tree, and no client. Takes no memory.
-    pub fn new(alloc: Global, tree: Tree, extra: X) -> Engine<X>
-        ensures store { result.store ≡ stored no_lists tree }
-        ensures extra { result.extra ≡ extra }
+    /// The nodes of a tree without bytes, and no client. What each level uses is counted against the limits of a site.
+    ///
+    /// # Errors
+    ///
+    /// `AllocError` where there is no memory.
+    pub fn new(
+        alloc: Global,
+        site: &Site<'_>,
+        tree: Tree,
+        extra: X,
+    ) -> Result<Engine<X>, AllocError>
+        requires empty { AllByRecursion (λ n. bytes_of n n.kind ≡ 0) tree.nodes }
+        ensures store { IfOk result (λ engine. engine.store ≡ stored no_lists tree) }
+        ensures extra { IfOk result (λ engine. engine.extra ≡ extra) }
     {
-        Engine {
+        Ok(Engine {
             alloc,
-            store: Store::new(alloc, tree),
+            store: Store::new(alloc, site, tree)?,
             extra,
-        }
+        })
     }
 
     /// Serves a COMPOUND of a subject, by the bytes of its arguments and the length of its record: its

@@ -4,12 +4,15 @@
 #![tactic(auto)]
 
 mod admission;
+mod charging;
 mod clients;
+mod counted;
 mod engine;
 mod extra;
 mod further;
 mod head;
 mod keep;
+mod names;
 mod nodes;
 mod perform;
 mod place;

@@ -1,15 +1,17 @@
 //! The operations on nodes: file handles, names, attributes and listings (RFC 8881 section 18).
-ghost use Rattle.std.specs.Prelude.{◌≡◌, IfOk};
-ghost use Rattle.lnfs_world.specs.World.{World, entry_order};
-ghost use Rattle.lnfs_world.specs.Rows.{Rising};
+ghost use Rattle.std.specs.Prelude.{◌≡◌, List, IfOk};
+ghost use Rattle.lnfs_world.specs.World.{World};
+ghost use Rattle.lnfs_world.specs.Facts.{NodeFacts};
 ghost use Rattle.lnfs_results.specs.declared.types.OpResult.TheVariants as results;
 ghost use Rattle.lnfs_results.specs.Numbered.{status_of};
 ghost use Rattle.lnfs_results.specs.Fits.{ResultSized};
 ghost use Rattle.lnfs_nodes.specs.Trees.{with_tree};
+ghost use Rattle.lnfs_quota.specs.declared.quota.Row.{Row};
 ghost use Rattle.lnfs_engine.specs.declared.place.Keeper as code;
 ghost use Rattle.lnfs_engine.specs.Places.{place_of, IsOnNodes, IsMoved};
 ghost use Rattle.lnfs_engine.specs.Replies.{IsPlain, SaysWritten};
 ghost use Rattle.lnfs_engine.specs.Nodes.{told_as, goes_to, saves_as};
+ghost use Rattle.lnfs_engine.specs.Counts.{Counts};
 ghost use Rattle.lnfs_engine.specs.Performs.{site_in, sent_of, turn, Performs};
 
 use crate::place::{Place, Request};
@@ -115,10 +117,12 @@ pub fn on_nodes(
     out: &mut XdrWriter,
 ) -> Result<Came, AllocError>
     requires own { IsOnNodes op.now }
-    requires rise { Rising entry_order tree.old.entries }
+    requires facts { NodeFacts (site_in request.now).dom tree.old.nodes tree.old.entries tree.old.lasts }
     ensures performs { IfOk result (λ came. (keeper : code.Keeper) (rest : World) →
         Performs request.now.begin out.old out.new keeper keeper (place_of place.new) (with_tree rest tree.new) (turn (site_in request.now) (sent_of request.now) op.now (place_of place.old) (with_tree rest tree.old)) came) }
     ensures moved { IfOk result (λ came. IsMoved (place_of place.old) (place_of place.new)) }
+    // Whatever is counted of the nodes stays.
+    ensures counts { (rows : List Row) → Counts rows tree.old.nodes → Counts rows tree.new.nodes }
 {
     let site = request.site;
     let subject = place.subject;

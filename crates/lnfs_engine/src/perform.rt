@@ -2,8 +2,8 @@
 ghost use Rattle.std.specs.Prelude.{◌≡◌, ◌-◌, [], List, length, IfOk};
 ghost use Rattle.lnfs_arguments.specs.declared.types.Op.TheVariants as ops;
 ghost use Rattle.lnfs_results.specs.declared.types.OpResult.{OpResult};
-ghost use Rattle.lnfs_world.specs.World.{World, entry_order};
-ghost use Rattle.lnfs_world.specs.Rows.{Rising};
+ghost use Rattle.lnfs_world.specs.World.{World};
+ghost use Rattle.lnfs_world.specs.Facts.{NodeFacts};
 ghost use Rattle.lnfs_world.specs.Outcome.{Site};
 ghost use Rattle.lnfs_world.specs.Both.{both, BothStand};
 ghost use Rattle.lnfs_operations.specs.Sequence.{Sent};
@@ -18,6 +18,7 @@ use crate::admission::admission;
 use crate::clients::{destroy_clientid, exchange_id, reclaim_complete};
 use crate::extra::Extra;
 use crate::further::{further, further_in};
+use crate::names::on_names;
 use crate::nodes::on_nodes;
 use crate::place::{Keeper, Place, Request};
 use crate::reply::{Answer, Came, say};
@@ -58,7 +59,7 @@ fn serve(
     out: &mut XdrWriter,
 ) -> Result<Came, AllocError>
     requires first { HasToBeFirst op.now → Starts (place_of place.old) keeper.old }
-    requires rise { Rising entry_order store.old.entries }
+    requires facts { NodeFacts (site_in request.now).dom store.old.nodes store.old.entries store.old.lasts.nodes }
     requires stands { Stands (place_of place.old) store.old.sessions keeper.old }
     ensures performs { IfOk result (λ came.
         Performs request.now.begin out.old out.new keeper.old keeper.new (place_of place.new) store.new (turn (site_in request.now) (sent_of request.now) op.now (place_of place.old) store.old) came) }
@@ -102,6 +103,14 @@ fn serve(
             let gate = Gate::Outside;
             let status = *status;
             say(out, op, Err(Refusal { gate, status }))
+        }
+        Op::Create { .. }
+        | Op::Link { .. }
+        | Op::Remove { .. }
+        | Op::Rename { .. }
+        | Op::SetAttr { .. } => {
+            let (tree, quota) = (&mut store.tree, &mut store.quota);
+            on_names(request, tree, quota, place, op, out)
         }
         _ => on_nodes(request, &mut store.tree, place, op, out),
     }

@@ -1,37 +1,53 @@
 //! The rows of the world.
-ghost use Rattle.std.specs.Prelude.{◌≡◌};
+ghost use Rattle.std.specs.Prelude.{◌≡◌, IfOk};
+ghost use Rattle.std.specs.List.{AllByRecursion};
+ghost use Rattle.lnfs_world.specs.Usage.{bytes_of};
 ghost use Rattle.lnfs_session.specs.Standing.{no_lists};
 ghost use Rattle.lnfs_engine.specs.Stores.{stored};
 
+use crate::counted::counted;
+use lnfs_quota::Quota;
 use lnfs_session::Clients;
+use lnfs_site::Site;
 use lnfs_tree::Tree;
-use std::alloc::Global;
+use std::alloc::{AllocError, Global};
 use std::marker::Model;
 
-/// Clients with their sessions, and nodes with their names. Its value is the world of their rows.
+/// Clients with their sessions, nodes with their names, and what each level uses. Its value is the world of their rows.
 #[derive(Drop)]
 pub struct Store {
     pub(crate) clients: Clients,
     pub(crate) tree: Tree,
+    pub(crate) quota: Quota,
 }
 
 impl Model for Store {
     ghost use Rattle.lnfs_world.specs.World.{World};
+    ghost use Rattle.lnfs_engine.specs.Counts.{Counts};
     ghost use Rattle.lnfs_engine.specs.Stores.{stored};
 
     ghost Value = { World };
 
     ghost view = { λ s. stored s.clients s.tree };
+
+    ghost invariant = { λ s. Counts s.quota s.tree.nodes };
 }
 
 impl Store {
-    /// The nodes of a tree, and no client. Takes no memory.
-    pub fn new(alloc: Global, tree: Tree) -> Store
-        ensures { result ≡ stored no_lists tree }
+    /// The nodes of a tree without bytes, and no client. What each level uses is counted against the limits of a site.
+    ///
+    /// # Errors
+    ///
+    /// `AllocError` where there is no memory.
+    pub fn new(alloc: Global, site: &Site<'_>, tree: Tree) -> Result<Store, AllocError>
+        requires empty { AllByRecursion (λ n. bytes_of n n.kind ≡ 0) tree.nodes }
+        ensures { IfOk result (λ store. store ≡ stored no_lists tree) }
     {
-        Store {
+        let quota = counted(alloc, site, &tree)?;
+        Ok(Store {
             clients: Clients::new(alloc),
             tree,
-        }
+            quota,
+        })
     }
 }

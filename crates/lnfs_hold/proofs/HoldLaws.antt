@@ -104,7 +104,7 @@ module _ (site : Site) (lattice : IsPreorderWithBottom site.dom) (number : ℕ) 
     where
       at : (t : Turn Said (Both Held)) → t.state.world ≡ a.world → t.place ≡ p → IsRefused p a t t.answer.refusal → t.answer.bytes ≡ [] → IsTame holds site.dom 8 p a t
       at t world place refused bytes = record {
-        untouched = record { clients = ap (λ (w : World). w.clients) world; sessions = ap (λ (w : World). w.sessions) world; contexts = ap (λ (w : World). w.contexts) world; last_clients = ap (λ (w : World). w.lasts.clients) world; last_sessions = ap (λ (w : World). w.lasts.sessions) world; last_contexts = ap (λ (w : World). w.lasts.contexts) world; labels = λ i l m here there. subst (λ (w : World). label_at w.nodes i ≡ Some m → m ≡ l) (sym world) (λ now. cc) there };
+        untouched = record { clients = ap (λ (w : World). w.clients) world; sessions = ap (λ (w : World). w.sessions) world; contexts = ap (λ (w : World). w.contexts) world; last_clients = ap (λ (w : World). w.lasts.clients) world; last_sessions = ap (λ (w : World). w.lasts.sessions) world; last_contexts = ap (λ (w : World). w.lasts.contexts) world; labels = λ i l m here there. subst (λ (w : World). label_at w.nodes i ≡ Some m → m ≡ l) (sym world) (λ now. cc) there; new = λ i m none there. subst (λ (w : World). label_at w.nodes i ≡ Some m → is_given a.world.lasts.nodes i ≡ false) (sym world) (λ now. absurd cc) there };
         tame = subst (Tame a.world) (sym world) (tame_itself a.world);
         moved = record { rest = moved_as t.place place; current = inl (ap (λ (q : Place). q.current) place); saved = inl (ap (λ (q : Place). q.saved) place) };
         refused = refused;

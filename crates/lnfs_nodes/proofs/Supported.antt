@@ -1,9 +1,10 @@
--- Whether the server has each attribute of a set.
+-- Whether each attribute of a set passes a test, and so whether the server has each.
 use Rattle.std.proofs.Common.{◌≡◌, ◌+◌, ◌<◌, ◌≤◌, ℕ, zero, suc, Bool, true, false, not, length, IsTrue, ◌↔◌, refl, sym, arith, inl, inr}
 use Rattle.std.specs.Prelude.{◌||◌, ◌&&◌}
 use Rattle.std.specs.List.{list_all, range_with_len}
 use Rattle.std.proofs.lemmas.Bool.{cases_lt}
 use Rattle.lnfs_attrs.specs.declared.bitmap.Bitmap.{Bitmap}
+use Rattle.lnfs_attrs.specs.declared.numbers.TheConstants.{ATTR_END}
 use Rattle.lnfs_attrs.specs.Bitmaps.{has_attr}
 use Rattle.lnfs_attrs.specs.Attributes.{is_listed, AllAsked}
 use Rattle.lnfs_attrs.proofs.Below.{all_below}
@@ -48,16 +49,21 @@ then_listed : (a b : Bool) → (not a || b) ≡ true → a ≡ true → b ≡ tr
 then_listed true b e is = e
 then_listed false b e is = cc
 
-by_range : (b : Bitmap) (end : ℕ) (r : Bool) → 256 ≤ end → length b.words ≡ 8 → IsTrue r ↔ AllAsked b is_listed → r ≡ list_all (λ n. not (has_attr b n) || is_listed n) (range_with_len 0 end)
-by_range b end r long whole told = at r told (list_all test (range_with_len 0 end)) refl
+-- A test of each attribute of a set is one of each number.
+pub all_tested : (b : Bitmap) (test : ℕ → Bool) → AllAsked b test → list_all (λ n. not (has_attr b n) || test n) (range_with_len 0 ATTR_END) ≡ true
+all_tested b test told = all_in (λ n. not (has_attr b n) || test n) 256 0 (λ n le lt. listed_or (has_attr b n) (test n) (told n))
+
+pub each_tested : (b : Bitmap) (test : ℕ → Bool) → length b.words ≡ 8 → list_all (λ n. not (has_attr b n) || test n) (range_with_len 0 ATTR_END) ≡ true → AllAsked b test
+each_tested b test whole is = at 256 (omega arith) is
   where
-    test : ℕ → Bool
-    test n = not (has_attr b n) || is_listed n
+    at : (end : ℕ) → 256 ≤ end → list_all (λ n. not (has_attr b n) || test n) (range_with_len 0 end) ≡ true → AllAsked b test
+    at end long is = all_below b test end whole long (λ n lt has. then_listed (has_attr b n) (test n) (each_of (λ n. not (has_attr b n) || test n) end 0 is n (omega arith) (omega arith)) has)
 
-    at : (r : Bool) → IsTrue r ↔ AllAsked b is_listed → (all : Bool) → list_all test (range_with_len 0 end) ≡ all → r ≡ list_all test (range_with_len 0 end)
-    at true told all is = sym (all_in test end 0 (λ n le lt. listed_or (has_attr b n) (is_listed n) (told.0 refl n)))
-    at false told true is = absurd (let t = told.1 (all_below b is_listed end whole long (λ n lt has. then_listed (has_attr b n) (is_listed n) (each_of test end 0 is n (omega arith) (omega arith)) has)) in cc)
-    at false told false is = sym is
-
+-- whether the server has each attribute, as a test of the code tells it
 pub supported_told : (b : Bitmap) (r : Bool) → length b.words ≡ 8 → IsTrue r ↔ AllAsked b is_listed → r ≡ is_supported b
-supported_told b r whole told = by_range b 256 r (omega arith) whole told
+supported_told b r whole told = at r told (is_supported b) refl
+  where
+    at : (r : Bool) → IsTrue r ↔ AllAsked b is_listed → (all : Bool) → is_supported b ≡ all → r ≡ is_supported b
+    at true told all is = sym (all_tested b is_listed (told.0 refl))
+    at false told true is = absurd (let t = told.1 (each_tested b is_listed whole is) in cc)
+    at false told false is = sym is

@@ -4,3 +4,9 @@ pub mod Accesses
 pub mod Comparing
 pub mod Walks
 pub mod Writes
+pub mod Acts
+pub mod Told
+pub mod GivenValues
+pub mod Setting
+pub mod Creating
+pub mod Renames

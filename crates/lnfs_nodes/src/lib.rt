@@ -4,22 +4,35 @@
 
 mod accessed;
 mod attributes;
+mod calls;
 mod comparing;
+mod creating;
 mod entries;
+mod given;
 mod handles;
 mod held;
+mod linking;
 mod links;
 mod listing;
 mod lookups;
 mod naming;
+mod removing;
+mod renaming;
 mod rights;
+mod setting;
 mod showing;
 
 pub use attributes::get_attr;
+pub use calls::Caller;
 pub use comparing::{nverify, verify};
+pub use creating::{Created, create};
 pub use handles::{HANDLE_SIZE, get_fh, put_fh, put_root_fh, restore_fh, save_fh};
 pub use held::Held;
+pub use linking::link;
 pub use links::read_link;
 pub use listing::{Listing, read_dir};
 pub use lookups::{lookup, lookup_parent};
+pub use removing::remove;
+pub use renaming::rename;
 pub use rights::{AccessBits, access};
+pub use setting::set_attr;

@@ -1,5 +1,5 @@
 //! READLINK (RFC 8881 section 18.24).
-ghost use Rattle.std.specs.Prelude.{◌≡◌, ◌++◌, IfOk, OnOk};
+ghost use Rattle.std.specs.Prelude.{◌≡◌, ◌++◌, IfOk, OnOk, OnErr};
 ghost use Rattle.std.specs.Option.{option_map};
 ghost use Rattle.lnfs_results.specs.declared.types.OpResult.TheVariants as results;
 ghost use Rattle.lnfs_results.specs.Texts.{result_text};
@@ -54,9 +54,10 @@ pub fn read_link(
     current: Option<NodeId>,
     out: &mut XdrWriter,
 ) -> Result<Result<(), Refusal>, AllocError>
-    ensures { IfOk result (λ answer. (p : Place) (rest : World) →
+    ensures writes { IfOk result (λ answer. (p : Place) (rest : World) →
         let at = record p { subject = subject.0; moment = moment; current = option_map id_of current } in
         Writes out.old out.new (λ text. results.ReadLink text) at (with_tree rest tree.old) (with_tree rest tree.new) (operation.read_link (site_of site.now) at (with_tree rest tree.old)) answer) }
+    ensures kept { OnErr result (tree.new ≡ tree.old) }
 {
     let link = match node_held(tree, current) {
         Ok(link) => link,

@@ -1,5 +1,5 @@
 //! READDIR (RFC 8881 section 18.23).
-ghost use Rattle.std.specs.Prelude.{◌≡◌, ◌-◌, ◌++◌, ◌&&◌, Bool, false, not, nat_le, IfOk, OnOk};
+ghost use Rattle.std.specs.Prelude.{◌≡◌, ◌-◌, ◌++◌, ◌&&◌, Bool, false, not, nat_le, IfOk, OnOk, OnErr};
 ghost use Rattle.std.specs.Option.{option_map};
 ghost use Rattle.lnfs_xdr.specs.Canon.{flag};
 ghost use Rattle.lnfs_xdr.specs.Written.{Extends};
@@ -125,10 +125,11 @@ pub fn read_dir(
     args: &Listing<'_>,
     out: &mut XdrWriter,
 ) -> Result<Result<(), Refusal>, AllocError>
-    ensures { IfOk result (λ answer. (p : Place) (rest : World) → Rising entry_order tree.old.entries →
+    ensures writes { IfOk result (λ answer. (p : Place) (rest : World) → Rising entry_order tree.old.entries →
         let at = record p { subject = subject.0; moment = moment; current = option_map id_of current } in
         let arguments : operation.Arguments = record { cookie = args.now.cookie; maxcount = args.now.maxcount; asked = args.now.asked.now } in
         Writes out.old out.new listing_result at (with_tree rest tree.old) (with_tree rest tree.new) (operation.read_dir (site_of site.now) arguments at (with_tree rest tree.old)) answer) }
+    ensures kept { OnErr result (tree.new ≡ tree.old) }
 {
     let dir = match node_held(tree, current) {
         Ok(dir) => dir,

@@ -61,7 +61,7 @@ fn time_of(moment: Moment) -> Time
 
 /// The label of a node: where labels are carried alone as it was stored, to who may read the node, and otherwise
 /// as the site writes it.
-fn label_shown<'a>(site: &Site<'a>, tree: &'a Tree, subject: Level, held: &Held) -> &'a Stored
+pub fn label_shown<'a>(site: &Site<'a>, tree: &'a Tree, subject: Level, held: &Held) -> &'a Stored
     ensures { (n : Node) (p : Place) → Holds tree.now n held.now →
         stored_of result.now ≡ label_shown (site_of site.now) (record p { subject = subject.0 }) n }
 {

@@ -19,7 +19,8 @@ use Rattle.lnfs_world.proofs.Views.{row_at-seen, client_at-seen, last_of-seen}
 use Rattle.lnfs_arguments.specs.declared.types.CreateSession.{CreateSession}
 use Rattle.lnfs_arguments.specs.declared.statuses.TheConstants.{NFS4ERR_STALE_CLIENTID, NFS4ERR_NOSPC, NFS4ERR_TOOSMALL}
 use Rattle.lnfs_operations.specs.declared.Gate.TheVariants as gates
-use Rattle.lnfs_operations.specs.declared.numbers.TheConstants.{SESSIONS_OF_A_LEVEL, LAST_NUMBER}
+use Rattle.lnfs_world.specs.declared.numbers.TheConstants.{LAST_NUMBER}
+use Rattle.lnfs_operations.specs.declared.numbers.TheConstants.{SESSIONS_OF_A_LEVEL}
 use Rattle.lnfs_operations.specs.Chain.{refuse, done, where_there, Answer}
 use Rattle.lnfs_operations.specs.ExchangeId.{dropped}
 use Rattle.lnfs_operations.specs.Identifiers.{client_named}

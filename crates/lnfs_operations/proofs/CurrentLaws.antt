@@ -41,7 +41,7 @@ module _ (dom : ℕ → ℕ → Bool) (p : Place) (w : World) (stands : Stands d
       let id : n.id ≡ i = node_at-id i w.nodes n found in
       record { found = ap (node_at w.nodes) id ∙ found; home = ap (λ (j : Id). dom p.subject j.level) id ∙ above }
 
-  with_node-seen : {R : Type 0} (handle : Option Id) (shown found : Node → Outcome (Answer R)) → may_hold dom p.subject handle ≡ true → ((n : Node) → IsHeld n → shown (shrunk dom p.subject n) ≡ found n) → with_node p (erased dom p.subject w) handle shown ≡ with_node p w handle found
+  pub with_node-seen : {R : Type 0} (handle : Option Id) (shown found : Node → Outcome (Answer R)) → may_hold dom p.subject handle ≡ true → ((n : Node) → IsHeld n → shown (shrunk dom p.subject n) ≡ found n) → with_node p (erased dom p.subject w) handle shown ≡ with_node p w handle found
   with_node-seen None shown found held same = refl
   with_node-seen (Some i) shown found held same =
       ap (λ o. where_there o shown (refuse p Namespace NFS4ERR_STALE)) (node_at-seen dom p.subject w i held)
@@ -53,7 +53,7 @@ module _ (dom : ℕ → ℕ → Bool) (p : Place) (w : World) (stands : Stands d
 
   -- ---- footprints
 
-  with_node-footprint : {R : Type 0} (handle : Option Id) (found : Node → Outcome (Answer R)) → may_hold dom p.subject handle ≡ true → ((n : Node) → IsHeld n → IsFootprint dom p w (found n)) → IsFootprint dom p w (with_node p w handle found)
+  pub with_node-footprint : {R : Type 0} (handle : Option Id) (found : Node → Outcome (Answer R)) → may_hold dom p.subject handle ≡ true → ((n : Node) → IsHeld n → IsFootprint dom p w (found n)) → IsFootprint dom p w (with_node p w handle found)
   with_node-footprint None found held each = record { within = refl; place = stands.place; subject = refl }
   with_node-footprint (Some i) found held each = where_any (IsFootprint dom p w) (node_at w.nodes i) found _ (λ n there. each n (is_held i n held there)) (record { within = refl; place = stands.place; subject = refl })
 

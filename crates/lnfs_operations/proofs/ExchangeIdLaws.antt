@@ -20,7 +20,8 @@ use Rattle.lnfs_world.proofs.Places.{place_stays}
 use Rattle.lnfs_arguments.specs.declared.statuses.TheConstants.{NFS4ERR_INVAL, NFS4ERR_NOSPC}
 use Rattle.lnfs_operations.specs.declared.Gate.{Gate}
 use Rattle.lnfs_operations.specs.declared.Gate.TheVariants as gates
-use Rattle.lnfs_operations.specs.declared.numbers.TheConstants.{EXCHGID4_FLAG_CONFIRMED_R, EXCHGID4_FLAG_UPD_CONFIRMED_REC_A, CLIENTS_OF_A_LEVEL, LAST_NUMBER}
+use Rattle.lnfs_world.specs.declared.numbers.TheConstants.{LAST_NUMBER}
+use Rattle.lnfs_operations.specs.declared.numbers.TheConstants.{EXCHGID4_FLAG_CONFIRMED_R, EXCHGID4_FLAG_UPD_CONFIRMED_REC_A, CLIENTS_OF_A_LEVEL}
 use Rattle.lnfs_operations.specs.Chain.{Answer, refuse, done}
 use Rattle.lnfs_operations.specs.ExchangeId.{Arguments, Told, has_flag, exchange_id, new_client, is_confirmed_as, is_pending, others_of, dropped}
 use Rattle.lnfs_operations.proofs.Chains.{seen_view, demand_any, where_any, unchanged_footprint}

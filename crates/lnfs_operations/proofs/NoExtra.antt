@@ -16,7 +16,7 @@ no_extra_is_lawful = record {
     subject = λ p a stands. refl;
   };
   tame = λ site lattice number arguments p a stands. record {
-    untouched = record { clients = refl; sessions = refl; contexts = refl; last_clients = refl; last_sessions = refl; last_contexts = refl; labels = λ i l m here there. cc };
+    untouched = record { clients = refl; sessions = refl; contexts = refl; last_clients = refl; last_sessions = refl; last_contexts = refl; labels = λ i l m here there. cc; new = λ i m none there. absurd cc };
     tame = tame_itself a.world;
     sizes = λ fit. fit;
     moved = record { rest = refl; current = inl refl; saved = inl refl };

@@ -33,6 +33,7 @@ use Rattle.lnfs_operations.proofs.SessionLaws.{session_at-id, session_under-at}
 use Rattle.lnfs_operations.proofs.ServedLaws.{operation_lawful}
 use Rattle.lnfs_operations.proofs.SlotRules.{followed_any, behind_stands}
 use Rattle.lnfs_operations.proofs.ReadingRows.{is_reading, row_reads, reads_stay}
+use Rattle.lnfs_operations.proofs.ChangingRows.{is_changing, row_changes, changes_stay}
 use Rattle.lnfs_operations.proofs.Retries.{on_named, slot_new, begun, by_sequence, answered_again}
 
 -- ---- behind a SEQUENCE no session changes
@@ -83,6 +84,11 @@ module _ (X : Extra) (owed : AreLawful X) (site : Site) (lattice : IsPreorderWit
       Stays p b t.place t.state
   reading_stays r rs op p b is = admitted_any (Stays p b) op (admission X.grammar c (r ∷ rs) op p b.world) p b (on_world (deed_of (row site sent op)) p b) (refl, refl) (reads_stay p b.world (row site sent op p b.world) (row_reads site sent p b.world op is))
 
+  changing_stays : (r : OpResult) (rs : List OpResult) (op : Op) (p : Place) (b : Both X.Row) → is_changing op ≡ true →
+      let t = admitted op p b (admission X.grammar c (r ∷ rs) op p b.world) (on_world (deed_of (row site sent op)) p b) in
+      Stays p b t.place t.state
+  changing_stays r rs op p b is = admitted_any (Stays p b) op (admission X.grammar c (r ∷ rs) op p b.world) p b (on_world (deed_of (row site sent op)) p b) (refl, refl) (changes_stay site p b.world (row site sent op p b.world) (row_changes site p b.world sent op is))
+
   pub operation_stays : (r : OpResult) (rs : List OpResult) (op : Op) (p : Place) (b : Both X.Row) → BothStand X.Fact site.dom p b → Stays p b (operation X site sent c (r ∷ rs) op p b).place (operation X site sent c (r ∷ rs) op p b).state
   operation_stays r rs (ops.ExchangeId verifier owner flags implementation) p b stands = (refl, refl)
   operation_stays r rs (ops.CreateSession args) p b stands = (refl, refl)
@@ -103,6 +109,11 @@ module _ (X : Extra) (owed : AreLawful X) (site : Site) (lattice : IsPreorderWit
   operation_stays r rs (ops.Access bits) p b stands = reading_stays r rs (ops.Access bits) p b refl
   operation_stays r rs (ops.ReadDir cookie verifier dircount maxcount asked) p b stands = reading_stays r rs (ops.ReadDir cookie verifier dircount maxcount asked) p b refl
   operation_stays r rs ops.ReadLink p b stands = reading_stays r rs ops.ReadLink p b refl
+  operation_stays r rs (ops.Create what name given) p b stands = changing_stays r rs (ops.Create what name given) p b refl
+  operation_stays r rs (ops.Link name) p b stands = changing_stays r rs (ops.Link name) p b refl
+  operation_stays r rs (ops.Remove name) p b stands = changing_stays r rs (ops.Remove name) p b refl
+  operation_stays r rs (ops.Rename old new) p b stands = changing_stays r rs (ops.Rename old new) p b refl
+  operation_stays r rs (ops.SetAttr id given) p b stands = changing_stays r rs (ops.SetAttr id given) p b refl
   operation_stays r rs (ops.Outside number status) p b stands = admitted_any (Stays p b) (ops.Outside number status) (admission X.grammar c (r ∷ rs) (ops.Outside number status) p b.world) p b (row_in X site sent (ops.Outside number status) p b) (refl, refl) (refl, refl)
   operation_stays r rs (ops.Extra number arguments) p b stands = chosen_stays (X.grammar.serves number) r rs number arguments p b stands
   operation_stays r rs op p b stands = (refl, refl)

@@ -37,6 +37,8 @@ use Rattle.lnfs_operations.proofs.SessionLaws.{session_at-id, session_under-at}
 use Rattle.lnfs_operations.proofs.Retries.{begun, by_sequence}
 use Rattle.lnfs_operations.proofs.ReadingRows.{is_reading}
 use Rattle.lnfs_operations.proofs.ShortRows.{Short, ShortBy, row_short}
+use Rattle.lnfs_operations.proofs.ChangingRows.{is_changing}
+use Rattle.lnfs_operations.proofs.ShortChanges.{changing_short}
 use Rattle.lnfs_operations.proofs.SizeChanges.{operation_sizes}
 use Rattle.lnfs_operations.proofs.Once.{reclaim_any, operation_stays, new_begins, behind_stays, behind_subject}
 use Rattle.lnfs_xdr.proofs.Sizes.{length-opaque}
@@ -124,6 +126,12 @@ module _ (c : Compound) (most : ℕ) where
         behind_room (r ∷ rs) op p b (on_world (deed_of (row site sent op)) p b) inside before (λ room.
         short_good (r ∷ rs) X.grammar op (row site sent op p b.world).answer before room (row_short X.grammar site spells sent p b.world sizes op reads))
 
+    changing_good : (r : OpResult) (rs : List OpResult) (op : Op) (p : Place) (b : Both X.Row) → is_changing op ≡ true → In p b → RESERVED_ROOM + used c (r ∷ rs) ≤ most →
+        Good (r ∷ rs) (admitted op p b (room_refusal X.grammar c (r ∷ rs) op p b.world) (on_world (deed_of (row site sent op)) p b)).answer
+    changing_good r rs op p b changes inside before =
+        behind_room (r ∷ rs) op p b (on_world (deed_of (row site sent op)) p b) inside before (λ room.
+        short_good (r ∷ rs) X.grammar op (row site sent op p b.world).answer before room (changing_short X.grammar site sent p b.world op changes))
+
     operation_good : (r : OpResult) (rs : List OpResult) (op : Op) (p : Place) (b : Both X.Row) → BothStand X.Fact site.dom p b → In p b → Sizes b.world → RESERVED_ROOM + used c (r ∷ rs) ≤ most → Good (r ∷ rs) (operation X site sent c (r ∷ rs) op p b).answer
     operation_good r rs (ops.ReclaimComplete one_fs) p b stands inside sizes before =
         behind_room (r ∷ rs) (ops.ReclaimComplete one_fs) p b (row_in X site sent (ops.ReclaimComplete one_fs) p b) inside before (λ room.
@@ -144,6 +152,11 @@ module _ (c : Compound) (most : ℕ) where
     operation_good r rs (ops.Access bits) p b stands inside sizes before = reading_good r rs (ops.Access bits) p b refl inside sizes before
     operation_good r rs (ops.ReadDir cookie verifier dircount maxcount asked) p b stands inside sizes before = reading_good r rs (ops.ReadDir cookie verifier dircount maxcount asked) p b refl inside sizes before
     operation_good r rs ops.ReadLink p b stands inside sizes before = reading_good r rs ops.ReadLink p b refl inside sizes before
+    operation_good r rs (ops.Create what name given) p b stands inside sizes before = changing_good r rs (ops.Create what name given) p b refl inside before
+    operation_good r rs (ops.Link name) p b stands inside sizes before = changing_good r rs (ops.Link name) p b refl inside before
+    operation_good r rs (ops.Remove name) p b stands inside sizes before = changing_good r rs (ops.Remove name) p b refl inside before
+    operation_good r rs (ops.Rename old new) p b stands inside sizes before = changing_good r rs (ops.Rename old new) p b refl inside before
+    operation_good r rs (ops.SetAttr id given) p b stands inside sizes before = changing_good r rs (ops.SetAttr id given) p b refl inside before
     operation_good r rs (ops.Outside number status) p b stands inside sizes before =
         behind_room (r ∷ rs) (ops.Outside number status) p b (row_in X site sent (ops.Outside number status) p b) inside before (λ room. failure_good (r ∷ rs) (ops.Outside number status) (record { gate = gates.Outside; status = status }) before)
     operation_good r rs (ops.Extra number arguments) p b stands inside sizes before = chosen_good (X.grammar.serves number) r rs number arguments p b stands inside before
@@ -164,7 +177,7 @@ module _ (c : Compound) (most : ℕ) where
         let t = operation X site sent c (r ∷ rs) op p b in
         let law = operation_lawful X owed site lattice sent c (r ∷ rs) op in
         let stays = operation_stays X owed site lattice sent c r rs op p b stands in
-        let kept = operation_sizes X owed site lattice sent c (r ∷ rs) op p b stands sizes in
+        let kept = operation_sizes X owed site lattice spells sent c (r ∷ rs) op p b stands sizes in
         followed_ends (r ∷ rs) op t.place t.state t.answer (λ results. run_behind (operation X site sent c) results os t.place t.state) (operation_good r rs op p b stands inside sizes before)
         (λ result room. behind_ends os r (rs ++ result ∷ []) t.place t.state (law.stands p b stands) (stays_in p t.place b t.state inside stays.0 stays.1 (law.subject p b stands)) kept room)
 

@@ -36,6 +36,11 @@ use Rattle.lnfs_operations.proofs.LookupLaws.{lookup_view, lookup_footprint, loo
 use Rattle.lnfs_operations.proofs.GetAttrLaws.{get_attr_view, get_attr_footprint, verify_view, verify_footprint, nverify_view, nverify_footprint}
 use Rattle.lnfs_operations.proofs.AccessLaws.{access_view, access_footprint, read_link_view, read_link_footprint}
 use Rattle.lnfs_operations.proofs.ReadDirLaws.{read_dir_view, read_dir_footprint}
+use Rattle.lnfs_operations.proofs.CreateLaws.{create_view, create_footprint}
+use Rattle.lnfs_operations.proofs.LinkLaws.{link_view, link_footprint}
+use Rattle.lnfs_operations.proofs.RemoveLaws.{remove_view, remove_footprint}
+use Rattle.lnfs_operations.proofs.RenameLaws.{rename_view, rename_footprint}
+use Rattle.lnfs_operations.proofs.SetAttrLaws.{set_attr_view, set_attr_footprint}
 
 and_alike : (b x y : Bool) → (b ≡ true → x ≡ y) → (b && x) ≡ (b && y)
 and_alike true x y same = same refl
@@ -82,6 +87,11 @@ module _ (site : Site) (lattice : IsPreorderWithBottom site.dom) (sent : Sent) w
   row_view (ops.Access bits) p a b sa sb e = ap (replied (ops.Access bits) (λ told. success (results.Access told.supported told.granted) Nowhere)) (access_view site bits p a b sa sb e)
   row_view (ops.ReadDir cookie verifier dircount maxcount asked) p a b sa sb e = ap (replied (ops.ReadDir cookie verifier dircount maxcount asked) (λ found. success (results.ReadDir (zeros 8) found.entries found.eof) Nowhere)) (read_dir_view site lattice (record { cookie = cookie; maxcount = maxcount; asked = asked }) p a b sa sb e)
   row_view ops.ReadLink p a b sa sb e = ap (replied ops.ReadLink (λ text. success (results.ReadLink text) Nowhere)) (read_link_view site p a b sa sb e)
+  row_view (ops.Create what name given) p a b sa sb e = ap (replied (ops.Create what name given) (λ made. success (results.Create made.info made.set) Nowhere)) (create_view site lattice what name given p a b sa sb e)
+  row_view (ops.Link name) p a b sa sb e = ap (replied (ops.Link name) (λ info. success (results.Link info) Nowhere)) (link_view site lattice name p a b sa sb e)
+  row_view (ops.Remove name) p a b sa sb e = ap (replied (ops.Remove name) (λ info. success (results.Remove info) Nowhere)) (remove_view site lattice name p a b sa sb e)
+  row_view (ops.Rename old new) p a b sa sb e = ap (replied (ops.Rename old new) (λ renamed. success (results.Rename renamed.source renamed.target) Nowhere)) (rename_view site lattice old new p a b sa sb e)
+  row_view (ops.SetAttr id given) p a b sa sb e = ap (replied (ops.SetAttr id given) (λ set. success (results.SetAttr 0 set) Nowhere)) (set_attr_view site lattice given p a b sa sb e)
   row_view (ops.Outside number status) p a b sa sb e = refl
   row_view op p a b sa sb e = refl
 
@@ -105,6 +115,11 @@ module _ (site : Site) (lattice : IsPreorderWithBottom site.dom) (sent : Sent) w
   row_footprint (ops.Access bits) p w stands = with_answer site.dom p w _ _ (access_footprint site bits p w stands)
   row_footprint (ops.ReadDir cookie verifier dircount maxcount asked) p w stands = with_answer site.dom p w _ _ (read_dir_footprint site lattice (record { cookie = cookie; maxcount = maxcount; asked = asked }) p w stands)
   row_footprint ops.ReadLink p w stands = with_answer site.dom p w _ _ (read_link_footprint site p w stands)
+  row_footprint (ops.Create what name given) p w stands = with_answer site.dom p w _ _ (create_footprint site lattice what name given p w stands)
+  row_footprint (ops.Link name) p w stands = with_answer site.dom p w _ _ (link_footprint site lattice name p w stands)
+  row_footprint (ops.Remove name) p w stands = with_answer site.dom p w _ _ (remove_footprint site lattice name p w stands)
+  row_footprint (ops.Rename old new) p w stands = with_answer site.dom p w _ _ (rename_footprint site lattice old new p w stands)
+  row_footprint (ops.SetAttr id given) p w stands = with_answer site.dom p w _ _ (set_attr_footprint site lattice p w stands given)
   row_footprint (ops.Outside number status) p w stands = unchanged_footprint site.dom p w stands _
   row_footprint op p w stands = unchanged_footprint site.dom p w stands _
 

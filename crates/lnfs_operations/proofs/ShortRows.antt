@@ -27,7 +27,7 @@ use Rattle.lnfs_operations.specs.declared.numbers.TheConstants.{EMPTY_LISTING, M
 use Rattle.lnfs_operations.specs.Chain.{Refusal, Answer, refuse}
 use Rattle.lnfs_operations.specs.Access.{Granted}
 use Rattle.lnfs_operations.specs.Handles.{handle_of}
-use Rattle.lnfs_operations.specs.Shown.{stored_or, shown, answer_to}
+use Rattle.lnfs_operations.specs.Shown.{stored_or, label_shown, shown, answer_to}
 use Rattle.lnfs_operations.specs.ReadDir.{Arguments, Listed, shown_entry, taken, with_entry, where_shown, listed}
 use Rattle.lnfs_operations.specs.Sequence.{Sent}
 use Rattle.lnfs_operations.specs.Served.{Nowhere, Reply, Own, Kept, success, reply_of, plainly, zeros, row}
@@ -82,8 +82,11 @@ spelled_short true spelled (Some own) short stored = stored
 spelled_short false spelled o short stored = short
 
 module _ (site : Site) (spells : SpellsShortly site) where
+  pub label_short : (p : Place) (n : Node) → NodeFits n → length (label_shown site p n).bytes ≤ MOST_LABEL
+  label_short p n fits = spelled_short (site.limited && allows site.dom p.subject (Read n.label)) (site.spelling n.label) n.inner.stored (spells.spelling n.label) fits.stored
+
   pub shown_fits : (p : Place) (entries : List Entry) (n : Node) (error : ℕ) → NodeFits n → ViewFits (shown site p entries n error)
-  shown_fits p entries n error fits = (handle_length n.id, spelled_short (site.limited && allows site.dom p.subject (Read n.label)) (site.spelling n.label) n.inner.stored (spells n.label) fits.stored)
+  shown_fits p entries n error fits = (handle_length n.id, label_short p n fits)
 
 node_fits : (w : World) → Sizes w → (i : Id) (n : Node) → node_at w.nodes i ≡ Some n → NodeFits n
 node_fits w sizes i n found = (all_find NodeFits (λ m. same_id i m.id) w.nodes n sizes.nodes found).0
@@ -122,49 +125,49 @@ abbrev pub Short : Further → Op → Reply → Type 0
 Short x op (Own own keeper) = ShortBy x op own.result own.refusal
 Short x op (Kept reply) = ⊥
 
+-- what an operation answers is short
+abbrev pub IsShortBy : {R : Type 0} → Further → Op → (R → Reply) → Outcome (Answer R) → Type 0
+IsShortBy x op reply o = Short x op (reply_of op reply o.answer)
+
+pub refused_short : {R : Type 0} (x : Further) (p : Place) (op : Op) (reply : R → Reply) (gate : Gate) (status : ℕ) → IsShortBy x op reply (refuse p gate status)
+refused_short x p op reply gate status = failed_short op status
+
 module _ (x : Further) (site : Site) (spells : SpellsShortly site) (sent : Sent) (p : Place) (w : World) (sizes : Sizes w) where
-  -- what an operation answers is short
-  abbrev IsShortBy : {R : Type 0} → Op → (R → Reply) → Outcome (Answer R) → Type 0
-  IsShortBy op reply o = Short x op (reply_of op reply o.answer)
-
-  refused_short : {R : Type 0} (op : Op) (reply : R → Reply) (gate : Gate) (status : ℕ) → IsShortBy op reply (refuse p gate status)
-  refused_short op reply gate status = failed_short op status
-
   pub row_short : (op : Op) → is_reading op ≡ true → Short x op (row site sent op p w).answer
   unfolding fields_text
   row_short (ops.PutFh handle) is =
-      let P = IsShortBy (ops.PutFh handle) (plainly results.PutFh) in
-      put_fh_any P site p w (refused_short (ops.PutFh handle) (plainly results.PutFh)) (λ q moved. plain_short results.PutFh refl refl) handle
+      let P = IsShortBy x (ops.PutFh handle) (plainly results.PutFh) in
+      put_fh_any P site p w (refused_short x p (ops.PutFh handle) (plainly results.PutFh)) (λ q moved. plain_short results.PutFh refl refl) handle
   row_short ops.PutRootFh is = plain_short results.PutRootFh refl refl
   row_short ops.GetFh is =
       let reply = λ (handle : List ℕ). success (results.GetFh handle) Nowhere in
-      get_fh_any (IsShortBy ops.GetFh reply) p w (refused_short ops.GetFh reply) (λ i. get_fh_short i)
+      get_fh_any (IsShortBy x ops.GetFh reply) p w (refused_short x p ops.GetFh reply) (λ i. get_fh_short i)
   row_short ops.SaveFh is =
-      save_fh_any (IsShortBy ops.SaveFh (plainly results.SaveFh)) site p w (refused_short ops.SaveFh (plainly results.SaveFh)) (λ q moved. plain_short results.SaveFh refl refl)
+      save_fh_any (IsShortBy x ops.SaveFh (plainly results.SaveFh)) site p w (refused_short x p ops.SaveFh (plainly results.SaveFh)) (λ q moved. plain_short results.SaveFh refl refl)
   row_short ops.RestoreFh is =
-      restore_fh_any (IsShortBy ops.RestoreFh (plainly results.RestoreFh)) site p w (refused_short ops.RestoreFh (plainly results.RestoreFh)) (λ q moved. plain_short results.RestoreFh refl refl)
+      restore_fh_any (IsShortBy x ops.RestoreFh (plainly results.RestoreFh)) site p w (refused_short x p ops.RestoreFh (plainly results.RestoreFh)) (λ q moved. plain_short results.RestoreFh refl refl)
   row_short (ops.Lookup name) is =
-      lookup_any (IsShortBy (ops.Lookup name) (plainly results.Lookup)) site p w (refused_short (ops.Lookup name) (plainly results.Lookup)) (λ q moved. plain_short results.Lookup refl refl) name
+      lookup_any (IsShortBy x (ops.Lookup name) (plainly results.Lookup)) site p w (refused_short x p (ops.Lookup name) (plainly results.Lookup)) (λ q moved. plain_short results.Lookup refl refl) name
   row_short ops.LookupP is =
-      lookup_parent_any (IsShortBy ops.LookupP (plainly results.LookupP)) site p w (refused_short ops.LookupP (plainly results.LookupP)) (λ q moved. plain_short results.LookupP refl refl)
+      lookup_parent_any (IsShortBy x ops.LookupP (plainly results.LookupP)) site p w (refused_short x p ops.LookupP (plainly results.LookupP)) (λ q moved. plain_short results.LookupP refl refl)
   row_short (ops.GetAttr asked) is =
       let reply = λ (given : RawAttrs). success (results.GetAttr given) Nowhere in
-      get_attr_any (IsShortBy (ops.GetAttr asked) reply) site asked p w (refused_short (ops.GetAttr asked) reply) (λ i n found.
+      get_attr_any (IsShortBy x (ops.GetAttr asked) reply) site asked p w (refused_short x p (ops.GetAttr asked) reply) (λ i n found.
       get_attr_short (answer_to asked true (shown site p w.entries n 0)) (answer_fits asked true (shown site p w.entries n 0) (shown_fits site spells p w.entries n 0 (node_fits w sizes i n found))))
   row_short (ops.Verify given) is =
-      verify_any (IsShortBy (ops.Verify given) (plainly results.Verify)) site given p w (refused_short (ops.Verify given) (plainly results.Verify)) (plain_short results.Verify refl refl)
+      verify_any (IsShortBy x (ops.Verify given) (plainly results.Verify)) site given p w (refused_short x p (ops.Verify given) (plainly results.Verify)) (plain_short results.Verify refl refl)
   row_short (ops.NVerify given) is =
-      nverify_any (IsShortBy (ops.NVerify given) (plainly results.NVerify)) site given p w (refused_short (ops.NVerify given) (plainly results.NVerify)) (plain_short results.NVerify refl refl)
+      nverify_any (IsShortBy x (ops.NVerify given) (plainly results.NVerify)) site given p w (refused_short x p (ops.NVerify given) (plainly results.NVerify)) (plain_short results.NVerify refl refl)
   row_short (ops.Access bits) is =
       let reply = λ (told : Granted). success (results.Access told.supported told.granted) Nowhere in
-      access_any (IsShortBy (ops.Access bits) reply) site bits p w (refused_short (ops.Access bits) reply) (λ granted. access_short granted.supported granted.granted)
+      access_any (IsShortBy x (ops.Access bits) reply) site bits p w (refused_short x p (ops.Access bits) reply) (λ granted. access_short granted.supported granted.granted)
   row_short (ops.ReadDir cookie verifier dircount maxcount asked) is =
       let op = ops.ReadDir cookie verifier dircount maxcount asked in
       let args : Arguments = record { cookie = cookie; maxcount = maxcount; asked = asked } in
       let reply = λ (found : Listed). success (results.ReadDir (zeros 8) found.entries found.eof) Nowhere in
-      read_dir_any (IsShortBy op reply) site args p w (refused_short op reply) (λ i d found there enough is.
+      read_dir_any (IsShortBy x op reply) site args p w (refused_short x p op reply) (λ i d found there enough is.
       read_dir_short found (min maxcount MOST_DATA) (grind (arith, nat_tests, enough)) (listed_short (λ e. shown_entry site p w asked e (node_at w.nodes e.node)) (entries_above w.entries d.id cookie) (min maxcount MOST_DATA - EMPTY_LISTING) found is))
   row_short ops.ReadLink is =
       let reply = λ (text : List ℕ). success (results.ReadLink text) Nowhere in
-      read_link_any (IsShortBy ops.ReadLink reply) site p w (refused_short ops.ReadLink reply) (λ i n there link. read_link_short n.inner.content ((node_fits w sizes i n there).text link))
+      read_link_any (IsShortBy x ops.ReadLink reply) site p w (refused_short x p ops.ReadLink reply) (λ i n there link. read_link_short n.inner.content ((node_fits w sizes i n there).text link))
   row_short op is = absurd (grind arith)

@@ -39,10 +39,11 @@ use Rattle.lnfs_operations.proofs.SlotRules.{followed_any}
 use Rattle.lnfs_operations.proofs.Chains.{demand_any, where_any, in_order_any}
 use Rattle.lnfs_operations.specs.declared.numbers.TheConstants.{MOST_CREATED, LARGEST_WRAPPING}
 use Rattle.lnfs_operations.proofs.ReadingRows.{row_reads, reads_sizes}
+use Rattle.lnfs_operations.proofs.ChangingRows.{row_changes, changes_sizes}
 use Rattle.lnfs_operations.proofs.Once.{admitted_any}
 use Rattle.lnfs_operations.proofs.ExchangeIdLaws.{exchange_id_any}
 use Rattle.lnfs_operations.proofs.CreateSessionLaws.{created_any}
-use Rattle.lnfs_operations.specs.Sizes.{IsGranted, SlotFits, SessionFits, ClientFits, Sizes}
+use Rattle.lnfs_operations.specs.Sizes.{IsGranted, SlotFits, SessionFits, ClientFits, Sizes, SpellsShortly}
 
 -- ---- changes
 
@@ -148,32 +149,37 @@ module _ (p : Place) (w : World) (sizes : Sizes w) where
   reclaim_under_sizes one_fs None = sizes
   reclaim_under_sizes one_fs (Some number) = where_any Keeps (client_at w.clients (record { level = p.subject; number = number })) _ _ (λ c found. reclaimed_sizes one_fs number c found) sizes
 
-  pub row_sizes : (site : Site) (sent : Sent) (op : Op) → Keeps (row site sent op p w)
-  row_sizes site sent (ops.ExchangeId verifier owner flags implementation) = exchange_id_sizes (record { verifier = verifier; owner = owner; flags = flags })
-  row_sizes site sent (ops.CreateSession args) = create_session_sizes args sent.arguments
-  row_sizes site sent (ops.DestroySession session) = destroy_session_sizes session
-  row_sizes site sent (ops.Sequence args) = sequence_sizes args sent
-  row_sizes site sent (ops.DestroyClientId client) = destroy_clientid_sizes client
-  row_sizes site sent (ops.ReclaimComplete one_fs) = reclaim_under_sizes one_fs p.client
-  row_sizes site sent (ops.PutFh handle) = reads_sizes p w _ (row_reads site sent p w (ops.PutFh handle) refl) sizes
-  row_sizes site sent ops.PutRootFh = reads_sizes p w _ (row_reads site sent p w ops.PutRootFh refl) sizes
-  row_sizes site sent ops.GetFh = reads_sizes p w _ (row_reads site sent p w ops.GetFh refl) sizes
-  row_sizes site sent ops.SaveFh = reads_sizes p w _ (row_reads site sent p w ops.SaveFh refl) sizes
-  row_sizes site sent ops.RestoreFh = reads_sizes p w _ (row_reads site sent p w ops.RestoreFh refl) sizes
-  row_sizes site sent (ops.Lookup name) = reads_sizes p w _ (row_reads site sent p w (ops.Lookup name) refl) sizes
-  row_sizes site sent ops.LookupP = reads_sizes p w _ (row_reads site sent p w ops.LookupP refl) sizes
-  row_sizes site sent (ops.GetAttr asked) = reads_sizes p w _ (row_reads site sent p w (ops.GetAttr asked) refl) sizes
-  row_sizes site sent (ops.Verify given) = reads_sizes p w _ (row_reads site sent p w (ops.Verify given) refl) sizes
-  row_sizes site sent (ops.NVerify given) = reads_sizes p w _ (row_reads site sent p w (ops.NVerify given) refl) sizes
-  row_sizes site sent (ops.Access bits) = reads_sizes p w _ (row_reads site sent p w (ops.Access bits) refl) sizes
-  row_sizes site sent (ops.ReadDir cookie verifier dircount maxcount asked) = reads_sizes p w _ (row_reads site sent p w (ops.ReadDir cookie verifier dircount maxcount asked) refl) sizes
-  row_sizes site sent ops.ReadLink = reads_sizes p w _ (row_reads site sent p w ops.ReadLink refl) sizes
-  row_sizes site sent (ops.Outside number status) = sizes
-  row_sizes site sent op = sizes
+  pub row_sizes : (site : Site) → SpellsShortly site → (sent : Sent) (op : Op) → Keeps (row site sent op p w)
+  row_sizes site spells sent (ops.ExchangeId verifier owner flags implementation) = exchange_id_sizes (record { verifier = verifier; owner = owner; flags = flags })
+  row_sizes site spells sent (ops.CreateSession args) = create_session_sizes args sent.arguments
+  row_sizes site spells sent (ops.DestroySession session) = destroy_session_sizes session
+  row_sizes site spells sent (ops.Sequence args) = sequence_sizes args sent
+  row_sizes site spells sent (ops.DestroyClientId client) = destroy_clientid_sizes client
+  row_sizes site spells sent (ops.ReclaimComplete one_fs) = reclaim_under_sizes one_fs p.client
+  row_sizes site spells sent (ops.PutFh handle) = reads_sizes p w _ (row_reads site sent p w (ops.PutFh handle) refl) sizes
+  row_sizes site spells sent ops.PutRootFh = reads_sizes p w _ (row_reads site sent p w ops.PutRootFh refl) sizes
+  row_sizes site spells sent ops.GetFh = reads_sizes p w _ (row_reads site sent p w ops.GetFh refl) sizes
+  row_sizes site spells sent ops.SaveFh = reads_sizes p w _ (row_reads site sent p w ops.SaveFh refl) sizes
+  row_sizes site spells sent ops.RestoreFh = reads_sizes p w _ (row_reads site sent p w ops.RestoreFh refl) sizes
+  row_sizes site spells sent (ops.Lookup name) = reads_sizes p w _ (row_reads site sent p w (ops.Lookup name) refl) sizes
+  row_sizes site spells sent ops.LookupP = reads_sizes p w _ (row_reads site sent p w ops.LookupP refl) sizes
+  row_sizes site spells sent (ops.GetAttr asked) = reads_sizes p w _ (row_reads site sent p w (ops.GetAttr asked) refl) sizes
+  row_sizes site spells sent (ops.Verify given) = reads_sizes p w _ (row_reads site sent p w (ops.Verify given) refl) sizes
+  row_sizes site spells sent (ops.NVerify given) = reads_sizes p w _ (row_reads site sent p w (ops.NVerify given) refl) sizes
+  row_sizes site spells sent (ops.Access bits) = reads_sizes p w _ (row_reads site sent p w (ops.Access bits) refl) sizes
+  row_sizes site spells sent (ops.ReadDir cookie verifier dircount maxcount asked) = reads_sizes p w _ (row_reads site sent p w (ops.ReadDir cookie verifier dircount maxcount asked) refl) sizes
+  row_sizes site spells sent ops.ReadLink = reads_sizes p w _ (row_reads site sent p w ops.ReadLink refl) sizes
+  row_sizes site spells sent (ops.Create what name given) = changes_sizes site p w _ (row_changes site p w sent (ops.Create what name given) refl) spells sizes
+  row_sizes site spells sent (ops.Link name) = changes_sizes site p w _ (row_changes site p w sent (ops.Link name) refl) spells sizes
+  row_sizes site spells sent (ops.Remove name) = changes_sizes site p w _ (row_changes site p w sent (ops.Remove name) refl) spells sizes
+  row_sizes site spells sent (ops.Rename old new) = changes_sizes site p w _ (row_changes site p w sent (ops.Rename old new) refl) spells sizes
+  row_sizes site spells sent (ops.SetAttr id given) = changes_sizes site p w _ (row_changes site p w sent (ops.SetAttr id given) refl) spells sizes
+  row_sizes site spells sent (ops.Outside number status) = sizes
+  row_sizes site spells sent op = sizes
 
 -- ---- in a COMPOUND
 
-module _ (X : Extra) (owed : AreLawful X) (site : Site) (lattice : IsPreorderWithBottom site.dom) (sent : Sent) (c : Compound) where
+module _ (X : Extra) (owed : AreLawful X) (site : Site) (lattice : IsPreorderWithBottom site.dom) (spells : SpellsShortly site) (sent : Sent) (c : Compound) where
   chosen_sizes : (b : Bool) (x y : Deed Reply (Both X.Row)) (p : Place) (a : Both X.Row) → Sizes (x p a).state.world → Sizes (y p a).state.world → Sizes (cond b x y p a).state.world
   chosen_sizes true x y p a r t = r
   chosen_sizes false x y p a r t = t
@@ -184,7 +190,7 @@ module _ (X : Extra) (owed : AreLawful X) (site : Site) (lattice : IsPreorderWit
       let same = tame.untouched in
       chosen_sizes (X.grammar.serves number) (further_reply number (X.outcome site number arguments)) (on_world (deed_of (row site sent (ops.Extra number arguments)))) p b
       (record { sessions = subst (AllByRecursion SessionFits) (sym same.sessions) sizes.sessions; clients = subst (AllByRecursion ClientFits) (sym same.clients) sizes.clients; nodes = tame.sizes sizes.nodes }) sizes
-  row_in_sizes op p b stands sizes = row_sizes p b.world sizes site sent op
+  row_in_sizes op p b stands sizes = row_sizes p b.world sizes site spells sent op
 
   pub operation_sizes : (so_far : List OpResult) (op : Op) (p : Place) (b : Both X.Row) → BothStand X.Fact site.dom p b → Sizes b.world → Sizes (operation X site sent c so_far op p b).state.world
   operation_sizes so_far op p b stands sizes =

@@ -226,6 +226,11 @@ module _ (c : Compound) (read : IsRead c) where
     from_fits (ops.Access bits ∷ rest) few = behind_sequence (ops.Access bits) rest
     from_fits (ops.ReadDir cookie verifier dircount maxcount asked ∷ rest) few = behind_sequence (ops.ReadDir cookie verifier dircount maxcount asked) rest
     from_fits (ops.ReadLink ∷ rest) few = behind_sequence ops.ReadLink rest
+    from_fits (ops.Create what name given ∷ rest) few = behind_sequence (ops.Create what name given) rest
+    from_fits (ops.Link name ∷ rest) few = behind_sequence (ops.Link name) rest
+    from_fits (ops.Remove name ∷ rest) few = behind_sequence (ops.Remove name) rest
+    from_fits (ops.Rename old new ∷ rest) few = behind_sequence (ops.Rename old new) rest
+    from_fits (ops.SetAttr id given ∷ rest) few = behind_sequence (ops.SetAttr id given) rest
     from_fits (ops.Outside number status ∷ rest) few = failure_fits deeds (ops.Outside number status) (begins_at level moment) b (record { gate = gates.Outside; status = status })
     from_fits (ops.Extra number arguments ∷ rest) few = extra_fits number arguments rest (X.grammar.serves number)
     from_fits (op ∷ rest) few = failure_fits deeds op (begins_at level moment) b (record { gate = gates.Outside; status = NFS4ERR_NOTSUPP })
@@ -245,7 +250,7 @@ module _ (X : Extra) (owed : AreLawful X) (site : Site) (lattice : IsPreorderWit
   unfolding served
   served_sizes =
       let r = run_all (operation X site sent c) c (begins_at level moment) b in
-      keep_sizes r.place r.state (run_sizes X owed site lattice sent c (begins_at level moment) b stands sizes) (record { arguments = sent.arguments; reply = result_of c r.results r.again }) r.keeper (run_fits c read X owed site lattice spells sent level moment b stands sizes).kept
+      keep_sizes r.place r.state (run_sizes X owed site lattice spells sent c (begins_at level moment) b stands sizes) (record { arguments = sent.arguments; reply = result_of c r.results r.again }) r.keeper (run_fits c read X owed site lattice spells sent level moment b stands sizes).kept
 
   pub served_short : length (served X site sent c (begins_at level moment) b).answer.result + LARGEST_WRAPPING ≤ MOST_SIZE
   unfolding served

@@ -123,7 +123,7 @@ keep_view dom lattice Nowhere kept p a b sa sb e = refl
 keep_view dom lattice (Slot slot sequence) kept p a b sa sb e = keep_result_view dom lattice slot sequence kept p a b sa sb e
 keep_view dom lattice (Record client) kept p a b sa sb e = keep_created_view dom lattice client kept p a b sa sb e
 
-keep_footprint : (dom : ℕ → ℕ → Bool) (keeper : Keeper) (kept : world.Kept) → Footprint dom (keep_in keeper kept)
+pub keep_footprint : (dom : ℕ → ℕ → Bool) (keeper : Keeper) (kept : world.Kept) → Footprint dom (keep_in keeper kept)
 keep_footprint dom Nowhere kept p w stands = unchanged_footprint dom p w stands tt
 keep_footprint dom (Slot slot sequence) kept p w stands = keep_result_footprint dom slot sequence kept p w stands
 keep_footprint dom (Record client) kept p w stands = keep_created_footprint dom client kept p w stands

@@ -10,7 +10,8 @@ use Rattle.lnfs_arguments.specs.declared.channel.Channel.{Channel as Asked}
 use Rattle.lnfs_arguments.specs.declared.statuses.TheConstants.{NFS4ERR_NOSPC, NFS4ERR_TOOSMALL, NFS4ERR_STALE_CLIENTID}
 use Rattle.lnfs_operations.specs.declared.Gate.TheVariants as gates
 use Rattle.lnfs_monitor.specs.declared.rule.Rule.TheVariants.{M9}
-use Rattle.lnfs_operations.specs.declared.numbers.TheConstants.{SESSIONS_OF_A_LEVEL, LAST_NUMBER, LEAST_SIZE, MOST_SIZE, MOST_OPERATIONS, MOST_REQUESTS}
+use Rattle.lnfs_world.specs.declared.numbers.TheConstants.{LAST_NUMBER}
+use Rattle.lnfs_operations.specs.declared.numbers.TheConstants.{SESSIONS_OF_A_LEVEL, LEAST_SIZE, MOST_SIZE, MOST_OPERATIONS, MOST_REQUESTS}
 use Rattle.lnfs_operations.specs.Chain.{Answer, refuse, done, demand, where_there}
 use Rattle.lnfs_operations.specs.ExchangeId.{dropped}
 use Rattle.lnfs_operations.specs.Identifiers.{client_named}

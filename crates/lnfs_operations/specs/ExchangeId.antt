@@ -7,7 +7,8 @@ use Rattle.lnfs_world.specs.Change.{Change, AddClient, DropClient}
 use Rattle.lnfs_world.specs.Outcome.{Act}
 use Rattle.lnfs_arguments.specs.declared.statuses.TheConstants.{NFS4ERR_INVAL, NFS4ERR_NOSPC}
 use Rattle.lnfs_operations.specs.declared.Gate.TheVariants.{Session}
-use Rattle.lnfs_operations.specs.declared.numbers.TheConstants.{EXCHGID4_FLAG_CONFIRMED_R, EXCHGID4_FLAG_UPD_CONFIRMED_REC_A, CLIENTS_OF_A_LEVEL, LAST_NUMBER}
+use Rattle.lnfs_world.specs.declared.numbers.TheConstants.{LAST_NUMBER}
+use Rattle.lnfs_operations.specs.declared.numbers.TheConstants.{EXCHGID4_FLAG_CONFIRMED_R, EXCHGID4_FLAG_UPD_CONFIRMED_REC_A, CLIENTS_OF_A_LEVEL}
 use Rattle.lnfs_operations.specs.Chain.{Answer, refuse, done, demand, where_there}
 
 -- what the operation looks at of its arguments

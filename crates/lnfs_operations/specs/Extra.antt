@@ -1,10 +1,10 @@
 -- Further operations beside those of the table, and what they owe.
-use Rattle.std.specs.Prelude.{◌≡◌, ◌≢◌, ◌≤◌, ◌+◌, ◌⊎◌, ℕ, Bool, true, List, [], length, Option, Some, None, is_some}
+use Rattle.std.specs.Prelude.{◌≡◌, ◌≢◌, ◌≤◌, ◌+◌, ◌⊎◌, ℕ, Bool, true, false, List, [], length, Option, Some, None, is_some}
 use Rattle.std.specs.List.{AllByRecursion}
 use Rattle.lnfs_calipso.specs.Label.{IsPreorderWithBottom}
 use Rattle.lnfs_arguments.specs.declared.statuses.TheConstants.{NFS4ERR_NOTSUPP}
 use Rattle.lnfs_arguments.specs.Further.{Further, nothing_further}
-use Rattle.lnfs_world.specs.World.{Id, World, label_at}
+use Rattle.lnfs_world.specs.World.{Id, World, label_at, is_given}
 use Rattle.lnfs_world.specs.Outcome.{Site, Place}
 use Rattle.lnfs_world.specs.Tame.{Tame}
 use Rattle.lnfs_world.specs.Lawful.{Turn, Deed, Lawful}
@@ -26,7 +26,8 @@ pub record Extra : Type 1 where
   pub outcome : Site → (number : ℕ) (arguments : List ℕ) → Deed Said (Both Row)
   pub Fact : World → List Row → Type 0
 
--- what stays of a world: clients, sessions and contexts, their last numbers, and each label
+-- What stays of a world: clients, sessions and contexts, their last numbers, and each label. A new node has an
+-- identifier that wasn't given before.
 pub record Untouched (a b : World) : Type 0 where
   pub clients : b.clients ≡ a.clients
   pub sessions : b.sessions ≡ a.sessions
@@ -35,6 +36,7 @@ pub record Untouched (a b : World) : Type 0 where
   pub last_sessions : b.lasts.sessions ≡ a.lasts.sessions
   pub last_contexts : b.lasts.contexts ≡ a.lasts.contexts
   pub labels : (i : Id) (l m : ℕ) → label_at a.nodes i ≡ Some l → label_at b.nodes i ≡ Some m → m ≡ l
+  pub new : (i : Id) (m : ℕ) → label_at a.nodes i ≡ None → label_at b.nodes i ≡ Some m → is_given a.lasts.nodes i ≡ false
 
 -- a file handle is unchanged, or names a node whose home the subject dominates
 abbrev pub MayBecome : (ℕ → ℕ → Bool) → ℕ → World → Option Id → Option Id → Type 0

@@ -6,7 +6,7 @@ use Rattle.lnfs_world.specs.World.{Id, Node, World, node_at}
 use Rattle.lnfs_world.specs.Outcome.{Site, Place, Outcome}
 use Rattle.lnfs_arguments.specs.declared.statuses.TheConstants.{NFS4ERR_STALE, NFS4ERR_NOFILEHANDLE}
 use Rattle.lnfs_operations.specs.declared.Gate.TheVariants.{Namespace}
-use Rattle.lnfs_operations.specs.declared.numbers.TheConstants.{LAST_NUMBER}
+use Rattle.lnfs_world.specs.declared.numbers.TheConstants.{LAST_NUMBER}
 use Rattle.lnfs_operations.specs.Chain.{Answer, refuse, where_there}
 
 -- the home of a node and its number there

@@ -19,6 +19,13 @@ pub mod Access
 pub mod GetAttr
 pub mod ReadDir
 pub mod ReadLink
+pub mod Given
+pub mod NewNames
+pub mod Create
+pub mod Link
+pub mod Remove
+pub mod Rename
+pub mod SetAttr
 pub mod Sizes
 pub mod Extra
 pub mod Results

@@ -30,6 +30,11 @@ use Rattle.lnfs_operations.specs.GetAttr.{get_attr, verify, nverify}
 use Rattle.lnfs_operations.specs.Access.{access}
 use Rattle.lnfs_operations.specs.ReadDir.{read_dir}
 use Rattle.lnfs_operations.specs.ReadLink.{read_link}
+use Rattle.lnfs_operations.specs.Create.{create}
+use Rattle.lnfs_operations.specs.Link.{link}
+use Rattle.lnfs_operations.specs.Remove.{remove}
+use Rattle.lnfs_operations.specs.Rename.{rename}
+use Rattle.lnfs_operations.specs.SetAttr.{set_attr}
 use Rattle.lnfs_operations.specs.Extra.{Said, Extra}
 use Rattle.lnfs_operations.specs.Results.{Answered, failed, told_result, said_result}
 use Rattle.lnfs_operations.specs.Admission.{admission}
@@ -131,6 +136,11 @@ row site sent (ops.Access bits) p w = replied (ops.Access bits) (λ told. succes
 row site sent (ops.ReadDir cookie verifier dircount maxcount asked) p w =
     replied (ops.ReadDir cookie verifier dircount maxcount asked) (λ found. success (results.ReadDir (zeros 8) found.entries found.eof) Nowhere) (read_dir site (record { cookie = cookie; maxcount = maxcount; asked = asked }) p w)
 row site sent ops.ReadLink p w = replied ops.ReadLink (λ text. success (results.ReadLink text) Nowhere) (read_link site p w)
+row site sent (ops.Create what name given) p w = replied (ops.Create what name given) (λ made. success (results.Create made.info made.set) Nowhere) (create site what name given p w)
+row site sent (ops.Link name) p w = replied (ops.Link name) (λ info. success (results.Link info) Nowhere) (link site name p w)
+row site sent (ops.Remove name) p w = replied (ops.Remove name) (λ info. success (results.Remove info) Nowhere) (remove site name p w)
+row site sent (ops.Rename old new) p w = replied (ops.Rename old new) (λ renamed. success (results.Rename renamed.source renamed.target) Nowhere) (rename site old new p w)
+row site sent (ops.SetAttr id given) p w = replied (ops.SetAttr id given) (λ set. success (results.SetAttr 0 set) Nowhere) (set_attr site given p w)
 row site sent (ops.Outside number status) p w = replied (ops.Outside number status) (told_reply p.subject) (refuse p Outside status)
 row site sent op p w = replied op (told_reply p.subject) (refuse p Outside NFS4ERR_NOTSUPP)
 
@@ -173,6 +183,11 @@ is_served x (ops.NVerify given) = true
 is_served x (ops.Access bits) = true
 is_served x (ops.ReadDir cookie verifier dircount maxcount asked) = true
 is_served x ops.ReadLink = true
+is_served x (ops.Create what name given) = true
+is_served x (ops.Link name) = true
+is_served x (ops.Remove name) = true
+is_served x (ops.Rename old new) = true
+is_served x (ops.SetAttr id given) = true
 is_served x (ops.Outside number status) = true
 is_served x (ops.Extra number arguments) = x.serves number
 is_served x op = false

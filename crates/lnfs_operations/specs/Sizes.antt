@@ -3,8 +3,8 @@
 use Rattle.std.specs.Prelude.{◌≡◌, ◌≤◌, ◌+◌, ℕ, true, length, IfSome}
 use Rattle.std.specs.List.{AllByRecursion}
 use Rattle.lnfs_arguments.specs.declared.types.Compound.{Compound}
-use Rattle.lnfs_world.specs.World.{Client, Channel, Slot, Session, Node, World}
-use Rattle.lnfs_world.specs.Outcome.{Site}
+use Rattle.lnfs_world.specs.World.{Client, Channel, Slot, Session, Stored, Node, World}
+use Rattle.lnfs_world.specs.Outcome.{LevelOf, Site}
 use Rattle.lnfs_operations.specs.declared.numbers.TheConstants.{LEAST_SIZE, MOST_SIZE, MOST_OPERATIONS, MOST_REQUESTS, LARGEST_WRAPPING, MOST_CREATED, MOST_LABEL, MOST_TEXT}
 use Rattle.lnfs_operations.specs.Lookup.{is_link}
 
@@ -43,9 +43,12 @@ pub record Sizes (w : World) : Type 0 where
   pub clients : AllByRecursion ClientFits w.clients
   pub nodes : AllByRecursion NodeFits w.nodes
 
--- Each level has a short spelling.
-abbrev pub SpellsShortly : Site → Type 0
-SpellsShortly site = (level : ℕ) → length (site.spelling level).bytes ≤ MOST_LABEL
+-- Labels are short.
+pub record SpellsShortly (site : Site) : Type 0 where
+  -- the spelling of each level
+  pub spelling : (level : ℕ) → length (site.spelling level).bytes ≤ MOST_LABEL
+  -- where labels are carried alone, each that is taken
+  pub taken : site.limited ≡ true → (spelled : Stored) (level : ℕ) → site.reading spelled ≡ LevelOf level → length spelled.bytes ≤ MOST_LABEL
 
 -- A COMPOUND that was read: its tag is short, and it has no more operations than it counts.
 pub record IsRead (c : Compound) : Type 0 where

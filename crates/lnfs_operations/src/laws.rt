@@ -10,6 +10,7 @@ ghost use Rattle.lnfs_attrs.specs.Sizes.{ViewFits, IsAnswer};
 ghost use Rattle.lnfs_arguments.specs.declared.types.Op.{Op};
 ghost use Rattle.lnfs_arguments.specs.declared.types.Op.TheVariants as ops;
 ghost use Rattle.lnfs_arguments.specs.declared.types.Compound.{Compound};
+ghost use Rattle.lnfs_arguments.specs.declared.types.What.{What};
 ghost use Rattle.lnfs_arguments.specs.declared.types.CreateSession.{CreateSession};
 ghost use Rattle.lnfs_arguments.specs.declared.types.Sequence.{Sequence};
 ghost use Rattle.lnfs_results.specs.declared.types.OpResult.{OpResult};
@@ -17,6 +18,7 @@ ghost use Rattle.lnfs_world.specs.World.{Id, Kept, Client, Slot, Session, client
 ghost use Rattle.lnfs_world.specs.Outcome.{Site, View, Footprint, begins_at};
 ghost use Rattle.lnfs_world.specs.Both.{Both, both_seen, BothStand};
 ghost use Rattle.lnfs_world.specs.Lawful.{Lawful};
+ghost use Rattle.lnfs_world.specs.Labels.{LabelsRise};
 ghost use Rattle.lnfs_operations.specs.declared.numbers.TheConstants.{LEAST_SIZE, MOST_SIZE, LARGEST_WRAPPING};
 ghost use Rattle.lnfs_operations.specs.ExchangeId.{Arguments, exchange_id};
 ghost use Rattle.lnfs_operations.specs.CreateSession.{create_session};
@@ -38,7 +40,12 @@ ghost use Rattle.lnfs_operations.specs.Sizes.{Sizes, SpellsShortly, IsRead};
 ghost use Rattle.lnfs_operations.specs.Shown.{bitmap_of, answer_to};
 ghost use Rattle.lnfs_operations.specs.Handles.{handle_of};
 ghost use Rattle.lnfs_operations.specs.GetAttr.{get_attr, verify, nverify};
+ghost use Rattle.lnfs_operations.specs.Create.{create};
+ghost use Rattle.lnfs_operations.specs.SetAttr.{set_attr};
 ghost use Rattle.lnfs_operations.specs.ReadDir.{Arguments as Listing, read_dir};
+ghost use Rattle.lnfs_operations.specs.Link.{link};
+ghost use Rattle.lnfs_operations.specs.Remove.{remove};
+ghost use Rattle.lnfs_operations.specs.Rename.{rename};
 
 use crate::extra::ExtraRows;
 
@@ -103,6 +110,26 @@ pub fn reading_is_lawful()
     ensures read_dir_footprint { (site : Site) → IsPreorderWithBottom site.dom → (args : Listing) → Footprint site.dom (read_dir site args) }
 {}
 
+/// CREATE and SETATTR look only at what their subject sees, and change only directories and nodes whose label
+/// is the subject's level; what is made has its home there.
+pub fn making_is_lawful()
+    ensures create_view { (site : Site) → IsPreorderWithBottom site.dom → (what : What) (name : List ℕ) (given : RawAttrs) → View site.dom (create site what name given) }
+    ensures create_footprint { (site : Site) → IsPreorderWithBottom site.dom → (what : What) (name : List ℕ) (given : RawAttrs) → Footprint site.dom (create site what name given) }
+    ensures set_attr_view { (site : Site) → IsPreorderWithBottom site.dom → (given : RawAttrs) → View site.dom (set_attr site given) }
+    ensures set_attr_footprint { (site : Site) → IsPreorderWithBottom site.dom → (given : RawAttrs) → Footprint site.dom (set_attr site given) }
+{}
+
+/// Each operation that gives, takes out and moves names looks only at what its subject sees and changes only what is of
+/// the subject's level.
+pub fn naming_is_lawful()
+    ensures link_view { (site : Site) → IsPreorderWithBottom site.dom → (name : List ℕ) → View site.dom (link site name) }
+    ensures link_footprint { (site : Site) → IsPreorderWithBottom site.dom → (name : List ℕ) → Footprint site.dom (link site name) }
+    ensures remove_view { (site : Site) → IsPreorderWithBottom site.dom → (name : List ℕ) → View site.dom (remove site name) }
+    ensures remove_footprint { (site : Site) → IsPreorderWithBottom site.dom → (name : List ℕ) → Footprint site.dom (remove site name) }
+    ensures rename_view { (site : Site) → IsPreorderWithBottom site.dom → (old new : List ℕ) → View site.dom (rename site old new) }
+    ensures rename_footprint { (site : Site) → IsPreorderWithBottom site.dom → (old new : List ℕ) → Footprint site.dom (rename site old new) }
+{}
+
 /// Each operation behind the results so far of its COMPOUND keeps the two laws of erasure, and what has to stand of world and
 /// place.
 pub fn operations_are_lawful<X: ExtraRows>()
@@ -161,6 +188,14 @@ pub fn sizes_are_kept<X: ExtraRows>()
     ensures short { (site : Site) → IsPreorderWithBottom site.dom → SpellsShortly site → (sent : Sent) (c : Compound) (level : ℕ) (moment : Moment) (b : Both X.extra.Row) →
         BothStand X.extra.Fact site.dom (begins_at level moment) b → Sizes b.world → IsRead c →
         length (served X.extra site sent c (begins_at level moment) b).answer.result + LARGEST_WRAPPING ≤ MOST_SIZE }
+{}
+
+/// Whatever COMPOUND is served, labels go up alone: a node that stands before and after has a label afterwards that
+/// dominates the one that it had.
+pub fn labels_rise<X: ExtraRows>()
+    ensures { (site : Site) → IsPreorderWithBottom site.dom → (sent : Sent) (c : Compound) (level : ℕ) (moment : Moment) (b : Both X.extra.Row) →
+        BothStand X.extra.Fact site.dom (begins_at level moment) b →
+        LabelsRise site.dom b.world (served X.extra site sent c (begins_at level moment) b).state.world }
 {}
 
 /// A bitmap is that of the attributes that it has, and that of a test has those below 256 that pass. What is

@@ -13,9 +13,6 @@ pub const EXCHGID4_FLAG_USE_NON_PNFS: u32 = 0x0001_0000;
 /// How many client records a level may have.
 pub const CLIENTS_OF_A_LEVEL: u32 = 64;
 
-/// The last number that a level can give of a kind of identifier.
-pub const LAST_NUMBER: u32 = 4_294_967_295;
-
 /// The last sequence of a slot or of a CREATE_SESSION, after which comes 0.
 pub const LAST_SEQUENCE: u32 = 4_294_967_295;
 
@@ -62,3 +59,11 @@ pub const MOST_LABEL: u32 = 1_024;
 
 /// The most bytes of the text of a symbolic link.
 pub const MOST_TEXT: u32 = 1_024;
+
+/// The most of a mode: the twelve bits of RFC 8881 section 6.2.4.
+pub const MOST_MODE: u32 = 0o7777;
+
+/// The mode of a new directory, and of a new symbolic link, that brings none.
+pub const DIRECTORY_MODE: u32 = 0o755;
+
+pub const LINK_MODE: u32 = 0o777;

@@ -8,7 +8,8 @@ use Rattle.lnfs_world.specs.Rows.{inserted}
 use Rattle.lnfs_world.specs.World.{Id, Client, Session, World, client_order, session_order, level_order, same_id, client_at, last_of}
 use Rattle.lnfs_world.specs.Change.{SetClient, AddSession, is_session_of, apply_all}
 use Rattle.lnfs_world.specs.Outcome.{begins_at}
-use Rattle.lnfs_operations.specs.declared.numbers.TheConstants.{SESSIONS_OF_A_LEVEL, LAST_NUMBER}
+use Rattle.lnfs_world.specs.declared.numbers.TheConstants.{LAST_NUMBER}
+use Rattle.lnfs_operations.specs.declared.numbers.TheConstants.{SESSIONS_OF_A_LEVEL}
 use Rattle.lnfs_operations.specs.Chain.{done}
 use Rattle.lnfs_operations.specs.ExchangeId.{dropped}
 use Rattle.lnfs_operations.specs.CreateSession.{New, Again, create_session, made, is_large_enough, granted_of, is_replaced, new_session, sessions_of}

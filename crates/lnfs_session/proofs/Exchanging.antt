@@ -7,7 +7,8 @@ use Rattle.lnfs_world.specs.World.{Client, World, client_order, level_order, las
 use Rattle.lnfs_world.specs.Change.{AddClient, apply_all}
 use Rattle.lnfs_world.specs.Outcome.{begins_at}
 use Rattle.lnfs_operations.specs.declared.Gate.TheVariants.{Session}
-use Rattle.lnfs_operations.specs.declared.numbers.TheConstants.{EXCHGID4_FLAG_CONFIRMED_R, EXCHGID4_FLAG_UPD_CONFIRMED_REC_A, CLIENTS_OF_A_LEVEL, LAST_NUMBER}
+use Rattle.lnfs_world.specs.declared.numbers.TheConstants.{LAST_NUMBER}
+use Rattle.lnfs_operations.specs.declared.numbers.TheConstants.{EXCHGID4_FLAG_CONFIRMED_R, EXCHGID4_FLAG_UPD_CONFIRMED_REC_A, CLIENTS_OF_A_LEVEL}
 use Rattle.lnfs_arguments.specs.declared.statuses.TheConstants.{NFS4ERR_NOSPC}
 use Rattle.lnfs_operations.specs.Chain.{done, refuse}
 use Rattle.lnfs_operations.specs.ExchangeId.{Arguments, exchange_id, new_client, has_flag, is_confirmed_as, is_pending, others_of, dropped}

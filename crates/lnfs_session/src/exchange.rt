@@ -12,8 +12,9 @@ use crate::maps::drop_any_sessions;
 use crate::rows::ClientRef;
 use lnfs_arguments::statuses::{NFS4ERR_INVAL, NFS4ERR_NOSPC};
 use lnfs_operations::numbers::{
-    CLIENTS_OF_A_LEVEL, EXCHGID4_FLAG_CONFIRMED_R, EXCHGID4_FLAG_UPD_CONFIRMED_REC_A, LAST_NUMBER,
+    CLIENTS_OF_A_LEVEL, EXCHGID4_FLAG_CONFIRMED_R, EXCHGID4_FLAG_UPD_CONFIRMED_REC_A,
 };
+use lnfs_world::numbers::LAST_NUMBER;
 
 /// What EXCHANGE_ID tells of a record of the caller's level.
 #[derive(Clone, Copy, Debug, PartialEq, Eq)]

@@ -8,7 +8,7 @@ ghost use Rattle.lnfs_session.specs.Levels.{last_at, records_at, place_at, numbe
 
 use crate::levels::{Level, OwnerNumbers, count, free_place, give, numbers_at, put};
 use crate::rows::ClientRef;
-use lnfs_operations::numbers::LAST_NUMBER;
+use lnfs_world::numbers::LAST_NUMBER;
 use std::collections::BTreeMap;
 
 /// The identifier of a number in a level.

@@ -14,7 +14,7 @@ use crate::maps::drop_client;
 use crate::named::client_at;
 use crate::owners::{clear_number, confirm_number, enter_number, numbered, others_in};
 use crate::rows::{Client, ClientRef, Kept};
-use lnfs_operations::numbers::LAST_NUMBER;
+use lnfs_world::numbers::LAST_NUMBER;
 use std::alloc::{AllocError, Global};
 use std::collections::BTreeMap;
 use std::marker::Model;

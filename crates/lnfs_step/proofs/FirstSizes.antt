@@ -5,6 +5,7 @@ use Rattle.std.specs.List.{AllByRecursion}
 use Rattle.std.proofs.lemmas.Bool.Decides.{nat_tests}
 use Rattle.lnfs_calipso.specs.Label.{label_at}
 use Rattle.lnfs_format.specs.Kinds.{writes}
+use Rattle.lnfs_format.specs.LevelRead.{level_read}
 use Rattle.lnfs_format.specs.declared.formats.TheConstants.{MAX_SPELLING}
 use Rattle.lnfs_format.specs.declared.formats.FormatEntry.{FormatEntry}
 use Rattle.lnfs_policy.specs.Policy.{Policy, dominance}
@@ -13,13 +14,14 @@ use Rattle.lnfs_world.specs.World.{Id, Stored, Node, World, same_id, node_at, no
 use Rattle.lnfs_world.specs.First.{FirstDir, first_directory, made_in}
 use Rattle.lnfs_world.specs.Change.{apply_all}
 use Rattle.lnfs_world.specs.Tree.{root}
+use Rattle.lnfs_world.specs.Outcome.{LevelOf, BadLabel}
 use Rattle.lnfs_world.proofs.Rows.{all_find}
 use Rattle.lnfs_world.proofs.Sorted.{all_inserted}
 use Rattle.lnfs_world.proofs.FirstTrees.{first_keeps}
 use Rattle.lnfs_operations.specs.declared.numbers.TheConstants.{MOST_LABEL}
 use Rattle.lnfs_operations.specs.Sizes.{SessionFits, ClientFits, NodeFits, Sizes, SpellsShortly}
 use Rattle.lnfs_operations.proofs.ReadingRows.{all_found}
-use Rattle.lnfs_site.specs.Site.{is_limited, unspelled, spelled_as, spelled_in, spelling, site_of, first_label, first_dir, first_world}
+use Rattle.lnfs_site.specs.Site.{is_limited, told_by, carried, unspelled, spelled_as, spelled_in, spelling, site_of, first_label, first_dir, first_world}
 use Rattle.lnfs_site.proofs.FirstWorlds.{first_bare}
 
 -- ---- labels
@@ -39,10 +41,21 @@ in_short : (p : Policy) (level : ℕ) (o : Option FormatEntry) → length (spell
 in_short p level None = omega arith
 in_short p level (Some entry) = as_short entry (writes entry.kind (label_at p.labels level))
 
--- what a site writes of labels is short
-pub spells_shortly : (p : Policy) → SpellsShortly (site_of p)
+spelling_short : (p : Policy) (level : ℕ) → length (spelling p level).bytes ≤ MOST_LABEL
 unfolding spelling
-spells_shortly p level = in_short p level (slice_get p.formats 0)
+spelling_short p level = in_short p level (slice_get p.formats 0)
+
+carried_short : (spelled : Stored) (level : ℕ) (b : Bool) → nat_le (length spelled.bytes) MAX_SPELLING ≡ b → cond b (LevelOf 0) BadLabel ≡ LevelOf level → length spelled.bytes ≤ MOST_LABEL
+carried_short spelled level true short taken = grind (arith, nat_tests, short)
+carried_short spelled level false long taken = absurd cc
+
+taken_short : (p : Policy) (spelled : Stored) (level : ℕ) (limited : Bool) → limited ≡ true → cond limited (carried spelled) (told_by (level_read p.formats p.labels spelled.lfs spelled.pi spelled.bytes)) ≡ LevelOf level → length spelled.bytes ≤ MOST_LABEL
+taken_short p spelled level true is taken = carried_short spelled level (nat_le (length spelled.bytes) MAX_SPELLING) refl taken
+taken_short p spelled level false is taken = absurd cc
+
+-- what a site writes of labels is short, and what it takes where they are carried alone
+pub spells_shortly : (p : Policy) → SpellsShortly (site_of p)
+spells_shortly p = record { spelling = spelling_short p; taken = λ limited spelled level taken. taken_short p spelled level (is_limited p.mode) limited taken }
 
 abbrev IsShort : Option Stored → Type 0
 IsShort stored = IfSome stored (λ s. length s.bytes ≤ MOST_LABEL)
@@ -51,7 +64,7 @@ label_short : (p : Policy) (level : ℕ) → IsShort (first_label p level)
 label_short p level = at (is_limited p.mode)
   where
     at : (b : Bool) → IsShort (cond b (Some (spelling p level)) None)
-    at true = spells_shortly p level
+    at true = spelling_short p level
     at false = tt
 
 dirs_short : (p : Policy) (lines : List DirLine) → AllByRecursion (λ (dir : FirstDir). IsShort dir.stored) (map (first_dir p) lines)

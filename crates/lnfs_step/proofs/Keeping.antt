@@ -39,6 +39,7 @@ use Rattle.lnfs_operations.proofs.CreateSessionLaws.{created_any}
 use Rattle.lnfs_operations.proofs.ExchangeIdLaws.{exchange_id_any}
 use Rattle.lnfs_operations.proofs.Once.{admitted_any}
 use Rattle.lnfs_operations.proofs.ReadingRows.{is_reading, row_reads, reads_any}
+use Rattle.lnfs_operations.proofs.ChangingRows.{is_changing, row_changes}
 use Rattle.lnfs_operations.proofs.ServedLaws.{operation_lawful}
 use Rattle.lnfs_operations.proofs.SlotRules.{followed_any, served_lawful}
 
@@ -160,6 +161,11 @@ module _ (Q : ℕ → Kept → Type 0) where
     read_left : (site : Site) (sent : Sent) (op : Op) → is_reading op ≡ true → Left (row site sent op p w)
     read_left site sent op is = reads_any p w (Keeps Q) (row site sent op p w) (row_reads site sent p w op is) keeps (λ n found. record { sessions = keeps.sessions; clients = keeps.clients })
 
+    changed_left : (site : Site) (sent : Sent) (op : Op) → is_changing op ≡ true → Left (row site sent op p w)
+    changed_left site sent op is =
+        let left = (row_changes site p w sent op is).changed.beside in
+        record { sessions = subst (AllByRecursion (SessionKeeps Q)) (sym left.sessions) keeps.sessions; clients = subst (AllByRecursion (ClientKeeps Q)) (sym left.clients) keeps.clients }
+
     row_left : (site : Site) (sent : Sent) (op : Op) → Left (row site sent op p w)
     row_left site sent (ops.ExchangeId verifier owner flags implementation) = exchange_id_left (record { verifier = verifier; owner = owner; flags = flags })
     row_left site sent (ops.CreateSession args) = create_session_left args sent.arguments
@@ -180,6 +186,11 @@ module _ (Q : ℕ → Kept → Type 0) where
     row_left site sent (ops.Access bits) = read_left site sent (ops.Access bits) refl
     row_left site sent (ops.ReadDir cookie verifier dircount maxcount asked) = read_left site sent (ops.ReadDir cookie verifier dircount maxcount asked) refl
     row_left site sent ops.ReadLink = read_left site sent ops.ReadLink refl
+    row_left site sent (ops.Create what name given) = changed_left site sent (ops.Create what name given) refl
+    row_left site sent (ops.Link name) = changed_left site sent (ops.Link name) refl
+    row_left site sent (ops.Remove name) = changed_left site sent (ops.Remove name) refl
+    row_left site sent (ops.Rename old new) = changed_left site sent (ops.Rename old new) refl
+    row_left site sent (ops.SetAttr id given) = changed_left site sent (ops.SetAttr id given) refl
     row_left site sent (ops.Outside number status) = keeps
     row_left site sent op = keeps
 

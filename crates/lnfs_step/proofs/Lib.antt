@@ -4,6 +4,7 @@ pub mod Compounds
 pub mod Steps
 pub mod FirstSizes
 pub mod Lengths
+pub mod Labels
 pub mod Slots
 pub mod Keeping
 pub mod Origins

@@ -1,10 +1,11 @@
 //! The laws over events and journals, as contracts of functions that do nothing.
-ghost use Rattle.std.specs.Prelude.{◌≡◌, ◌≤◌, ℕ, List, Some, true, false, length, IfSome};
+ghost use Rattle.std.specs.Prelude.{◌≡◌, ◌≤◌, ℕ, List, [], ◌∷◌, ◌++◌, Some, true, false, length, IfSome};
 ghost use Rattle.lnfs_calipso.specs.Label.{IsPreorderWithBottom};
 ghost use Rattle.lnfs_lists.specs.declared.limits.TheConstants.{RECORD_LIMIT};
 ghost use Rattle.lnfs_outside.specs.declared.event.Event.{Event};
 ghost use Rattle.lnfs_policy.specs.Policy.{Policy, dominance};
 ghost use Rattle.lnfs_world.specs.Both.{Both};
+ghost use Rattle.lnfs_world.specs.Labels.{LabelsRise};
 ghost use Rattle.lnfs_operations.specs.Sizes.{Sizes};
 ghost use Rattle.lnfs_step.specs.Request.{level_of};
 ghost use Rattle.lnfs_step.specs.Step.{step_with};
@@ -33,6 +34,10 @@ pub fn purge<X: ExtraRows>()
     // What sessions grant and the lengths of kept results stay within the limits of the server.
     ensures sizes { (p : Policy) → IsPreorderWithBottom (dominance p) → (journal : List Event) →
         Sizes (state_after X.extra p journal).world }
+    // Labels go up alone: a node that stands before and after an event has a label afterwards that dominates
+    // the one that it had.
+    ensures labels { (p : Policy) → IsPreorderWithBottom (dominance p) → (journal : List Event) (event : Event) →
+        LabelsRise (dominance p) (state_after X.extra p journal).world (state_after X.extra p (journal ++ event ∷ [])).world }
     // A reply is a record that a fragment holds.
     ensures short { (p : Policy) → IsPreorderWithBottom (dominance p) → (journal : List Event) (event : Event) →
         IfSome (reply_with X.extra p journal event) (λ reply. length reply ≤ RECORD_LIMIT) }

@@ -1,14 +1,16 @@
 -- What the vault keeps is the state after its journal.
-use Rattle.std.proofs.Common.{◌≡◌, ℕ, List, [], sym, ap, ◌∙◌, subst}
+use Rattle.std.proofs.Common.{◌≡◌, ℕ, List, [], map, sym, ap, ◌∙◌, subst}
 use Rattle.lnfs_outside.specs.declared.event.Event.{Event}
-use Rattle.lnfs_policy.specs.Policy.{Policy}
+use Rattle.lnfs_policy.specs.Policy.{Policy, dominance}
+use Rattle.std.specs.List.{AllByRecursion}
 use Rattle.lnfs_world.specs.World.{World}
+use Rattle.lnfs_world.specs.Usage.{bytes_of}
 use Rattle.lnfs_world.specs.Both.{Both, both}
 use Rattle.lnfs_operations.specs.Extra.{Extra}
 use Rattle.lnfs_session.specs.Standing.{no_lists}
-use Rattle.lnfs_site.specs.Site.{first_world}
+use Rattle.lnfs_site.specs.Site.{first_label, first_dir, first_world}
 use Rattle.lnfs_step.specs.Journal.{state_after, state_from}
-use Rattle.lnfs_world.proofs.FirstTrees.{IsBare}
+use Rattle.lnfs_world.proofs.FirstTrees.{IsBare, first_empty}
 use Rattle.lnfs_site.proofs.FirstWorlds.{first_bare}
 use Rattle.lnfs_step.specs.Step.{step_with}
 use Rattle.lnfs_tree.specs.Rows.{Rows, rows_of}
@@ -24,6 +26,11 @@ bare_stands w bare = sym (λ i. record w { clients = bare.clients i; sessions = 
 pub begins : (X : Extra) (p : Policy) (rows : Rows) (own : List X.Row) → rows ≡ rows_of (first_world p) → own ≡ [] → both (stored no_lists rows) own ≡ state_after X p []
 unfolding state_from
 begins X p rows own is none = (λ i. both (stored no_lists (is i)) (none i)) ∙ ap (λ w. both w []) (bare_stands (first_world p) (first_bare p))
+
+-- no node has bytes then
+pub no_bytes : (p : Policy) (rows : Rows) → rows ≡ rows_of (first_world p) → AllByRecursion (λ n. bytes_of n n.kind ≡ 0) rows.nodes
+unfolding first_world
+no_bytes p rows is = subst (λ (r : Rows). AllByRecursion (λ n. bytes_of n n.kind ≡ 0) r.nodes) (sym is) (first_empty (dominance p) (first_label p 0) (map (first_dir p) p.dirs))
 
 -- what was said of an event, as the step on the state after the journal
 pub said : (X : Extra) (p q : Policy) (journal : List Event) (event : Event) (place : ℕ) (before after : Both X.Row) (served : Served) → q ≡ p → before ≡ state_after X p journal → SaysServed place after (step_with X q before event) served → SaysServed place after (step_with X p (state_after X p journal) event) served

@@ -8,7 +8,12 @@ ghost use Rattle.lnfs_arguments.specs.declared.types.CreateSession.{CreateSessio
 ghost use Rattle.lnfs_arguments.specs.declared.types.Sequence.{Sequence};
 ghost use Rattle.lnfs_world.specs.World.{Client, Session, Slot};
 ghost use Rattle.lnfs_world.specs.Both.{both};
+ghost use Rattle.lnfs_world.specs.Labels.{LabelsRise};
 ghost use Rattle.lnfs_operations.specs.InOrder.{sequence_before};
+ghost use Rattle.lnfs_session.specs.Standing.{no_lists};
+ghost use Rattle.lnfs_site.specs.Site.{first_world};
+ghost use Rattle.lnfs_tree.specs.Rows.{rows_of};
+ghost use Rattle.lnfs_engine.specs.Stores.{stored};
 ghost use Rattle.lnfs_step.specs.Step.{step_with};
 ghost use Rattle.lnfs_step.specs.Journal.{Holds, state_after, reply_with, line_with, answer_with};
 ghost use Rattle.lnfs_step.specs.Sessions.{ComesOnSlot, ComesToClient};
@@ -37,6 +42,15 @@ pub struct Served {
     pub line: Option<AuditLine>,
     /// The event's place in the journal, from 1.
     pub at: u64,
+}
+
+/// The engine of a site before all events.
+fn first_engine<X: Extra>(alloc: Global, site: &Site<'_>, extra: X) -> Result<Engine<X>, AllocError>
+    ensures store { IfOk result (λ engine. engine.store ≡ stored no_lists (rows_of (first_world site.now))) }
+    ensures extra { IfOk result (λ engine. engine.extra ≡ extra) }
+{
+    let tree = first_tree(alloc, site)?;
+    Engine::new(alloc, site, tree, extra)
 }
 
 /// Makes the step of an event, and puts it into the journal. The journal's place is reserved first.
@@ -112,12 +126,12 @@ impl<X: Extra> VaultOf<X> {
         ensures { IfOk result (λ vault. vault ≡ record { policy = policy; journal = []; stopped = false }) }
     {
         let labels = Labels::new(alloc, &policy, codecs)?;
-        let tree = first_tree(alloc, &Site::new(&policy, &labels))?;
+        let engine = first_engine(alloc, &Site::new(&policy, &labels), extra)?;
         Ok(VaultOf {
             alloc,
             policy,
             labels,
-            engine: Engine::new(alloc, tree, extra),
+            engine,
             journal: Vec::new(alloc),
             stopped: false,
         })
@@ -171,6 +185,9 @@ impl<X: Extra> VaultOf<X> {
         ensures stopped { self.old.stopped ≡ true → IsErr result }
         // What stands keeps the facts of every world, and that of the further operations.
         ensures facts { Holds X.extra self.new.policy (state_after X.extra self.new.policy self.new.journal) }
+        // Labels go up alone: a node that stands before and after has a label afterwards that dominates the
+        // one that it had.
+        ensures labels { LabelsRise (dominance self.old.policy) (state_after X.extra self.old.policy self.old.journal).world (state_after X.extra self.new.policy self.new.journal).world }
     {
         purge::<X>();
         sessions::<X>();

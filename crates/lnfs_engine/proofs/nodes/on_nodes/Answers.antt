@@ -27,6 +27,10 @@ use Rattle.lnfs_engine.specs.Places.{place_of, IsMoved}
 use Rattle.lnfs_engine.specs.Replies.{Acts, own_of, SaysWritten}
 use Rattle.lnfs_engine.specs.Performs.{site_in, sent_of, turn, Performs}
 use Rattle.lnfs_engine.specs.Nodes.{told_as, goes_to, saves_as}
+use Rattle.lnfs_engine.specs.Counts.{AreAsMany}
+use Rattle.lnfs_engine.proofs.Acting.{some_world}
+use Rattle.lnfs_engine.proofs.Counting.{many_counts}
+use Rattle.lnfs_engine.proofs.NamesCounts.{read_link_many, read_dir_many}
 use Rattle.lnfs_engine.proofs.Telling.{refused}
 use Rattle.lnfs_engine.proofs.OnNodes.{IsOther, goes_acts, saves_acts, stays_acts, told_on, wrote_performs, other_row}
 use Rattle.lnfs_engine.proofs.nodes.on_nodes.Goals as goal
@@ -131,7 +135,7 @@ returns-in_ok-answer-in-ReadLink-clause-performs c =
     let Goal : Op → Came → Type 0 = λ op came. (keeper : code.Keeper) (rest : World) → Performs r.begin c.args.out.now c.wrote.new.out keeper keeper p (with_tree rest after) (turn (site_in r) (sent_of r) op p (with_tree rest before)) came in
     IfOk-weaker c.wrote.result _ (Goal c.args.op.now)
     (λ came more. subst (λ o. Goal o came) (sym c.in-ReadLink.is) (λ keeper rest.
-    wrote_performs results.ReadLink (λ text. refl) ops.ReadLink r.begin c.args.out.now c.read_link.new.out c.wrote.new.out keeper p (with_tree rest before) (with_tree rest after) (read_link (site_in r) p (with_tree rest before)) answer.answer came (answer.ensures p rest) (subst (λ o. SaysWritten c.read_link.new.out c.wrote.new.out o answer.answer came) c.in-ReadLink.is more)))
+    wrote_performs results.ReadLink (λ text. refl) ops.ReadLink r.begin c.args.out.now c.read_link.new.out c.wrote.new.out keeper p (with_tree rest before) (with_tree rest after) (read_link (site_in r) p (with_tree rest before)) answer.answer came (answer.ensures.writes p rest) (subst (λ o. SaysWritten c.read_link.new.out c.wrote.new.out o answer.answer came) c.in-ReadLink.is more)))
     c.wrote.ensures
 
 pub returns-in_ok-answer-in-GetAttr-clause-performs : goal.returns-in_ok-answer-in-GetAttr-clause-performs
@@ -164,7 +168,7 @@ returns-in_ok-answer-in-ReadDir-clause-performs c =
     let Goal : Op → Came → Type 0 = λ o came. (keeper : code.Keeper) (rest : World) → Performs r.begin c.args.out.now said.new.out keeper keeper p (with_tree rest after) (turn (site_in r) (sent_of r) o p (with_tree rest before)) came in
     IfOk-weaker said.result _ (Goal c.args.op.now)
     (λ came more. subst (λ o. Goal o came) (sym args.is) (λ keeper rest.
-    wrote_performs listing_result (λ found. refl) op r.begin c.args.out.now out said.new.out keeper p (with_tree rest before) (with_tree rest after) (read_dir (site_in r) asked p (with_tree rest before)) answer.answer came (answer.ensures p rest c.requires.rise) (subst (λ o. SaysWritten out said.new.out o answer.answer came) args.is more)))
+    wrote_performs listing_result (λ found. refl) op r.begin c.args.out.now out said.new.out keeper p (with_tree rest before) (with_tree rest after) (read_dir (site_in r) asked p (with_tree rest before)) answer.answer came (answer.ensures.writes p rest c.requires.facts.entries_rise) (subst (λ o. SaysWritten out said.new.out o answer.answer came) args.is more)))
     said.ensures
 
 pub returns-in_ok-answer-in-Verify-clause-performs : goal.returns-in_ok-answer-in-Verify-clause-performs
@@ -189,6 +193,26 @@ returns-in_ok-answer-in-NVerify-clause-performs c =
     let told = c.plain-in-NVerify in
     told_on r.begin c.args.out.now said.new.out (site_in r) (sent_of r) c.args.op.now op p p told.result c.in-NVerify.is said.result said.ensures
     c.args.tree.now (λ rest. stayed op (λ it. results.NVerify) (λ (it : Unit {0}). it) p answer.answer told.result _ _ (answer.ensures p rest) told.ensures.answer)
+
+-- ---- what is counted
+
+pub returns-in_ok-answer-in-ReadLink-clause-counts : goal.returns-in_ok-answer-in-ReadLink-clause-counts
+returns-in_ok-answer-in-ReadLink-clause-counts c = λ rows counts.
+    let p = place_of c.args.place.now in
+    let t = c.args.tree.now in
+    let u = c.read_link.new.tree in
+    many_counts rows t.nodes u.nodes counts
+    (subst (λ (w : World). AreAsMany t.nodes w.nodes) (sym (c.in_ok-answer-in-ReadLink.ensures.writes p some_world).world) (read_link_many (site_in c.args.request.now) p some_world t c.requires.facts counts.empty))
+
+pub returns-in_ok-answer-in-ReadDir-clause-counts : goal.returns-in_ok-answer-in-ReadDir-clause-counts
+returns-in_ok-answer-in-ReadDir-clause-counts c = λ rows counts.
+    let p = place_of c.args.place.now in
+    let t = c.args.tree.now in
+    let u = c.read_dir.new.tree in
+    let args = c.in-ReadDir in
+    let asked : Arguments = record { cookie = args.cookie; maxcount = args.maxcount; asked = args.asked } in
+    many_counts rows t.nodes u.nodes counts
+    (subst (λ (w : World). AreAsMany t.nodes w.nodes) (sym (c.in_ok-answer-in-ReadDir.ensures.writes p some_world c.requires.facts.entries_rise).world) (read_dir_many (site_in c.args.request.now) p some_world t c.requires.facts counts.empty asked))
 
 pub returns-in_default : goal.returns-in_default
 returns-in_default c =
@@ -218,4 +242,5 @@ returns-in_default c =
       performs = told_on r.begin c.args.out.now said.new.out (site_in r) (sent_of r) op op p p (Err why) refl said.result said.ensures
           tree (λ rest. refused (site_in r) (sent_of r) op p (with_tree rest tree) why (other_row (site_in r) (sent_of r) op p (with_tree rest tree) c.requires.own other));
       moved = IfOk-weaker said.result _ (λ (came : Came). IsMoved p p) (λ came says. refl) said.ensures;
+      counts = λ rows counts. counts;
     }

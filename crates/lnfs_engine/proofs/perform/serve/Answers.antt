@@ -6,8 +6,11 @@ use Rattle.lnfs_arguments.specs.declared.types.CreateSession.{CreateSession}
 use Rattle.lnfs_arguments.specs.declared.types.Implementation.{Implementation}
 use Rattle.lnfs_arguments.specs.declared.types.Sequence.{Sequence}
 use Rattle.std.specs.Prelude.{Option}
-use Rattle.lnfs_world.specs.World.{World, entry_order}
-use Rattle.lnfs_world.specs.Rows.{Rising}
+use Rattle.lnfs_arguments.specs.declared.stateid.StateId.{StateId}
+use Rattle.lnfs_arguments.specs.declared.types.What.{What}
+use Rattle.lnfs_attrs.specs.declared.raw.RawAttrs.{RawAttrs}
+use Rattle.lnfs_world.specs.World.{World}
+use Rattle.lnfs_world.specs.Facts.{NodeFacts}
 use Rattle.lnfs_operations.specs.declared.Gate.TheVariants as gates
 use Rattle.lnfs_operations.specs.declared.Refusal.{Refusal}
 use Rattle.lnfs_engine.specs.declared.reply.Came.{Came}
@@ -85,17 +88,34 @@ returns-in_ok-answer-in-ReclaimComplete-clause-performs c =
     (answer.ensures.acts (site_in r) (sent_of r))
 
 -- the others are on nodes
-on_nodes : (op : Op) →
-    ((verifier owner : List ℕ) (flags : ℕ) (implementation : Option Implementation) → op ≡ ops.ExchangeId verifier owner flags implementation → ⊥) → ((args : CreateSession) → op ≡ ops.CreateSession args → ⊥) → ((session : List ℕ) → op ≡ ops.DestroySession session → ⊥) →
-    ((args : Sequence) → op ≡ ops.Sequence args → ⊥) → ((client : ℕ) → op ≡ ops.DestroyClientId client → ⊥) → ((one_fs : Bool) → op ≡ ops.ReclaimComplete one_fs → ⊥) → ((number status : ℕ) → op ≡ ops.Outside number status → ⊥) → IsOnNodes op
-on_nodes (ops.ExchangeId verifier owner flags implementation) a b c d e f g = a verifier owner flags implementation refl
-on_nodes (ops.CreateSession args) a b c d e f g = b args refl
-on_nodes (ops.DestroySession session) a b c d e f g = c session refl
-on_nodes (ops.Sequence args) a b c d e f g = d args refl
-on_nodes (ops.DestroyClientId client) a b c d e f g = e client refl
-on_nodes (ops.ReclaimComplete one_fs) a b c d e f g = f one_fs refl
-on_nodes (ops.Outside number status) a b c d e f g = g number status refl
-on_nodes op a b c d e f g = tt
+record IsOther (op : Op) : Type 0 where
+  pub exchange_id : (verifier owner : List ℕ) (flags : ℕ) (implementation : Option Implementation) → op ≡ ops.ExchangeId verifier owner flags implementation → ⊥
+  pub create_session : (args : CreateSession) → op ≡ ops.CreateSession args → ⊥
+  pub destroy_session : (session : List ℕ) → op ≡ ops.DestroySession session → ⊥
+  pub sequence : (args : Sequence) → op ≡ ops.Sequence args → ⊥
+  pub destroy_clientid : (client : ℕ) → op ≡ ops.DestroyClientId client → ⊥
+  pub reclaim_complete : (one_fs : Bool) → op ≡ ops.ReclaimComplete one_fs → ⊥
+  pub outside : (number status : ℕ) → op ≡ ops.Outside number status → ⊥
+  pub create : (what : What) (name : List ℕ) (given : RawAttrs) → op ≡ ops.Create what name given → ⊥
+  pub link : (name : List ℕ) → op ≡ ops.Link name → ⊥
+  pub remove : (name : List ℕ) → op ≡ ops.Remove name → ⊥
+  pub rename : (old new : List ℕ) → op ≡ ops.Rename old new → ⊥
+  pub set_attr : (id : StateId) (given : RawAttrs) → op ≡ ops.SetAttr id given → ⊥
+
+on_nodes : (op : Op) → IsOther op → IsOnNodes op
+on_nodes (ops.ExchangeId verifier owner flags implementation) n = n.exchange_id verifier owner flags implementation refl
+on_nodes (ops.CreateSession args) n = n.create_session args refl
+on_nodes (ops.DestroySession session) n = n.destroy_session session refl
+on_nodes (ops.Sequence args) n = n.sequence args refl
+on_nodes (ops.DestroyClientId client) n = n.destroy_clientid client refl
+on_nodes (ops.ReclaimComplete one_fs) n = n.reclaim_complete one_fs refl
+on_nodes (ops.Outside number status) n = n.outside number status refl
+on_nodes (ops.Create what name given) n = n.create what name given refl
+on_nodes (ops.Link name) n = n.link name refl
+on_nodes (ops.Remove name) n = n.remove name refl
+on_nodes (ops.Rename old new) n = n.rename old new refl
+on_nodes (ops.SetAttr id given) n = n.set_attr id given refl
+on_nodes op n = tt
 
 pub returns-in-Outside-clause-performs : goal.returns-in-Outside-clause-performs
 returns-in-Outside-clause-performs c =
@@ -104,12 +124,38 @@ returns-in-Outside-clause-performs c =
     let why : Refusal = record { gate = gates.Outside; status = x.status } in
     told_refused r.begin c.args.out.now c.say-in-Outside.new.out c.args.keeper.now (site_in r) (sent_of r) c.args.op.now (ops.Outside x.number x.status) (place_of c.args.place.now) why x.is c.say-in-Outside.result c.say-in-Outside.ensures c.args.store.now refl
 
+pub returns-in-Create-clause-performs : goal.returns-in-Create-clause-performs
+returns-in-Create-clause-performs c =
+    let r = c.args.request.now in
+    let here = c.args.keeper.now in
+    let p = place_of c.args.place.now in
+    let q = place_of c.on_names.new.place in
+    let clients = c.store.inside.clients in
+    let after = stored clients c.on_names.new.tree in
+    let Goal : World → Came → Type 0 = λ w came. Performs r.begin c.args.out.now c.on_names.new.out here here q after (turn (site_in r) (sent_of r) c.args.op.now p w) came in
+    IfOk-weaker c.on_names.result _ (Goal c.args.store.now)
+    (λ came did. subst (λ w. Goal w came) c.store.view_is (did here (stored clients c.store.inside.tree) refl))
+    c.on_names.ensures.performs
+
 pub on_nodes-requires : goal.on_nodes-requires
 on_nodes-requires c =
     let n = c.in_default in
     record {
-      own = on_nodes c.args.op.now n.not-ExchangeId n.not-CreateSession n.not-DestroySession n.not-Sequence n.not-DestroyClientId n.not-ReclaimComplete n.not-Outside;
-      rise = subst (Rising entry_order) (sym (ap (λ (w : World). w.entries) c.store.view_is)) c.requires.rise;
+      own = on_nodes c.args.op.now (record {
+        exchange_id = n.not-ExchangeId;
+        create_session = n.not-CreateSession;
+        destroy_session = n.not-DestroySession;
+        sequence = n.not-Sequence;
+        destroy_clientid = n.not-DestroyClientId;
+        reclaim_complete = n.not-ReclaimComplete;
+        outside = n.not-Outside;
+        create = n.not-Create;
+        link = n.not-Link;
+        remove = n.not-Remove;
+        rename = n.not-Rename;
+        set_attr = n.not-SetAttr;
+      });
+      facts = subst (λ (w : World). NodeFacts (site_in c.args.request.now).dom w.nodes w.entries w.lasts.nodes) (sym c.store.view_is) c.requires.facts;
     }
 
 pub returns-in_default : goal.returns-in_default

@@ -11,8 +11,8 @@ use Rattle.lnfs_nodes.specs.Writes.{Writes}
 use Rattle.lnfs_nodes.proofs.ReadDirs.{about_directory, finished_writes, finished_refused}
 use Rattle.lnfs_nodes.proofs.listing.read_dir.Goals as goal
 
-pub returns-in-Ok-2 : goal.returns-in-Ok-2
-returns-in-Ok-2 c = λ p rest rise.
+pub returns-in-Ok-2-clause-writes : goal.returns-in-Ok-2-clause-writes
+returns-in-Ok-2-clause-writes c = λ p rest rise.
     let site : Site = site_of c.args.site.now in
     let at : Place = record p { subject = c.args.subject.0; moment = c.args.moment; current = option_map id_of c.args.current } in
     let args : Arguments = record { cookie = c.args.args.now.cookie; maxcount = c.args.args.now.maxcount; asked = c.args.args.now.asked.now } in
@@ -22,8 +22,8 @@ returns-in-Ok-2 c = λ p rest rise.
     (subst (Lists c.args.out.now c.put_listing.new.out _) c.in-Ok-2.is (c.in_ok-put_listing.ensures.lists at rest n listable))
     (c.set_accessed.ensures n at rest holds))
 
-pub returns-in-Err-2 : goal.returns-in-Err-2
-returns-in-Err-2 c = λ p rest rise.
+pub returns-in-Err-2-clause-writes : goal.returns-in-Err-2-clause-writes
+returns-in-Err-2-clause-writes c = λ p rest rise.
     let site : Site = site_of c.args.site.now in
     let at : Place = record p { subject = c.args.subject.0; moment = c.args.moment; current = option_map id_of c.args.current } in
     let args : Arguments = record { cookie = c.args.args.now.cookie; maxcount = c.args.args.now.maxcount; asked = c.args.args.now.asked.now } in

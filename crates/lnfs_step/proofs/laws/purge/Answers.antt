@@ -1,5 +1,6 @@
 use Rattle.lnfs_step.proofs.Steps.{seen, unseen, holds_after, reply_is_answer}
 use Rattle.lnfs_step.proofs.Lengths.{sizes_after, reply_short}
+use Rattle.lnfs_step.proofs.Labels.{labels_after}
 use Rattle.lnfs_step.proofs.laws.purge.Goals as goal
 
 pub returns : goal.returns
@@ -12,5 +13,6 @@ returns g c =
       unseen = λ p lattice level event a. unseen X owed p lattice level event a;
       facts = λ p lattice journal. holds_after X owed p lattice journal;
       sizes = λ p lattice journal. sizes_after X owed p lattice journal;
+      labels = λ p lattice journal event. labels_after X owed p lattice journal event;
       short = λ p lattice journal event. reply_short X owed p lattice journal event;
     }

@@ -4,7 +4,8 @@ use Rattle.std.proofs.lemmas.Bool.Decides.{nat_tests}
 use Rattle.lnfs_outside.specs.declared.event.Moment.{Moment}
 use Rattle.lnfs_world.specs.World.{World, last_of}
 use Rattle.lnfs_world.specs.Outcome.{begins_at, done_to}
-use Rattle.lnfs_operations.specs.declared.numbers.TheConstants.{EXCHGID4_FLAG_CONFIRMED_R, EXCHGID4_FLAG_UPD_CONFIRMED_REC_A, CLIENTS_OF_A_LEVEL, LAST_NUMBER}
+use Rattle.lnfs_world.specs.declared.numbers.TheConstants.{LAST_NUMBER}
+use Rattle.lnfs_operations.specs.declared.numbers.TheConstants.{EXCHGID4_FLAG_CONFIRMED_R, EXCHGID4_FLAG_UPD_CONFIRMED_REC_A, CLIENTS_OF_A_LEVEL}
 use Rattle.lnfs_operations.specs.ExchangeId.{Arguments, exchange_id, has_flag, is_confirmed_as, is_pending, others_of, new_client}
 use Rattle.lnfs_session.specs.Standing.{Lists, standing, lists_of, sessions_left}
 use Rattle.lnfs_session.specs.Listed.{client_of, session_of, last_of as last_id}

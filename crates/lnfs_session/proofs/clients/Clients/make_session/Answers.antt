@@ -5,7 +5,8 @@ use Rattle.lnfs_outside.specs.declared.event.Moment.{Moment}
 use Rattle.lnfs_world.specs.Rows.{inserted}
 use Rattle.lnfs_world.specs.World.{Client, Session, World, client_order, session_order, level_order, client_at, last_of}
 use Rattle.lnfs_world.specs.Outcome.{begins_at, done_to}
-use Rattle.lnfs_operations.specs.declared.numbers.TheConstants.{SESSIONS_OF_A_LEVEL, LAST_NUMBER}
+use Rattle.lnfs_world.specs.declared.numbers.TheConstants.{LAST_NUMBER}
+use Rattle.lnfs_operations.specs.declared.numbers.TheConstants.{SESSIONS_OF_A_LEVEL}
 use Rattle.lnfs_operations.specs.CreateSession.{made, is_large_enough, granted_of, is_replaced, fresh_slot, new_session, sessions_of}
 use Rattle.lnfs_session.specs.Records.{replaced_by, with_confirmed}
 use Rattle.lnfs_session.specs.Listed.{id_of, session_of, slot_of, last_of as last_id}

@@ -10,10 +10,11 @@ pub invariant_of-result : goal.invariant_of-result
 invariant_of-result g c =
     let X = g.X.ExtraRows.extra in
     let rows = g.X.ExtraRows.rows in
-    let engine = c.new-3 in (
+    let p = c.args.policy in
+    let made = c.in_ok-engine in (
       c.in_ok-labels.ensures,
       λ running.
-          ap (λ w. both w (rows engine.result.extra)) engine.ensures.store
-          ∙ begins X c.args.policy c.in_ok-tree.tree (rows engine.result.extra) (c.in_ok-tree.ensures ∙ ap (λ p. rows_of (first_world p)) c.new-2.ensures) (ap rows engine.ensures.extra ∙ c.requires)
-          ∙ ap (state_after X c.args.policy) (sym c.new-4.ensures.items),
+          ap (λ w. both w (rows made.engine.extra)) made.ensures.store
+          ∙ begins X p (rows_of (first_world c.new-2.result)) (rows made.engine.extra) (ap (λ q. rows_of (first_world q)) c.new-2.ensures) (ap rows made.ensures.extra ∙ c.requires)
+          ∙ ap (state_after X p) (sym c.new-3.ensures.items),
     )

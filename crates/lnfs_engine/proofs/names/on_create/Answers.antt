@@ -1,0 +1,61 @@
+use Rattle.std.proofs.Common.{◌≡◌, ℕ, Some, refl, sym, ap, subst}
+use Rattle.std.specs.Prelude.{nat_lt}
+use Rattle.lnfs_world.specs.Usage.{nodes_used}
+use Rattle.lnfs_world.specs.Outcome.{Place}
+use Rattle.lnfs_operations.specs.Create.{Made, create}
+use Rattle.lnfs_results.specs.declared.types.OpResult.TheVariants as results
+use Rattle.lnfs_tree.specs.Rows.{id_of}
+use Rattle.lnfs_nodes.specs.Trees.{with_tree}
+use Rattle.lnfs_nodes.specs.Acts.{placed}
+use Rattle.lnfs_nodes.specs.Creating.{created_of}
+use Rattle.lnfs_nodes.specs.declared.creating.Created.{Created}
+use Rattle.lnfs_engine.specs.Places.{place_of}
+use Rattle.lnfs_engine.specs.Performs.{site_in}
+use Rattle.lnfs_engine.specs.Counts.{Counts, charged}
+use Rattle.lnfs_engine.proofs.Acting.{some_world}
+use Rattle.lnfs_engine.proofs.OnNames.{serves_to, charged_counts, lands_moved}
+use Rattle.lnfs_engine.proofs.NamesCounts.{create_more}
+use Rattle.lnfs_engine.proofs.names.on_create.Goals as goal
+
+abbrev lands : Place → Created → Place
+lands q c = record q { current = Some (id_of c.node) }
+
+pub create-requires : goal.create-requires
+create-requires c =
+    let site = site_in c.args.request.now in
+    let t = c.args.tree.now in
+    record {
+      facts = c.requires.facts;
+      room = subst (λ (s : ℕ). c.in_ok-room.room ≡ nat_lt (nodes_used t.nodes s) (site.nodes s)) (sym (ap (λ (q : Place). q.subject) c.caller_of-caller.ensures)) (c.in_ok-room.ensures.room t.nodes c.requires.counts.totals);
+    }
+
+pub returns-clause-serves : goal.returns-clause-serves
+returns-clause-serves c = λ rest closed.
+    let p = place_of c.args.place.now in
+    let t = c.args.tree.now in
+    let told = c.in_ok-told in
+    serves_to (λ (m : Made). results.Create m.info m.set) created_of rest t c.create.new.tree lands (placed p c.caller_of-caller.result) p (λ (q : Place). create (site_in c.args.request.now) c.args.what.now c.args.name.now c.args.given.now q (with_tree rest t))
+    told.told c.take_made.result (place_of c.take_made.new.place) c.caller_of-caller.ensures c.take_made.ensures.answer c.take_made.ensures.place (told.ensures.acts p rest)
+
+pub returns-clause-moved : goal.returns-clause-moved
+returns-clause-moved c =
+    let p = place_of c.args.place.now in
+    lands_moved (lands p) p (place_of c.take_made.new.place) c.in_ok-told.told (λ a. refl) c.take_made.ensures.place
+
+pub returns-clause-counts : goal.returns-clause-counts
+returns-clause-counts c =
+    let site = site_in c.args.request.now in
+    let p = place_of c.args.place.now in
+    let at : Place = placed p c.caller_of-caller.result in
+    let t = c.args.tree.now in
+    let u = c.create.new.tree in
+    let told = c.in_ok-told in
+    let rows = c.args.quota.now in
+    let what = c.args.what.now in
+    let name = c.args.name.now in
+    let given = c.args.given.now in
+    let subject : at.subject ≡ p.subject = ap (λ (q : Place). q.subject) c.caller_of-caller.ensures in
+    subst (λ quota. Counts quota u.nodes) (sym c.take_made.ensures.quota)
+    (subst (λ (s : ℕ). Counts (charged rows s told.told) u.nodes) subject
+    (charged_counts rows at.subject created_of (lands at) at some_world t u (create site what name given at (with_tree some_world t)) told.told (told.ensures.acts p some_world) c.requires.counts
+    (create_more site at some_world t c.requires.facts c.requires.counts.empty what name given)))

@@ -1,0 +1,289 @@
+//! The operations that make, name, move and take out nodes, and that set their attributes (RFC 8881 section 18).
+ghost use Rattle.std.specs.Prelude.{◌≡◌, [], List, Some, IfOk};
+ghost use Rattle.std.specs.Option.{option_map};
+ghost use Rattle.lnfs_world.specs.World.{Node, World};
+ghost use Rattle.lnfs_world.specs.Facts.{NodeFacts};
+ghost use Rattle.lnfs_results.specs.declared.types.OpResult.TheVariants as results;
+ghost use Rattle.lnfs_operations.specs.Create as creating;
+ghost use Rattle.lnfs_operations.specs.Link as linking;
+ghost use Rattle.lnfs_operations.specs.Remove as removing;
+ghost use Rattle.lnfs_operations.specs.Rename as renaming;
+ghost use Rattle.lnfs_operations.specs.SetAttr as setting;
+ghost use Rattle.lnfs_tree.specs.Rows.{id_of};
+ghost use Rattle.lnfs_tree.specs.Changed.{gone_of};
+ghost use Rattle.lnfs_quota.specs.declared.quota.Row.{Row};
+ghost use Rattle.lnfs_nodes.specs.Acts.{placed};
+ghost use Rattle.lnfs_nodes.specs.Told.{cinfo_of};
+ghost use Rattle.lnfs_nodes.specs.Trees.{with_tree};
+ghost use Rattle.lnfs_engine.specs.declared.place.Keeper as code;
+ghost use Rattle.lnfs_engine.specs.Places.{place_of, IsOnNames, IsMoved};
+ghost use Rattle.lnfs_engine.specs.Replies.{IsPlain};
+ghost use Rattle.lnfs_engine.specs.Nodes.{told_as};
+ghost use Rattle.lnfs_engine.specs.Performs.{site_in, sent_of, turn, Performs};
+ghost use Rattle.lnfs_engine.specs.Names.{Serves, landed};
+ghost use Rattle.lnfs_engine.specs.Counts.{Counts, MayRise, IsHeld, TakenFrom, charged};
+
+use crate::charging::{credit, room_for};
+use crate::place::{Place, Request};
+use crate::reply::{Answer, Came, say};
+use lnfs_arguments::{Cinfo, Op, What};
+use lnfs_attrs::{Bitmap, RawAttrs};
+use lnfs_nodes::{Caller, Created, create, link, remove, rename, set_attr};
+use lnfs_operations::Refusal;
+use lnfs_quota::Quota;
+use lnfs_results::OpResult;
+use lnfs_tree::{Dropped, Info, Tree};
+use lnfs_xdr::XdrWriter;
+use std::alloc::AllocError;
+
+/// Who calls where an operation stands.
+fn caller_of(place: &Place) -> Caller
+    ensures { placed (place_of place.now) result ≡ place_of place.now }
+{
+    Caller {
+        subject: place.subject,
+        moment: place.moment,
+        current: place.current,
+        saved: place.saved,
+    }
+}
+
+/// The change numbers of a directory, as they are told.
+fn cinfo(info: Info) -> Cinfo
+    ensures { result ≡ cinfo_of info }
+{
+    Cinfo {
+        before: info.before,
+        after: info.after,
+    }
+}
+
+/// What LINK tells.
+fn tell_link(told: Result<Info, Refusal>) -> Answer
+    ensures answer { result ≡ told_as (λ i. results.Link (cinfo_of i)) told }
+    ensures plain { IsPlain result }
+{
+    match told {
+        Ok(info) => Ok(OpResult::Link { info: cinfo(info) }),
+        Err(why) => Err(why),
+    }
+}
+
+/// What SETATTR tells.
+fn tell_set(told: Result<Bitmap, Refusal>) -> Answer
+    ensures answer { result ≡ told_as (λ set. results.SetAttr 0 set) told }
+    ensures plain { IsPlain result }
+{
+    match told {
+        Ok(set) => Ok(OpResult::SetAttr { status: 0, set }),
+        Err(why) => Err(why),
+    }
+}
+
+/// Answers a LINK.
+fn on_link(
+    request: &Request<'_>,
+    tree: &mut Tree,
+    place: &Place,
+    name: &[u8],
+) -> Result<Answer, AllocError>
+    requires facts { NodeFacts (site_in request.now).dom tree.old.nodes tree.old.entries tree.old.lasts }
+    ensures serves { IfOk result (λ answer. (rest : World) → rest.opens ≡ [] →
+        Serves results.Link (linking.link (site_in request.now) name.now (place_of place.now) (with_tree rest tree.old)) answer (place_of place.now) (with_tree rest tree.old) (with_tree rest tree.new)) }
+    ensures plain { IfOk result IsPlain }
+    ensures counts { (rows : List Row) → Counts rows tree.old.nodes → Counts rows tree.new.nodes }
+{
+    let caller = caller_of(place);
+    let told = link(request.alloc, request.site, tree, &caller, name)?;
+    Ok(tell_link(told))
+}
+
+/// Answers a SETATTR.
+fn on_set_attr(
+    request: &Request<'_>,
+    tree: &mut Tree,
+    place: &Place,
+    given: &RawAttrs,
+) -> Result<Answer, AllocError>
+    requires facts { NodeFacts (site_in request.now).dom tree.old.nodes tree.old.entries tree.old.lasts }
+    ensures serves { IfOk result (λ answer. (rest : World) → rest.opens ≡ [] →
+        Serves (results.SetAttr 0) (setting.set_attr (site_in request.now) given.now (place_of place.now) (with_tree rest tree.old)) answer (place_of place.now) (with_tree rest tree.old) (with_tree rest tree.new)) }
+    ensures plain { IfOk result IsPlain }
+    ensures counts { (rows : List Row) → Counts rows tree.old.nodes → Counts rows tree.new.nodes }
+{
+    let caller = caller_of(place);
+    let told = set_attr(request.alloc, request.site, tree, &caller, given)?;
+    Ok(tell_set(told))
+}
+
+/// What REMOVE tells, where the node that went is taken from the totals.
+fn take_removed(quota: &mut Quota, told: Result<(Info, Option<Dropped>), Refusal>) -> Answer
+    requires held { IfOk told (λ r. IsHeld quota.old (option_map gone_of r.1)) }
+    ensures answer { result ≡ told_as (λ r. results.Remove (cinfo_of r.0)) told }
+    ensures plain { IsPlain result }
+    ensures counts { (before after : List Node) → Counts quota.old before → TakenFrom (λ r. option_map gone_of r.1) told before after → Counts quota.new after }
+{
+    match told {
+        Ok((info, gone)) => {
+            credit(quota, gone);
+            Ok(OpResult::Remove { info: cinfo(info) })
+        }
+        Err(why) => Err(why),
+    }
+}
+
+/// Answers a REMOVE.
+fn on_remove(
+    request: &Request<'_>,
+    tree: &mut Tree,
+    quota: &mut Quota,
+    place: &Place,
+    name: &[u8],
+) -> Answer
+    requires facts { NodeFacts (site_in request.now).dom tree.old.nodes tree.old.entries tree.old.lasts }
+    requires counts { Counts quota.old tree.old.nodes }
+    ensures serves { (rest : World) → rest.opens ≡ [] →
+        Serves results.Remove (removing.remove (site_in request.now) name.now (place_of place.now) (with_tree rest tree.old)) result (place_of place.now) (with_tree rest tree.old) (with_tree rest tree.new) }
+    ensures plain { IsPlain result }
+    ensures counts { Counts quota.new tree.new.nodes }
+{
+    let caller = caller_of(place);
+    let told = remove(request.site, tree, &caller, name);
+    take_removed(quota, told)
+}
+
+/// What RENAME tells, where the node that went is taken from the totals.
+fn take_renamed(quota: &mut Quota, told: Result<(Info, Info, Option<Dropped>), Refusal>) -> Answer
+    requires held { IfOk told (λ r. IsHeld quota.old (option_map gone_of r.2)) }
+    ensures answer { result ≡ told_as (λ r. results.Rename (cinfo_of r.0) (cinfo_of r.1)) told }
+    ensures plain { IsPlain result }
+    ensures counts { (before after : List Node) → Counts quota.old before → TakenFrom (λ r. option_map gone_of r.2) told before after → Counts quota.new after }
+{
+    match told {
+        Ok((from, to, gone)) => {
+            credit(quota, gone);
+            Ok(OpResult::Rename {
+                source: cinfo(from),
+                target: cinfo(to),
+            })
+        }
+        Err(why) => Err(why),
+    }
+}
+
+/// Answers a RENAME.
+fn on_rename(
+    request: &Request<'_>,
+    tree: &mut Tree,
+    quota: &mut Quota,
+    place: &Place,
+    old: &[u8],
+    new: &[u8],
+) -> Result<Answer, AllocError>
+    requires facts { NodeFacts (site_in request.now).dom tree.old.nodes tree.old.entries tree.old.lasts }
+    requires counts { Counts quota.old tree.old.nodes }
+    ensures serves { IfOk result (λ answer. (rest : World) → rest.opens ≡ [] →
+        Serves (λ r. results.Rename r.source r.target) (renaming.rename (site_in request.now) old.now new.now (place_of place.now) (with_tree rest tree.old)) answer (place_of place.now) (with_tree rest tree.old) (with_tree rest tree.new)) }
+    ensures plain { IfOk result IsPlain }
+    ensures counts { Counts quota.new tree.new.nodes }
+{
+    let caller = caller_of(place);
+    let told = rename(request.alloc, request.site, tree, &caller, old, new)?;
+    Ok(take_renamed(quota, told))
+}
+
+/// What CREATE tells. The new node is added to the total of the subject's level, and becomes the current file handle.
+fn take_made(quota: &mut Quota, place: &mut Place, told: Result<Created, Refusal>) -> Answer
+    requires rises { MayRise quota.old place.old.subject.0 }
+    ensures answer { result ≡ told_as (λ c. results.Create (cinfo_of c.info) c.set) told }
+    ensures plain { IsPlain result }
+    ensures place { place_of place.new ≡ landed (λ c. record (place_of place.old) { current = Some (id_of c.node) }) (place_of place.old) told }
+    ensures quota { quota.new ≡ charged quota.old place.old.subject.0 told }
+{
+    match told {
+        Ok(Created { node, info, set }) => {
+            quota.charge_node(place.subject);
+            place.current = Some(node);
+            let info = cinfo(info);
+            Ok(OpResult::Create { info, set })
+        }
+        Err(why) => Err(why),
+    }
+}
+
+/// Answers a CREATE.
+fn on_create(
+    request: &Request<'_>,
+    tree: &mut Tree,
+    quota: &mut Quota,
+    place: &mut Place,
+    what: &What,
+    name: &[u8],
+    given: &RawAttrs,
+) -> Result<Answer, AllocError>
+    requires facts { NodeFacts (site_in request.now).dom tree.old.nodes tree.old.entries tree.old.lasts }
+    requires counts { Counts quota.old tree.old.nodes }
+    ensures serves { IfOk result (λ answer. (rest : World) → rest.opens ≡ [] →
+        Serves (λ made. results.Create made.info made.set) (creating.create (site_in request.now) what.now name.now given.now (place_of place.old) (with_tree rest tree.old)) answer (place_of place.new) (with_tree rest tree.old) (with_tree rest tree.new)) }
+    ensures plain { IfOk result IsPlain }
+    ensures moved { IfOk result (λ answer. IsMoved (place_of place.old) (place_of place.new)) }
+    ensures counts { Counts quota.new tree.new.nodes }
+{
+    let caller = caller_of(place);
+    let room = room_for(request.site, quota, place.subject)?;
+    let told = create(
+        request.alloc,
+        request.site,
+        tree,
+        &caller,
+        room,
+        what,
+        name,
+        given,
+    )?;
+    Ok(take_made(quota, place, told))
+}
+
+/// Serves an operation that makes, names, moves, takes out or sets, and appends its result.
+pub fn on_names(
+    request: &Request<'_>,
+    tree: &mut Tree,
+    quota: &mut Quota,
+    place: &mut Place,
+    op: &Op,
+    out: &mut XdrWriter,
+) -> Result<Came, AllocError>
+    requires own { IsOnNames op.now }
+    requires facts { NodeFacts (site_in request.now).dom tree.old.nodes tree.old.entries tree.old.lasts }
+    requires counts { Counts quota.old tree.old.nodes }
+    ensures performs { IfOk result (λ came. (keeper : code.Keeper) (rest : World) → rest.opens ≡ [] →
+        Performs request.now.begin out.old out.new keeper keeper (place_of place.new) (with_tree rest tree.new) (turn (site_in request.now) (sent_of request.now) op.now (place_of place.old) (with_tree rest tree.old)) came) }
+    ensures moved { IfOk result (λ came. IsMoved (place_of place.old) (place_of place.new)) }
+    ensures counts { Counts quota.new tree.new.nodes }
+{
+    match op {
+        Op::Create { what, name, attrs } => {
+            let name = name.as_slice();
+            let answer = on_create(request, tree, quota, place, what, name, attrs)?;
+            say(out, op, answer)
+        }
+        Op::Link { name } => {
+            let answer = on_link(request, tree, place, name.as_slice())?;
+            say(out, op, answer)
+        }
+        Op::Remove { name } => {
+            let answer = on_remove(request, tree, quota, place, name.as_slice());
+            say(out, op, answer)
+        }
+        Op::Rename { old, new } => {
+            let (old, new) = (old.as_slice(), new.as_slice());
+            let answer = on_rename(request, tree, quota, place, old, new)?;
+            say(out, op, answer)
+        }
+        Op::SetAttr { attrs, .. } => {
+            let answer = on_set_attr(request, tree, place, attrs)?;
+            say(out, op, answer)
+        }
+        _ => Err(AllocError),
+    }
+}

@@ -1,0 +1,105 @@
+-- SETATTR, from its arguments to what it does of a node.
+use Rattle.std.proofs.Common.{◌≡◌, refl, ap, sym, subst, ◌∙◌, ℕ, Bool, true, false, not, Option, Some, None, Result, Ok, Err}
+use Rattle.std.specs.Prelude.{◌&&◌, is_some, if◌then◌else◌}
+use Rattle.lnfs_attrs.specs.declared.bitmap.Bitmap.{Bitmap}
+use Rattle.lnfs_attrs.specs.declared.raw.RawAttrs.{RawAttrs}
+use Rattle.lnfs_attrs.specs.declared.settable.AttrSet.{AttrSet}
+use Rattle.lnfs_arguments.specs.declared.statuses.TheConstants.{NFS4ERR_INVAL, NFS4ERR_ISDIR}
+use Rattle.lnfs_world.specs.World.{Node, World, is_directory}
+use Rattle.lnfs_world.specs.Outcome.{Site, Place, Outcome}
+use Rattle.lnfs_operations.specs.declared.Gate.TheVariants.{Argument, Namespace}
+use Rattle.lnfs_operations.specs.declared.Refusal.{Refusal}
+use Rattle.lnfs_operations.specs.Chain.{Answer, refuse, demand}
+use Rattle.lnfs_operations.specs.Chain as chain
+use Rattle.lnfs_operations.specs.Handles.{with_current}
+use Rattle.lnfs_operations.specs.Lookup.{is_link}
+use Rattle.lnfs_operations.specs.Given.{is_mode, where_mode, GivenLabel, where_label, set_of}
+use Rattle.lnfs_operations.specs.SetAttr.{is_company, where_sized, set_on, set_attr}
+use Rattle.lnfs_tree.specs.Rows.{Rows, kind_of}
+use Rattle.lnfs_nodes.specs.Trees.{with_tree, held_in, Holds, IsHeld, refusal_of}
+use Rattle.lnfs_nodes.specs.declared.held.Held.{Held}
+use Rattle.lnfs_nodes.specs.Acts.{Acts}
+use Rattle.lnfs_nodes.specs.GivenValues.{Wanted, followed, and_then, tested, values_in, label_in, wanted_in}
+use Rattle.lnfs_nodes.specs.Setting.{size_refusal, wanted_done}
+use Rattle.lnfs_nodes.proofs.Found.{about_held}
+use Rattle.lnfs_nodes.proofs.Refusing.{refused_as, on_held}
+use Rattle.lnfs_nodes.proofs.Stages.{values, labelled, test_stage, value_stage}
+
+module _ (site : Site) (given : RawAttrs) (p : Place) (w : World) where
+  abbrev pub on_node : Wanted → Node → Outcome (Answer Bitmap)
+  on_node x n = where_sized p x.sized n (wanted_done site p w n x (set_of given))
+
+  abbrev pub behind : Wanted → Outcome (Answer Bitmap)
+  behind x = with_current p w (on_node x)
+
+  abbrev wanted : AttrSet → Option GivenLabel → Wanted
+  wanted v l = record { sized = is_some v.size; mode = v.mode; label = l }
+
+  abbrev on : AttrSet → Option GivenLabel → Outcome (Answer Bitmap)
+  on v l = with_current p w (λ n. where_sized p (is_some v.size) n (set_on site p w n v l (set_of given)))
+
+  abbrev behind_label : AttrSet → Option GivenLabel → Outcome (Answer Bitmap)
+  behind_label v l = demand (not (is_company v)) (refuse p Argument NFS4ERR_INVAL) (on v l)
+
+  abbrev behind_values : AttrSet → Outcome (Answer Bitmap)
+  behind_values v = where_mode p v.mode (where_label site p v.label (behind_label v))
+
+  last : (v : AttrSet) (l : Option GivenLabel) → on v l ≡ behind (wanted v l)
+  last v None = refl
+  last v (Some g) = refl
+
+  pub wanted_told : set_attr site given p w ≡ followed p (wanted_in site given) behind
+  wanted_told =
+      values p given behind_values
+      ∙ value_stage p behind (values_in given) behind_values (λ v. tested (is_mode v.mode) NFS4ERR_INVAL (and_then (label_in site v.label) (λ l. tested (not (is_company v)) NFS4ERR_INVAL (Ok (wanted v l))))) (λ v.
+      test_stage p behind (is_mode v.mode) NFS4ERR_INVAL (where_label site p v.label (behind_label v)) (and_then (label_in site v.label) (λ l. tested (not (is_company v)) NFS4ERR_INVAL (Ok (wanted v l)))) (
+      labelled p site v.label (behind_label v)
+      ∙ value_stage p behind (label_in site v.label) (behind_label v) (λ l. tested (not (is_company v)) NFS4ERR_INVAL (Ok (wanted v l))) (λ l.
+      test_stage p behind (not (is_company v)) NFS4ERR_INVAL (on v l) (Ok (wanted v l)) (last v l))))
+
+  pub refused : (why : Refusal) → Err (refusal_of why) ≡ wanted_in site given → set_attr site given p w ≡ refuse p why.gate why.status
+  refused why e = wanted_told ∙ ap (λ (r : Result Wanted chain.Refusal). followed p r behind) (sym e)
+
+  pub taken : (x : Wanted) → Ok x ≡ wanted_in site given → set_attr site given p w ≡ behind x
+  taken x e = wanted_told ∙ ap (λ (r : Result Wanted chain.Refusal). followed p r behind) (sym e)
+
+-- ---- a size
+
+abbrev namespace : ℕ → chain.Refusal
+namespace status = record { gate = Namespace; status = status }
+
+module _ (p : Place) (sized : Bool) (n : Node) (next : Outcome (Answer Bitmap)) where
+  pub size_taken : None ≡ size_refusal sized n.kind → where_sized p sized n next ≡ next
+  size_taken e = at (sized && is_directory n.kind) (sized && is_link n.kind) e
+    where
+      at : (a b : Bool) → None ≡ (if a then Some (namespace NFS4ERR_ISDIR) else if b then Some (namespace NFS4ERR_INVAL) else None)
+          → demand (not a) (refuse p Namespace NFS4ERR_ISDIR) (demand (not b) (refuse p Namespace NFS4ERR_INVAL) next) ≡ next
+      at true b e = cc
+      at false true e = cc
+      at false false e = refl
+
+  pub size_refused : (why : Refusal) → Some (refusal_of why) ≡ size_refusal sized n.kind → where_sized p sized n next ≡ refuse p why.gate why.status
+  size_refused why e = at (sized && is_directory n.kind) (sized && is_link n.kind) e
+    where
+      at : (a b : Bool) → Some (refusal_of why) ≡ (if a then Some (namespace NFS4ERR_ISDIR) else if b then Some (namespace NFS4ERR_INVAL) else None)
+          → demand (not a) (refuse p Namespace NFS4ERR_ISDIR) (demand (not b) (refuse p Namespace NFS4ERR_INVAL) next) ≡ refuse p why.gate why.status
+      at true b e = refused_as p why (namespace NFS4ERR_ISDIR) cc
+      at false true e = refused_as p why (namespace NFS4ERR_INVAL) cc
+      at false false e = cc
+
+-- ---- what is done of a node that is held
+
+module _ (site : Site) (given : RawAttrs) (p : Place) (rest : World) (t u : Rows) (h : Held) (x : Wanted) (held : IsHeld t (held_in t.nodes p.current) (Ok h)) (is : Ok x ≡ wanted_in site given) where
+  pub sized_not : (why : Refusal) → Some (refusal_of why) ≡ size_refusal x.sized (kind_of h.facts.kind) → set_attr site given p (with_tree rest t) ≡ refuse p why.gate why.status
+  sized_not why e =
+      taken site given p (with_tree rest t) x is
+      ∙ on_held p rest t (on_node site given p (with_tree rest t) x) h (refuse p why.gate why.status) held (λ n holds.
+      size_refused p x.sized n (wanted_done site p (with_tree rest t) n x (set_of given)) why (e ∙ ap (size_refusal x.sized) holds.tells.kind))
+
+  pub acted : (told : Result (Unit {0}) Refusal) → None ≡ size_refusal x.sized (kind_of h.facts.kind)
+      → ((n : Node) (set : Bitmap) → Holds t n h → Acts {A = Unit {0}} (λ it. set) p rest t u (wanted_done site p (with_tree rest t) n x set) told)
+      → Acts {A = Unit {0}} (λ it. set_of given) p rest t u (set_attr site given p (with_tree rest t)) told
+  acted told e acts =
+      subst (λ (o : Outcome (Answer Bitmap)). Acts {A = Unit {0}} (λ it. set_of given) p rest t u o told) (sym (taken site given p (with_tree rest t) x is)) (
+      about_held (λ (o : Outcome (Answer Bitmap)). Acts {A = Unit {0}} (λ it. set_of given) p rest t u o told) p rest t (on_node site given p (with_tree rest t) x) h held (λ n holds.
+      subst (λ (o : Outcome (Answer Bitmap)). Acts {A = Unit {0}} (λ it. set_of given) p rest t u o told) (sym (size_taken p x.sized n (wanted_done site p (with_tree rest t) n x (set_of given)) (e ∙ ap (size_refusal x.sized) holds.tells.kind))) (acts n (set_of given) holds)))

@@ -1,0 +1,118 @@
+use Rattle.std.proofs.Common.{◌≡◌, ◌∙◌, ap, sym, subst, refl, Some}
+use Rattle.lnfs_world.specs.World.{Id, World, node_at}
+use Rattle.lnfs_world.specs.Outcome.{Place, Outcome}
+use Rattle.lnfs_site.specs.Site.{site_of}
+use Rattle.lnfs_operations.specs.Chain.{Answer, refuse}
+use Rattle.lnfs_operations.specs.Given.{set_of}
+use Rattle.lnfs_operations.specs.Create.{Made, new_node}
+use Rattle.lnfs_tree.specs.Rows.{id_of}
+use Rattle.lnfs_nodes.specs.Trees.{with_tree}
+use Rattle.lnfs_nodes.specs.Acts.{placed, Succeeds, Refuses}
+use Rattle.lnfs_nodes.specs.GivenValues.{Asked, asked_of}
+use Rattle.lnfs_nodes.specs.Creating.{created_of}
+use Rattle.lnfs_nodes.specs.declared.creating.Created.{Created}
+use Rattle.lnfs_nodes.proofs.Done.{kept}
+use Rattle.lnfs_nodes.proofs.Refusing.{not_held}
+use Rattle.lnfs_nodes.proofs.Inserts.{seen, inserted, spent, full, no_number, all_room, makes}
+use Rattle.lnfs_nodes.proofs.Creates.{in_directory, refused, taken, name_refused, name_taken, no_space, with_space}
+use Rattle.lnfs_nodes.proofs.creating.create.Goals as goal
+
+pub returns-in-Err-clause-acts : goal.returns-in-Err-clause-acts
+returns-in-Err-clause-acts c = λ p rest.
+    let at : Place = placed p c.args.caller.now in
+    record { outcome = refused (site_of c.args.site.now) c.args.what.now c.args.name.now c.args.given.now at (with_tree rest c.args.tree.now) c.in-Err.why (rw c.in-Err.is at c.in_ok-asked.ensures); tree = refl }
+
+pub returns-in-Err-node_held-clause-acts : goal.returns-in-Err-node_held-clause-acts
+returns-in-Err-node_held-clause-acts c = λ p rest.
+    let at : Place = placed p c.args.caller.now in
+    let w : World = with_tree rest c.args.tree.now in
+    let site = site_of c.args.site.now in
+    let x : Asked = asked_of c.in-Ok.asked in
+    record {
+      outcome =
+          taken site c.args.what.now c.args.name.now c.args.given.now at w x (rw c.in-Ok.is at c.in_ok-asked.ensures)
+          ∙ not_held at rest c.args.tree.now (in_directory site c.args.what.now c.args.name.now c.args.given.now at w x) c.in-Err-node_held.why c.in-Err-node_held.ensures;
+      tree = refl;
+    }
+
+pub returns-in-Some-clause-acts : goal.returns-in-Some-clause-acts
+returns-in-Some-clause-acts c = λ p rest.
+    let at : Place = placed p c.args.caller.now in
+    record {
+      outcome =
+          name_refused (site_of c.args.site.now) c.args.what.now c.args.name.now c.args.given.now at rest c.args.tree.now c.in-Ok-node_held.dir (asked_of c.in-Ok.asked) c.level_or-child.result.0
+          c.in-Ok-node_held.ensures (rw c.in-Ok.is at c.in_ok-asked.ensures) c.level_or-child.ensures c.in-Some.why c.in-Some.ensures;
+      tree = refl;
+    }
+
+pub returns-then-not-room-clause-acts : goal.returns-then-not-room-clause-acts
+returns-then-not-room-clause-acts c = λ p rest.
+    let at : Place = placed p c.args.caller.now in
+    let t = c.args.tree.now in
+    let site = site_of c.args.site.now in
+    let x : Asked = asked_of c.in-Ok.asked in
+    let h = c.in-Ok-node_held.dir in
+    let child = c.level_or-child.result.0 in
+    record {
+      outcome =
+          name_taken site c.args.what.now c.args.name.now c.args.given.now at rest t h x child c.in-Ok-node_held.ensures (rw c.in-Ok.is at c.in_ok-asked.ensures) c.level_or-child.ensures
+          (λ (o : Outcome (Answer Made)). o ≡ refuse at c.no_space.result.gate c.no_space.result.status) c.in_default.ensures
+          (λ d holds directory subject absent.
+          no_space site c.args.what.now c.args.name.now c.args.given.now at rest t h x child c.in-Ok-node_held.ensures (rw c.in-Ok.is at c.in_ok-asked.ensures) c.level_or-child.ensures
+          (with_tree rest t) d c.no_space.result (full site at rest t d c.args.room c.requires.room subject c.if-not-room.true) c.no_space.ensures);
+      tree = refl;
+    }
+
+pub returns-in-Ok-insert-clause-acts : goal.returns-in-Ok-insert-clause-acts
+returns-in-Ok-insert-clause-acts c = λ p rest.
+    let at : Place = placed p c.args.caller.now in
+    let t = c.args.tree.now in
+    let u = c.insert.new.self in
+    let site = site_of c.args.site.now in
+    let what = c.args.what.now in
+    let name = c.args.name.now in
+    let given = c.args.given.now in
+    let x : Asked = asked_of c.in-Ok.asked in
+    let h = c.in-Ok-node_held.dir in
+    let child = c.level_or-child.result.0 in
+    let fresh = c.in_ok-fresh.fresh in
+    let home : fresh.home.0 ≡ h.facts.label.0 = ap (λ l. l.0) c.in_ok-fresh.ensures.home in
+    let it : Created = record { node = c.in-Ok-insert.made.0; info = c.in-Ok-insert.made.1; set = c.set_of.result } in
+    name_taken site what name given at rest t h x child c.in-Ok-node_held.ensures (rw c.in-Ok.is at c.in_ok-asked.ensures) c.level_or-child.ensures
+    (λ (o : Outcome (Answer Made)). Succeeds (created_of it) (record at { current = Some (id_of it.node) }) rest t u o) c.in_default.ensures
+    (λ d holds directory subject absent.
+    let there = inserted t u (id_of h.id) d name fresh at.moment (ap (λ (i : Id). node_at t.nodes i) holds.id ∙ holds.at) directory absent c.in-Ok-insert.made c.in-Ok-insert.ensures in
+    subst (λ (o : Outcome (Answer Made)). Succeeds (created_of it) (record at { current = Some (id_of it.node) }) rest t u o)
+    (sym (with_space site what name given at rest t h x child c.in-Ok-node_held.ensures (rw c.in-Ok.is at c.in_ok-asked.ensures) c.level_or-child.ensures
+    (with_tree rest t) d (all_room site at rest t d c.args.room c.requires.room subject c.if-not-room.false fresh.home.0 (home ∙ holds.tells.label) there.0)))
+    (makes site at rest t u d name (set_of given) fresh (new_node site at (with_tree rest t) what x.mode x.label d) (home ∙ holds.tells.label) refl (c.in_ok-fresh.ensures.node d at (with_tree rest t) holds)
+    it c.set_of.ensures (ap (λ r. r.0) there.1) (ap (λ r. r.1) there.1) there.2))
+
+pub returns-in-Err-Spent-clause-acts : goal.returns-in-Err-Spent-clause-acts
+returns-in-Err-Spent-clause-acts c = λ p rest.
+    let at : Place = placed p c.args.caller.now in
+    let t = c.args.tree.now in
+    let u = c.insert.new.self in
+    let site = site_of c.args.site.now in
+    let what = c.args.what.now in
+    let name = c.args.name.now in
+    let given = c.args.given.now in
+    let x : Asked = asked_of c.in-Ok.asked in
+    let h = c.in-Ok-node_held.dir in
+    let child = c.level_or-child.result.0 in
+    let fresh = c.in_ok-fresh.fresh in
+    let home : fresh.home.0 ≡ h.facts.label.0 = ap (λ l. l.0) c.in_ok-fresh.ensures.home in
+    let why = c.no_space-in-Err-Spent.result in
+    name_taken site what name given at rest t h x child c.in-Ok-node_held.ensures (rw c.in-Ok.is at c.in_ok-asked.ensures) c.level_or-child.ensures
+    (λ (o : Outcome (Answer Made)). Refuses why at t u o) c.in_default.ensures
+    (λ d holds directory subject absent.
+    let there = spent t u (id_of h.id) d name fresh at.moment (ap (λ (i : Id). node_at t.nodes i) holds.id ∙ holds.at) directory absent (rw c.in-Err-Spent.field-0-is at c.in-Err-Spent.ensures) in
+    record {
+      outcome =
+          no_space site what name given at rest t h x child c.in-Ok-node_held.ensures (rw c.in-Ok.is at c.in_ok-asked.ensures) c.level_or-child.ensures
+          (with_tree rest t) d why (no_number site at rest t d c.args.room c.requires.room subject fresh.home.0 (home ∙ holds.tells.label) there.0) c.no_space-in-Err-Spent.ensures;
+      tree = there.1;
+    })
+
+pub returns-in-Err-insert : goal.returns-in-Err-insert
+returns-in-Err-insert c = record { acts = tt; kept = kept seen _ c.args.tree.now c.insert.new.self c.in-Err-insert.field-0 c.in-Err-insert.ensures }
