@@ -4,8 +4,9 @@
 //! replies: to an EXCHANGE_ID or a CREATE_SESSION that stands alone its result; to a SEQUENCE with what stands behind it
 //! theirs, which it keeps in the slot for when the request comes again; to any other COMPOUND the refusal of its first
 //! operation. Behind a SEQUENCE it knows RECLAIM_COMPLETE, PUTROOTFH, LOOKUP, GETATTR and READDIR, of the attributes type,
-//! fileid and sec_label, and of the policy the first directories in the root with labels as CALIPSO bodies. It answers
-//! nothing else, checks no more than it must to find its way, and proves nothing.
+//! fileid and sec_label, and of the policy the first directories in the root with labels as CALIPSO bodies; and of
+//! directories that are named by PUTFH, CREATE and LOOKUP of what was made there. It answers nothing else, checks no more
+//! than it must to find its way, and proves nothing.
 
 use std::collections::BTreeMap;
 use std::io::{BufWriter, Read, Write};
@@ -64,6 +65,22 @@ fn guests(policy: &str) -> Vec<(u32, Option<u32>, u32)> {
 struct Dir {
     number: u32,
     label: Vec<u8>,
+}
+
+/// A file handle: the home of a node and its number there.
+type Handle = [u8; 12];
+
+fn handle(home: u32, number: u32) -> Handle {
+    let mut bytes = [0; 12];
+    bytes[..4].copy_from_slice(&home.to_be_bytes());
+    bytes[8..].copy_from_slice(&number.to_be_bytes());
+    bytes
+}
+
+/// What was made in a directory: its change number, and what the names name.
+struct Made {
+    change: u64,
+    names: BTreeMap<Vec<u8>, Handle>,
 }
 
 /// The body of a label: its DOI, the number of words, the sensitivity, and the words of its compartments.
@@ -145,6 +162,8 @@ struct Server {
     /// The first directories by their names, the root by none; and the root's names by their cookies.
     dirs: BTreeMap<Vec<u8>, Dir>,
     cookies: BTreeMap<u64, Vec<u8>>,
+    made: BTreeMap<Handle, Made>,
+    last_node: BTreeMap<u32, u32>,
     journal: Vec<Event>,
 }
 
@@ -247,6 +266,7 @@ impl Server {
             out.extend(u32::to_be_bytes(word));
         }
         let mut current: Option<&Dir> = None;
+        let mut at_handle: Option<Handle> = None;
         for _ in 1..count {
             let number = call.word()?;
             out.extend(number.to_be_bytes());
@@ -255,8 +275,30 @@ impl Server {
                 58 => {
                     call.word()?;
                 }
-                24 => current = self.dirs.get([].as_slice()),
-                15 => current = Some(self.dirs.get(call.opaque()?)?),
+                24 => (current, at_handle) = (self.dirs.get([].as_slice()), None),
+                22 => at_handle = Some(call.opaque()?.try_into().ok()?),
+                15 => match at_handle {
+                    Some(at) => at_handle = Some(*self.made.get(&at)?.names.get(call.opaque()?)?),
+                    None => current = Some(self.dirs.get(call.opaque()?)?),
+                },
+                6 => {
+                    if call.word()? != 2 {
+                        return None;
+                    }
+                    let name = call.opaque()?.to_vec();
+                    call.take(8)?;
+                    let first = if level == 0 { self.dirs.len() as u32 } else { 0 };
+                    let last = self.last_node.entry(level).or_insert(first);
+                    *last += 1;
+                    let dir = self.made.entry(at_handle?).or_insert(Made { change: 1, names: BTreeMap::new() });
+                    out.extend(1u32.to_be_bytes());
+                    out.extend(dir.change.to_be_bytes());
+                    dir.change += 1;
+                    out.extend(dir.change.to_be_bytes());
+                    out.extend(0u32.to_be_bytes());
+                    dir.names.insert(name, handle(level, *last));
+                    at_handle = Some(handle(level, *last));
+                }
                 9 => {
                     let asked: Vec<u32> = (0..call.word()?).map_while(|_| call.word()).collect();
                     attrs_to(out, &asked, current?);

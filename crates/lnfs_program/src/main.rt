@@ -4,6 +4,8 @@
 //! is due for these words and the files that they name.
 #![tactic(auto)]
 
+#[cfg(test)]
+mod changing_tests;
 mod laws;
 #[cfg(test)]
 mod policy_tests;
@@ -12,6 +14,8 @@ mod reading_tests;
 #[cfg(test)]
 mod record_tests;
 mod replay;
+#[cfg(test)]
+mod root_tests;
 #[cfg(test)]
 mod rows;
 mod run;

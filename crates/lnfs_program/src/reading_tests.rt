@@ -120,7 +120,7 @@ ACCEPTED 0 {status} 0 {count} SEQUENCED 1 0 SLOTS {results} | {event}{line}\n"
 }
 
 /// Plays each row of a table of operations behind the client and its session, which has so many.
-fn check_operations(
+pub fn check_operations(
     rt: &impl Abort,
     alloc: Global,
     table: &str,
@@ -188,28 +188,18 @@ ACCEPTED 0 0 0 4 SEQUENCED_3 1 0 SLOTS 24 0 15 0 9 0 ALL 236 ALL 2 0 0 1 0 0 1 1
 9 4 9 M1 13 | 10 4 9 M1 13 | 11 4 9 M1 13
 ";
 
-/// The names in the root, with their cookies, as entries without attributes.
-const ENTRIES: [&str; 3] = [
-    "1 0 3 3 'one' 0x00 0 0 ",
-    "1 0 4 3 'two' 0x00 0 0 ",
-    "1 0 5 3 'top' 0x00 0 0 ",
-];
-
-/// The bytes of such an entry, and of a listing without one.
-const ENTRY_SIZE: usize = 28;
-
-const EMPTY_SIZE: usize = 16;
-
-/// Adds the events of a client of a level and its session.
-fn put_opening(row: &mut String, level: usize) -> Result<(), AllocError> {
+/// Adds the events of a client of a level and its session. Those of level 0 are of class 0.
+pub fn put_opening(row: &mut String, level: usize) -> Result<(), AllocError> {
+    let class = level.min(1);
     write!(
         row,
-        "@1 CALL SYS_{level}00 EXCHANGE 'c1' REST / @1 CALL SYS_{level}00 CREATE {level} 1 1 0 CHANNEL CHANNEL 0 0"
+        "@{class} CALL SYS_{level}00 EXCHANGE 'c1' REST / \
+@{class} CALL SYS_{level}00 CREATE {level} 1 1 0 CHANNEL CHANNEL 0 0"
     )
 }
 
 /// Adds the replies to these.
-fn put_opened(row: &mut String, level: usize) -> Result<(), AllocError> {
+pub fn put_opened(row: &mut String, level: usize) -> Result<(), AllocError> {
     write!(
         row,
         "EXCHANGED {level} 1 SERVER / CREATED {level} 0 1 0 1 0 CHANNEL CHANNEL"
@@ -218,7 +208,7 @@ fn put_opened(row: &mut String, level: usize) -> Result<(), AllocError> {
 
 /// A row in whose place of OPEN_ and OPENED_ and a level stand the client and the session of that level, and the
 /// replies to them.
-fn with_clients(alloc: Global, row: &str) -> Result<String, AllocError> {
+pub fn with_clients(alloc: Global, row: &str) -> Result<String, AllocError> {
     let mut whole = String::new(alloc);
     for word in row.split(' ') {
         match word {
@@ -243,65 +233,6 @@ fn each_level(rt: HostRuntime) -> Result<(), AllocError> {
         check_row(&rt, rt.alloc(), &with_clients(rt.alloc(), row)?)?;
     }
     Ok(())
-}
-
-/// Adds the reply to a READDIR of the names behind the first so many, of a size at most, and its line.
-fn put_listing(
-    row: &mut String,
-    lines: &mut String,
-    event: usize,
-    behind: usize,
-    size: usize,
-) -> Result<(), AllocError> {
-    let fit = size.saturating_sub(EMPTY_SIZE) / ENTRY_SIZE;
-    let sequence = event.saturating_sub(2);
-    if fit == 0 {
-        write!(
-            row,
-            " / ACCEPTED 0 10005 0 3 SEQUENCED_3 {sequence} 0 SLOTS 24 0 26 10005"
-        )?;
-        return write!(lines, " | {event} 3 26 N 10005");
-    }
-    write!(
-        row,
-        " / ACCEPTED 0 0 0 3 SEQUENCED_3 {sequence} 0 SLOTS 24 0 26 0 0 0 "
-    )?;
-    for entry in ENTRIES.iter().skip(behind).take(fit) {
-        row.push_str(entry)?;
-    }
-    let eof = if fit.saturating_add(behind) >= ENTRIES.len() {
-        1
-    } else {
-        0
-    };
-    write!(row, "0 {eof}")
-}
-
-/// The row of listings of the root by level 3, of each size up to 400 bytes, from each cookie before a name.
-fn pieces(alloc: Global) -> Result<String, AllocError> {
-    let mut events = String::new(alloc);
-    let mut replies = String::new(alloc);
-    let mut lines = String::new(alloc);
-    put_opening(&mut events, 3)?;
-    put_opened(&mut replies, 3)?;
-    for size in 0..401usize {
-        for behind in 0..3usize {
-            let sequence = 1 + 3 * size + behind;
-            let event = 2 + sequence;
-            let cookie = 2 + behind;
-            write!(
-                events,
-                " / @1 CALL SYS_300 0 2 3 SEQUENCE_3 {sequence} 0 0 1 24 26 0 {cookie} 0 0 0 {size} 0"
-            )?;
-            put_listing(&mut replies, &mut lines, event, behind, size)?;
-        }
-    }
-    format!(in alloc; "pieces of each size | {events} | {replies}{lines}")
-}
-
-#[test]
-fn listings_of_each_size(rt: HostRuntime) -> Result<(), AllocError> {
-    check_row(&rt, rt.alloc(), &pieces(rt.alloc())?)
 }
 
 /// The row of a tag of 1,024 bytes in a session of the least responses: of what it leaves GETATTR would need more.

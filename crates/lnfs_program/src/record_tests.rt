@@ -32,7 +32,7 @@ minor version 1 | CALL SYS 0 1 1 42 | ACCEPTED 0 10021 0 0 | 1 0 0 X 10021
 an operation of the protocol that isn't served | CALL SYS 0 2 1 68 | ACCEPTED 0 10004 0 1 68 10004 | 1 1 68 X 10004
 an operation that the protocol hasn't | CALL SYS 0 2 1 72 | ACCEPTED 0 10044 0 1 10044 10044 | 1 1 72 X 10044
 COMMIT, which isn't served yet, and GETFH | CALL SYS 3 0x61626300 2 2 5 0 0 0 10 | ACCEPTED 0 10004 3 0x61626300 1 5 10004 | 1 1 5 X 10004
-SETATTR, whose result has a bitmap | CALL SYS 0 2 1 34 0 0 0 0 0 0 | ACCEPTED 0 10004 0 1 34 10004 0 | 1 1 34 X 10004
+SETATTR, whose result has a bitmap | CALL SYS 0 2 1 34 0 0 0 0 0 0 | ACCEPTED 0 10071 0 1 34 10071 0 | 1 1 34 S 10071
 a boolean of 2 in SEQUENCE | CALL SYS 0 2 1 53 0 0 0 0 0 0 0 2 | ACCEPTED 4 | 1 0 0 P 4
 a word after the last operation | CALL SYS 0 2 1 24 0 | ACCEPTED 4 | 1 0 0 P 4
 an EXCHANGE_ID and a count without end | CALL SYS 0 2 0xffffffff 42 0 0 2 0x63310000 0 0 0 7 | ACCEPTED 0 10081 0 1 42 10081 | 1 1 42 S 10081

@@ -10,7 +10,7 @@ use std::alloc::{AllocError, Global};
 ///
 /// CALL is a call of a COMPOUND up to its credential, and CALL_2 one under another xid. SYS is a
 /// credential by AUTH_SYS of user 0 and an empty verifier, and SYS_5 and SYS_300 are those of other
-/// users. EXCHANGE is a COMPOUND of one EXCHANGE_ID up to the bytes of an owner of two, and REST is
+/// users, and SYS_000 is SYS. EXCHANGE is a COMPOUND of one EXCHANGE_ID up to the bytes of an owner of two, and REST is
 /// what stands after these bytes. CREATE is a COMPOUND of one CREATE_SESSION up to the client id, of
 /// two words, and SEQUENCE that operation with the first session of level 0, up to the sequence, and with a number
 /// behind it that of another level. ALL is the bitmap of all attributes, and SETTABLE of those that can be set.
@@ -25,6 +25,7 @@ CALL 1 0 2 100003 4 1
 CALL_2 2 0 2 100003 4 1
 SYS 1 24 0 1 0x61000000 0 0 0 0 0
 SYS_5 1 24 0 1 0x61000000 5 0 0 0 0
+SYS_000 1 24 0 1 0x61000000 0 0 0 0 0
 SYS_100 1 24 0 1 0x61000000 100 0 0 0 0
 SYS_200 1 24 0 1 0x61000000 200 0 0 0 0
 SYS_300 1 24 0 1 0x61000000 300 0 0 0 0
@@ -32,6 +33,7 @@ EXCHANGE 0 2 1 42 0 0 2
 REST 0x0000 0 0 0
 CREATE 0 2 1 43
 SEQUENCE 53 0 0 1 0
+SEQUENCE_0 53 0 0 1 0
 SEQUENCE_1 53 1 0 1 0
 SEQUENCE_2 53 2 0 1 0
 SEQUENCE_3 53 3 0 1 0
@@ -43,6 +45,7 @@ SERVER 1 0x00010000 0 0 0 12 'labelled-nfs' 12 'labelled-nfs' 0
 CREATED 1 1 0 0 0 0 0 0 1 43 0
 CHANNEL 0 65536 65536 65536 32 16 0
 SEQUENCED 53 0 0 0 1 0
+SEQUENCED_0 53 0 0 0 1 0
 SEQUENCED_1 53 0 1 0 1 0
 SEQUENCED_2 53 0 2 0 1 0
 SEQUENCED_3 53 0 3 0 1 0
