@@ -16,6 +16,10 @@ pub demand_alike : {A : Type 0} (test : Bool) (refusal a b : Outcome A) → (tes
 demand_alike true refusal a b same = same refl
 demand_alike false refusal a b same = refl
 
+-- the same, where the tests come to the same
+pub demand_agrees : {A : Type 0} (shown test : Bool) (refusal a b : Outcome A) → shown ≡ test → (test ≡ true → a ≡ b) → demand shown refusal a ≡ demand test refusal b
+demand_agrees shown test refusal a b agree same = ap (λ t. demand t refusal a) agree ∙ demand_alike test refusal a b same
+
 pub where_alike : {X A : Type 0} (o : Option X) (f g : X → Outcome A) (absent : Outcome A) → ((x : X) → o ≡ Some x → f x ≡ g x) → where_there o f absent ≡ where_there o g absent
 where_alike None f g absent same = refl
 where_alike (Some x) f g absent same = same x refl

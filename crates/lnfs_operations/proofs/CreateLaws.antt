@@ -105,7 +105,7 @@ create_any P site what name given p w refused told =
 
 -- ---- what is changed
 
-made_within : (dom : ℕ → ℕ → Bool) (s : ℕ) (w : World) (facts : Facts dom w) (d n : Node) (name : List ℕ) (moment : Moment) → node_at w.nodes d.id ≡ Some d → is_directory d.kind ≡ true → d.label ≡ s → n.id ≡ next_id w.lasts.nodes s → dom n.label s ≡ true → entry_at w.entries d.id name ≡ None →
+pub made_within : (dom : ℕ → ℕ → Bool) (s : ℕ) (w : World) (facts : Facts dom w) (d n : Node) (name : List ℕ) (moment : Moment) → node_at w.nodes d.id ≡ Some d → is_directory d.kind ≡ true → d.label ≡ s → n.id ≡ next_id w.lasts.nodes s → dom n.label s ≡ true → entry_at w.entries d.id name ≡ None →
     all_within dom s w (Touch d.id (name_added moment d.inner) ∷ Make n (next_entry d name n.id) ∷ []) ≡ true
 made_within dom s w facts d n name moment found directory own id rises new =
     let label = label_of-found d.id w.nodes d found in

@@ -25,7 +25,7 @@ shown_alike g found shown absent None same = refl
 shown_alike g found shown absent (Some x) same = same x refl
 
 module _ (dom : ℕ → ℕ → Bool) (p : Place) (w : World) (stands : Stands dom p w) where
-  current_held : may_hold dom p.subject p.current ≡ true
+  pub current_held : may_hold dom p.subject p.current ≡ true
   current_held = let place = stands.place in grind (arith, place)
 
   pub saved_held : may_hold dom p.subject p.saved ≡ true

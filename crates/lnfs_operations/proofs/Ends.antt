@@ -1,5 +1,5 @@
 -- What holds of each end of an operation holds of its outcome: a refusal, or what stands behind its tests.
-use Rattle.std.proofs.Common.{◌≡◌, ℕ, Bool, true, false, not, List, length, Option, Some, None, refl}
+use Rattle.std.proofs.Common.{◌≡◌, ℕ, Bool, true, false, not, List, length, Option, Some, None, refl, arith}
 use Rattle.std.specs.Prelude.{nat_le}
 use Rattle.std.specs.Str.{is_utf8}
 use Rattle.lnfs_words.specs.Words.{is_empty}
@@ -32,9 +32,10 @@ module _ {R : Type 0} (P : Outcome (Answer R) → Type 0) (p : Place) (refused :
   pub allowed_any : (site : Site) (asks : Asks) (next : Outcome (Answer R)) → (allows site.dom p.subject asks ≡ true → P next) → P (where_allowed site p asks next)
   allowed_any site asks next is = demand_any P (allows site.dom p.subject asks) _ next (refused _ _) is
 
-  pub asked_any : (comes_up : Bool) (site : Site) (asks : Asks) (next : Outcome (Answer R)) → P next → P (where_asked comes_up site p asks next)
-  asked_any true site asks next is = allowed_any site asks next (λ allowed. is)
-  asked_any false site asks next is = is
+  -- which, where it comes up, allowed it
+  pub asked_any : (comes_up : Bool) (site : Site) (asks : Asks) (next : Outcome (Answer R)) → ((comes_up ≡ true → allows site.dom p.subject asks ≡ true) → P next) → P (where_asked comes_up site p asks next)
+  asked_any true site asks next is = allowed_any site asks next (λ allowed. is (λ up. allowed))
+  asked_any false site asks next is = is (λ up. absurd (grind arith))
 
   -- behind the tests of a name
   pub named_any : (name : List ℕ) (next : Outcome (Answer R)) → P next → P (where_named p name next)

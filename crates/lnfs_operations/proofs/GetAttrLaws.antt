@@ -67,7 +67,7 @@ compared_any P site given p w same refused told =
     demand_any P (is_supported given.mask) _ _ (refused _ _) (λ supported.
     demand_any P (not (has_attr given.mask RDATTR_ERROR)) _ _ (refused _ _) (λ plain.
     current_any P p refused w _ (λ i n found.
-    asked_any P p refused (asks_inner given.mask) site (Read n.label) _ (told _))))
+    asked_any P p refused (asks_inner given.mask) site (Read n.label) _ (λ allowed. told _))))
 
 pub verify_any : (P : Outcome (Answer (Unit {0})) → Type 0) (site : Site) (given : RawAttrs) (p : Place) (w : World) → ((gate : Gate) (status : ℕ) → P (refuse p gate status)) → P (done p tt []) → P (verify site given p w)
 verify_any P site given p w refused told = compared_any P site given p w (verified p) refused (λ b. demand_any P b (refuse p Namespace NFS4ERR_NOT_SAME) (done p tt []) (refused Namespace NFS4ERR_NOT_SAME) (λ is. told))
@@ -78,7 +78,7 @@ nverify_any P site given p w refused told = compared_any P site given p w (denie
 pub get_attr_any : (P : Outcome (Answer RawAttrs) → Type 0) (site : Site) (asked : Bitmap) (p : Place) (w : World) → ((gate : Gate) (status : ℕ) → P (refuse p gate status)) → ((i : Id) (n : Node) → node_at w.nodes i ≡ Some n → P (done p (answer_to asked true (shown site p w.entries n 0)) [])) → P (get_attr site asked p w)
 get_attr_any P site asked p w refused told =
     current_any P p refused w _ (λ i n found.
-    asked_any P p refused (asks_inner asked) site (Read n.label) _ (told i n found))
+    asked_any P p refused (asks_inner asked) site (Read n.label) _ (λ allowed. told i n found))
 
 pub get_attr_footprint : (site : Site) → IsPreorderWithBottom site.dom → (asked : Bitmap) → Footprint site.dom (get_attr site asked)
 get_attr_footprint site lattice asked p w stands = get_attr_any (IsFootprint site.dom p w) site asked p w (λ gate status. unchanged_footprint site.dom p w stands _) (λ i n found. unchanged_footprint site.dom p w stands _)

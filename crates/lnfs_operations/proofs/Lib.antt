@@ -25,6 +25,11 @@ pub mod LinkLaws
 pub mod RemoveLaws
 pub mod RenameChanges
 pub mod RenameLaws
+pub mod StateIdLaws
+pub mod FileLaws
+pub mod Openings
+pub mod OpenLaws
+pub mod OpenChanges
 pub mod Readings
 pub mod ReadingRows
 pub mod Lengths

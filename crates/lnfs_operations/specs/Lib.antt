@@ -25,7 +25,13 @@ pub mod Create
 pub mod Link
 pub mod Remove
 pub mod Rename
+pub mod StateIds
+pub mod Files
 pub mod SetAttr
+pub mod Open
+pub mod Close
+pub mod Read
+pub mod Write
 pub mod Sizes
 pub mod Extra
 pub mod Results

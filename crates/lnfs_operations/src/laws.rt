@@ -7,6 +7,7 @@ ghost use Rattle.lnfs_attrs.specs.declared.view.View.{View as Shown};
 ghost use Rattle.lnfs_attrs.specs.declared.raw.RawAttrs.{RawAttrs};
 ghost use Rattle.lnfs_attrs.specs.Bitmaps.{has_attr, BitmapFits};
 ghost use Rattle.lnfs_attrs.specs.Sizes.{ViewFits, IsAnswer};
+ghost use Rattle.lnfs_arguments.specs.declared.stateid.StateId.{StateId};
 ghost use Rattle.lnfs_arguments.specs.declared.types.Op.{Op};
 ghost use Rattle.lnfs_arguments.specs.declared.types.Op.TheVariants as ops;
 ghost use Rattle.lnfs_arguments.specs.declared.types.Compound.{Compound};
@@ -46,6 +47,10 @@ ghost use Rattle.lnfs_operations.specs.ReadDir.{Arguments as Listing, read_dir};
 ghost use Rattle.lnfs_operations.specs.Link.{link};
 ghost use Rattle.lnfs_operations.specs.Remove.{remove};
 ghost use Rattle.lnfs_operations.specs.Rename.{rename};
+ghost use Rattle.lnfs_operations.specs.Open.{Arguments as Opening, open_file};
+ghost use Rattle.lnfs_operations.specs.Close.{close};
+ghost use Rattle.lnfs_operations.specs.Read.{Arguments as Reading, read};
+ghost use Rattle.lnfs_operations.specs.Write.{Arguments as Writing, write, commit};
 
 use crate::extra::ExtraRows;
 
@@ -128,6 +133,21 @@ pub fn naming_is_lawful()
     ensures remove_footprint { (site : Site) → IsPreorderWithBottom site.dom → (name : List ℕ) → Footprint site.dom (remove site name) }
     ensures rename_view { (site : Site) → IsPreorderWithBottom site.dom → (old new : List ℕ) → View site.dom (rename site old new) }
     ensures rename_footprint { (site : Site) → IsPreorderWithBottom site.dom → (old new : List ℕ) → Footprint site.dom (rename site old new) }
+{}
+
+/// Each operation on files and their opens looks only at what its subject sees, so at no open of a level that it doesn't
+/// dominate, and changes only files whose label is the subject's level and opens of that level.
+pub fn files_are_lawful()
+    ensures open_view { (site : Site) → IsPreorderWithBottom site.dom → (args : Opening) → View site.dom (open_file site args) }
+    ensures open_footprint { (site : Site) → IsPreorderWithBottom site.dom → (args : Opening) → Footprint site.dom (open_file site args) }
+    ensures close_view { (site : Site) → IsPreorderWithBottom site.dom → (id : StateId) → View site.dom (close id) }
+    ensures close_footprint { (site : Site) → IsPreorderWithBottom site.dom → (id : StateId) → Footprint site.dom (close id) }
+    ensures read_view { (site : Site) → IsPreorderWithBottom site.dom → (args : Reading) → View site.dom (read site args) }
+    ensures read_footprint { (site : Site) → IsPreorderWithBottom site.dom → (args : Reading) → Footprint site.dom (read site args) }
+    ensures write_view { (site : Site) → IsPreorderWithBottom site.dom → (args : Writing) → View site.dom (write site args) }
+    ensures write_footprint { (site : Site) → IsPreorderWithBottom site.dom → (args : Writing) → Footprint site.dom (write site args) }
+    ensures commit_view { (site : Site) → IsPreorderWithBottom site.dom → View site.dom (commit site) }
+    ensures commit_footprint { (site : Site) → IsPreorderWithBottom site.dom → Footprint site.dom (commit site) }
 {}
 
 /// Each operation behind the results so far of its COMPOUND keeps the two laws of erasure, and what has to stand of world and

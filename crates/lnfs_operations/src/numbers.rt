@@ -67,3 +67,23 @@ pub const MOST_MODE: u32 = 0o7777;
 pub const DIRECTORY_MODE: u32 = 0o755;
 
 pub const LINK_MODE: u32 = 0o777;
+
+/// The mode of a new file that brings none.
+pub const FILE_MODE: u32 = 0o644;
+
+/// The most bytes of a file.
+pub const MOST_FILE: u32 = 16_777_216;
+
+/// How many opens a level may have.
+pub const OPENS_OF_A_LEVEL: u32 = 4_096;
+
+/// What an open of a file is for, and what it denies to others (RFC 8881 section 18.16.3): reading, writing, and both.
+/// The bits of access and of deny are the same.
+pub const OPEN4_SHARE_ACCESS_READ: u32 = 1;
+
+pub const OPEN4_SHARE_ACCESS_WRITE: u32 = 2;
+
+pub const OPEN4_SHARE_ACCESS_BOTH: u32 = 3;
+
+/// `FILE_SYNC4`, the last of the ways to write (RFC 8881 section 18.32.1): data and attributes stand when it is answered.
+pub const FILE_SYNC4: u32 = 2;

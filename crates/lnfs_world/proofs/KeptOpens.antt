@@ -15,7 +15,7 @@ use Rattle.lnfs_world.proofs.Apart.{apart_filter}
 use Rattle.lnfs_world.proofs.Keys.{id_same, id_turned, bytes_turned}
 use Rattle.lnfs_world.proofs.KeptClients.{row_rises, lasts_rise, rows_given, row_apart, confirmed_left}
 
-openings_turn : (a b : Open) → same_opening a b ≡ same_opening b a
+pub openings_turn : (a b : Open) → same_opening a b ≡ same_opening b a
 openings_turn a b = grind (arith, nat_tests, bytes_turned a.owner b.owner, id_turned a.node b.node)
 
 module _ (dom : ℕ → ℕ → Bool) where

@@ -1,6 +1,6 @@
--- What the making, naming, moving and removing of nodes does to them (RFC 8881 sections 5.8.1.4, 5.8.2.43, 5.8.2.45 and
--- 18.23.3): change numbers and times step, cookies are given.
-use Rattle.std.specs.Prelude.{ℕ, ◌+◌, Bool, not, ◌&&◌, ◌||◌, cond, List, [], ◌∷◌, filter, filter_map, min, nat_lt}
+-- What the making, naming, moving and removing of nodes does to them, and the writing of files (RFC 8881 sections 5.8.1.4,
+-- 5.8.2.43, 5.8.2.45, 18.23.3, 18.30.3 and 18.32.3): change numbers and times step, cookies are given, gaps are zeros.
+use Rattle.std.specs.Prelude.{ℕ, ◌+◌, ◌-◌, Bool, not, ◌&&◌, ◌||◌, cond, List, [], ◌∷◌, ◌++◌, length, take, drop, replicate, filter, filter_map, min, max, nat_lt}
 use Rattle.lnfs_outside.specs.declared.event.Moment.{Moment}
 use Rattle.lnfs_world.specs.declared.numbers.TheConstants.{LAST_NUMBER, LAST_CHANGE, LAST_COOKIE}
 use Rattle.lnfs_world.specs.World.{Id, Inner, Node, Entry, same_id, label_at, is_directory, last_of}
@@ -24,6 +24,29 @@ names_changed moment inner = record inner { change = stepped inner.change; metad
 -- of a directory in which a name was put, which takes the next cookie
 abbrev pub name_added : Moment → Inner → Inner
 name_added moment inner = record (names_changed moment inner) { cookies = inner.cookies + 1 }
+
+-- ---- data of files
+
+-- bytes cut to a size, or filled up to it with zeros
+abbrev pub sized : (size : ℕ) → List ℕ → List ℕ
+sized size content = take size (content ++ replicate (size - length content) 0)
+
+-- bytes with others in place from an offset on; what is between the end and the offset is zeros
+abbrev pub written : (offset : ℕ) → (bytes content : List ℕ) → List ℕ
+written offset bytes content = sized offset content ++ (bytes ++ drop (offset + length bytes) content)
+
+-- the bytes from an offset on, so many or all up to the end
+abbrev pub read_at : (offset count : ℕ) → List ℕ → List ℕ
+read_at offset count content = take count (drop offset content)
+
+-- how many bytes there are after others were written at an offset; no bytes leave it
+abbrev pub size_written : (offset : ℕ) → (bytes content : List ℕ) → ℕ
+size_written offset [] content = length content
+size_written offset (b ∷ bytes) content = max (length content) (offset + length (b ∷ bytes))
+
+-- of a file whose data or size was set
+abbrev pub data_changed : Moment → (content : List ℕ) → Inner → Inner
+data_changed moment content inner = record inner { content = content; change = stepped inner.change; metadata = moment; modified = moment }
 
 -- ---- names
 
