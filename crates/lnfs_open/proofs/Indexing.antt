@@ -1,0 +1,354 @@
+-- Opens are found by what is kept to find them, and stay so found after each change.
+use Rattle.std.proofs.Common.{◌≡◌, ◌≤◌, ℕ, Bool, true, false, cond, not, ◌&&◌, ◌||◌, List, Option, Some, None, refl, sym, ap, ◌∙◌, subst, arith}
+use Rattle.std.specs.Prelude.{◌+◌, ◌-◌, ◌==◌, find, filter, count_by, is_some}
+use Rattle.std.specs.Str.{bytes_eq}
+use Rattle.std.proofs.lemmas.Bool.{false≢true}
+use Rattle.std.proofs.lemmas.Bool.Decides.{nat_tests}
+use Rattle.lnfs_world.specs.Rows.{inserted}
+use Rattle.lnfs_world.specs.World.{Id, Open, open_order, level_order, same_id}
+use Rattle.lnfs_world.specs.Change.{is_open_of}
+use Rattle.lnfs_world.proofs.Rows.{all_weaker}
+use Rattle.lnfs_world.proofs.Sorted.{rising_filter}
+use Rattle.lnfs_world.proofs.Keys.{id_same, id_itself, bytes_same, bytes_itself, last_of-inserted}
+use Rattle.lnfs_world.proofs.KeptClients.{row_rises}
+use Rattle.lnfs_open.specs.Lists.{Lists}
+use Rattle.lnfs_open.specs.Indexed.{open_at, passes, is_matter, Index, IsIndexed}
+use Rattle.lnfs_open.proofs.OpenRows.{each_at, found_id, passing, none_passes, one_passes, open_at-inserted, open_at-dropped, one_if, count-added, count-set, count-dropped}
+
+abbrev pub with_number : ℕ → ℕ → (ℕ → ℕ) → ℕ → ℕ
+with_number level new f l = cond (level == l) new (f l)
+
+abbrev pub entered_in : (group i : Id) → (Id → Id → Bool) → Id → Id → Bool
+entered_in group i f g j = same_id group g && same_id i j || f g j
+
+abbrev pub left_in : (group i : Id) → (Id → Id → Bool) → Id → Id → Bool
+left_in group i f g j = not (same_id group g && same_id i j) && f g j
+
+abbrev pub numbered : (client node : Id) → List ℕ → Option ℕ → (Id → Id → List ℕ → Option ℕ) → Id → Id → List ℕ → Option ℕ
+numbered client node name w f c n o = cond ((same_id client c && same_id node n) && bytes_eq name o) w (f c n o)
+
+pub keyed : (client c node n : Id) (name o : List ℕ) → ((same_id client c && same_id node n) && bytes_eq name o) ≡ true → (client ≡ c) × (node ≡ n) × (name ≡ o)
+keyed client c node n name o is = (id_same client c (grind (arith, is)), id_same node n (grind (arith, is)), bytes_same name o (grind (arith, is)))
+
+pub record SameIndex (a b : Index) : Type 0 where
+  pub last : (l : ℕ) → b.last l ≡ a.last l
+  pub opens : (l : ℕ) → b.opens l ≡ a.opens l
+  pub nodes : (n i : Id) → b.nodes n i ≡ a.nodes n i
+  pub clients : (c i : Id) → b.clients c i ≡ a.clients c i
+  pub number : (c n : Id) (o : List ℕ) → b.number c n o ≡ a.number c n o
+
+-- what is told in the same way
+pub told_same : (s t : Lists) (a b : Index) → t ≡ s → SameIndex a b → IsIndexed s a → IsIndexed t b
+told_same s t a b lists same kept =
+    let index : a ≡ b = λ i. record {
+      last = λ l. sym (same.last l) i;
+      opens = λ l. sym (same.opens l) i;
+      nodes = λ n j. sym (same.nodes n j) i;
+      clients = λ c j. sym (same.clients c j) i;
+      number = λ c n o. sym (same.number c n o) i;
+    } in
+    subst (λ (X : Type 0). X) (λ i. IsIndexed (sym lists i) (index i)) kept
+
+abbrev pub at_number : List Open → ℕ → Option ℕ → Option Open
+at_number rows level None = None
+at_number rows level (Some number) = open_at rows (record { level = level; number = number })
+
+abbrev pub client_of : Open → Id
+client_of o = record { level = o.id.level; number = o.client }
+
+module _ (s : Lists) (ix : Index) (kept : IsIndexed s ix) where
+  -- ---- by client, node and name
+
+  matter_of : (client node : Id) (name : List ℕ) (o : Open) → is_matter client node name o ≡ true → (client ≡ client_of o) × (node ≡ o.node) × (name ≡ o.owner)
+  matter_of client node name o is = (id_same client (client_of o) (grind (arith, nat_tests, is)), id_same node o.node (grind (arith, nat_tests, is)), bytes_same name o.owner (grind (arith, nat_tests, is)))
+
+  filed_as : (client node : Id) (name : List ℕ) (o : Open) → open_at s.opens o.id ≡ Some o → is_matter client node name o ≡ true → ix.number client node name ≡ Some o.id.number
+  filed_as client node name o there is =
+      let of = matter_of client node name o is in
+      (λ t. ix.number (of.0 t) (of.1 t) (of.2 t)) ∙ kept.filed o.id o there
+
+  pub find-matter : (client node : Id) (name : List ℕ) → find (is_matter client node name) s.opens ≡ at_number s.opens client.level (ix.number client node name)
+  find-matter client node name = by (ix.number client node name) refl
+    where
+      q : Open → Bool
+      q = is_matter client node name
+
+      fails : ix.number client node name ≡ None → (o : Open) (b : Bool) → is_matter client node name o ≡ b → open_at s.opens o.id ≡ Some o → is_matter client node name o ≡ false
+      fails none o true is there = absurd (let filed = filed_as client node name o there is in cc)
+      fails none o false is there = is
+
+      named : (number : ℕ) → ix.number client node name ≡ Some number → (o : Open) → open_at s.opens o.id ≡ Some o → is_matter client node name o ≡ true → same_id (record { level = client.level; number = number }) o.id ≡ true
+      named number known o there is =
+          let filed = filed_as client node name o there is in
+          let same : number ≡ o.id.number = cc in
+          let level : client.level ≡ o.id.level = ap (λ (i : Id). i.level) (matter_of client node name o is).0 in
+          grind (arith, nat_tests, same, level)
+
+      passing_all : (o : Option Open) → passes (is_matter client node name) o ≡ true → passing (is_matter client node name) o ≡ o
+      passing_all None is = refl
+      passing_all (Some o) is = ap (λ b. cond b (Some o) None) is
+
+      by : (n : Option ℕ) → ix.number client node name ≡ n → find (is_matter client node name) s.opens ≡ at_number s.opens client.level n
+      by None is = none_passes (is_matter client node name) s.opens (all_weaker _ _ (λ o there. fails is o (is_matter client node name o) refl there) s.opens (each_at s.opens kept.rise))
+      by (Some number) is =
+          one_passes (is_matter client node name) (record { level = client.level; number = number }) s.opens kept.rise (all_weaker _ _ (λ o there passes. named number is o there passes) s.opens (each_at s.opens kept.rise))
+          ∙ passing_all _ (kept.there client node name number is)
+
+  -- the identifier that such a number leads to is that of an open
+  pub matter_id : (client node : Id) (name : List ℕ) (number : ℕ) → ix.number client node name ≡ Some number → (o : Open) × (find (is_matter client node name) s.opens ≡ Some o) × (o.id ≡ record { level = client.level; number = number })
+  matter_id client node name number is = by (open_at s.opens (record { level = client.level; number = number })) refl
+    where
+      by : (x : Option Open) → open_at s.opens (record { level = client.level; number = number }) ≡ x → (o : Open) × (find (is_matter client node name) s.opens ≡ Some o) × (o.id ≡ record { level = client.level; number = number })
+      by None at = absurd (false≢true (ap (passes (is_matter client node name)) (sym at) ∙ kept.there client node name number is))
+      by (Some o) at = (o, find-matter client node name ∙ ap (at_number s.opens client.level) is ∙ at, sym (id_same (record { level = client.level; number = number }) o.id (found_id s.opens (record { level = client.level; number = number }) o at)))
+
+  pub none_numbered : (client node : Id) (name : List ℕ) → find (is_matter client node name) s.opens ≡ None → ix.number client node name ≡ None
+  none_numbered client node name none = by (ix.number client node name) refl
+    where
+      by : (x : Option ℕ) → ix.number client node name ≡ x → ix.number client node name ≡ None
+      by None is = is
+      by (Some number) is = absurd (let there = (matter_id client node name number is).1 in cc)
+
+  -- ---- an open gets another state
+
+  module _ (i : Id) (o : Open) (found : open_at s.opens i ≡ Some o) (access deny sequence : ℕ) where
+    abbrev row : Open
+    row = record o { access = access; deny = deny; sequence = sequence }
+
+    own : o.id ≡ i
+    own = sym (id_same i o.id (found_id s.opens i o found))
+
+    at_own : open_at s.opens o.id ≡ Some o
+    at_own = ap (open_at s.opens) own ∙ found
+
+    set_keeps : (P : Option Open → Type 0) → (P (Some o) → P (Some row)) → (j : Id) → P (open_at s.opens j) → P (open_at (inserted open_order row s.opens) j)
+    set_keeps P stays j before = subst P (sym (open_at-inserted row s.opens j)) (by (same_id j o.id) refl)
+      where
+        by : (b : Bool) → same_id j o.id ≡ b → P (cond b (Some row) (open_at s.opens j))
+        by true is = stays (subst P (ap (open_at s.opens) (id_same j o.id is) ∙ at_own) before)
+        by false is = before
+
+    pub set : IsIndexed (record s { opens = inserted open_order row s.opens }) ix
+    set = record {
+      rise = row_rises (λ x. x.id) row s.opens kept.rise;
+      given = λ j. set_keeps (λ x. is_some x ≡ true → j.number ≤ ix.last j.level) (λ h. h) j (kept.given j);
+      lasting = kept.lasting;
+      counted = λ level. kept.counted level ∙ sym (count-set (λ x. x.id.level == level) row o s.opens kept.rise at_own refl);
+      nodes = λ node j. set_keeps (λ x. ix.nodes node j ≡ passes (λ y. same_id node y.node) x) (λ h. h) j (kept.nodes node j);
+      clients = λ client j. set_keeps (λ x. ix.clients client j ≡ passes (is_open_of client) x) (λ h. h) j (kept.clients client j);
+      filed = λ j. set_keeps (λ x. (y : Open) → x ≡ Some y → ix.number (client_of y) y.node y.owner ≡ Some j.number)
+          (λ h y is. let same : row ≡ y = cc in subst (λ (z : Open). ix.number (client_of z) z.node z.owner ≡ Some j.number) same (h o refl)) j (kept.filed j);
+      there = λ client node name number known. set_keeps (λ x. passes (is_matter client node name) x ≡ true) (λ h. h) (record { level = client.level; number = number }) (kept.there client node name number known);
+    }
+
+  -- ---- a new open
+
+  module _ (row : Open) (next : row.id.number ≡ ix.last row.id.level + 1) (none : ix.number (client_of row) row.node row.owner ≡ None) where
+    pub absent : open_at s.opens row.id ≡ None
+    absent = by (open_at s.opens row.id) refl
+      where
+        by : (x : Option Open) → open_at s.opens row.id ≡ x → open_at s.opens row.id ≡ None
+        by None is = is
+        by (Some y) is = absurd (omega (arith, kept.given row.id (ap is_some is)))
+
+    pub none_of_node : ix.nodes row.node row.id ≡ false
+    none_of_node = kept.nodes row.node row.id ∙ ap (passes (λ y. same_id row.node y.node)) absent
+
+    pub none_of_client : ix.clients (client_of row) row.id ≡ false
+    none_of_client = kept.clients (client_of row) row.id ∙ ap (passes (is_open_of (client_of row))) absent
+
+    abbrev Entered : Index
+    Entered = record {
+      last = with_number row.id.level row.id.number ix.last;
+      opens = with_number row.id.level (ix.opens row.id.level + 1) ix.opens;
+      nodes = entered_in row.node row.id ix.nodes;
+      clients = entered_in (client_of row) row.id ix.clients;
+      number = numbered (client_of row) row.node row.owner (Some row.id.number) ix.number;
+    }
+
+    add_keeps : (P : Option Open → Type 0) (j : Id) → (same_id j row.id ≡ true → P (Some row)) → (same_id j row.id ≡ false → P (open_at s.opens j)) → P (open_at (inserted open_order row s.opens) j)
+    add_keeps P j new old = subst P (sym (open_at-inserted row s.opens j)) (by (same_id j row.id) refl)
+      where
+        by : (b : Bool) → same_id j row.id ≡ b → P (cond b (Some row) (open_at s.opens j))
+        by true is = new is
+        by false is = old is
+
+    turned : (j : Id) → same_id row.id j ≡ same_id j row.id
+    turned j = grind (arith, nat_tests)
+
+    given_added : (j : Id) → is_some (open_at (inserted open_order row s.opens) j) ≡ true → j.number ≤ with_number row.id.level row.id.number ix.last j.level
+    given_added j = add_keeps (λ x. is_some x ≡ true → j.number ≤ with_number row.id.level row.id.number ix.last j.level) j
+        (λ is some. own (row.id.level == j.level) refl (id_same j row.id is))
+        (λ is some. other (row.id.level == j.level) refl (kept.given j some))
+      where
+        own : (b : Bool) → (row.id.level == j.level) ≡ b → j ≡ row.id → j.number ≤ cond b row.id.number (ix.last j.level)
+        own true is same = let number : j.number ≡ row.id.number = ap (λ (k : Id). k.number) same in omega arith
+        own false is same = let level : j.level ≡ row.id.level = ap (λ (k : Id). k.level) same in absurd (grind (arith, nat_tests))
+
+        other : (b : Bool) → (row.id.level == j.level) ≡ b → j.number ≤ ix.last j.level → j.number ≤ cond b row.id.number (ix.last j.level)
+        other true is few = let level : ix.last row.id.level ≡ ix.last j.level = ap ix.last (let l : row.id.level ≡ j.level = grind (arith, nat_tests) in l) in omega arith
+        other false is few = few
+
+    counted_added : (level : ℕ) → with_number row.id.level (ix.opens row.id.level + 1) ix.opens level ≡ count_by (λ x. x.id.level == level) (inserted open_order row s.opens)
+    counted_added level = by (row.id.level == level) refl ∙ sym (count-added (λ x. x.id.level == level) row s.opens absent)
+      where
+        by : (b : Bool) → (row.id.level == level) ≡ b → cond b (ix.opens row.id.level + 1) (ix.opens level) ≡ count_by (λ x. x.id.level == level) s.opens + one_if (row.id.level == level)
+        by true is =
+            let l : row.id.level ≡ level = grind (arith, nat_tests) in
+            let one : one_if (row.id.level == level) ≡ 1 = ap one_if is in
+            omega (arith, kept.counted level, ap ix.opens l, one)
+        by false is = let zero_ : one_if (row.id.level == level) ≡ 0 = ap one_if is in omega (arith, kept.counted level, zero_)
+
+    -- a group that the new open is in, and no other open of its identifier
+    grouped : (f : Id → Id → Bool) (g : Id) (test : Id → Open → Bool) → ((n j : Id) → f n j ≡ passes (test n) (open_at s.opens j)) → ((n : Id) → same_id g n ≡ test n row) → (n j : Id) → entered_in g row.id f n j ≡ passes (test n) (open_at (inserted open_order row s.opens) j)
+    grouped f g test told here n j = add_keeps (λ x. entered_in g row.id f n j ≡ passes (test n) x) j
+        (λ is.
+        let before : f n j ≡ false = told n j ∙ ap (passes (test n)) (ap (open_at s.opens) (id_same j row.id is) ∙ absent) in
+        let own : same_id row.id j ≡ true = turned j ∙ is in
+        (λ t. (same_id g n && own t || before t)) ∙ grind (arith, here n))
+        (λ is.
+        let own : same_id row.id j ≡ false = turned j ∙ is in
+        (λ t. (same_id g n && own t || told n j t)) ∙ grind arith)
+
+    filed_added : (j : Id) (y : Open) → open_at (inserted open_order row s.opens) j ≡ Some y → numbered (client_of row) row.node row.owner (Some row.id.number) ix.number (client_of y) y.node y.owner ≡ Some j.number
+    filed_added j = add_keeps (λ x. (y : Open) → x ≡ Some y → numbered (client_of row) row.node row.owner (Some row.id.number) ix.number (client_of y) y.node y.owner ≡ Some j.number) j
+        (λ is y at.
+        let same : row ≡ y = cc in
+        let itself : ((same_id (client_of row) (client_of row) && same_id row.node row.node) && bytes_eq row.owner row.owner) ≡ true = grind (arith, id_itself (client_of row), id_itself row.node, bytes_itself row.owner) in
+        let number : row.id.number ≡ j.number = ap (λ (k : Id). k.number) (sym (id_same j row.id is)) in
+        subst (λ (z : Open). numbered (client_of row) row.node row.owner (Some row.id.number) ix.number (client_of z) z.node z.owner ≡ Some j.number) same
+        (ap (λ b. cond b (Some row.id.number) (ix.number (client_of row) row.node row.owner)) itself ∙ ap Some number))
+        (λ is y at. other y ((same_id (client_of row) (client_of y) && same_id row.node y.node) && bytes_eq row.owner y.owner) refl (kept.filed j y at))
+      where
+        other : (y : Open) (b : Bool) → ((same_id (client_of row) (client_of y) && same_id row.node y.node) && bytes_eq row.owner y.owner) ≡ b → ix.number (client_of y) y.node y.owner ≡ Some j.number → cond b (Some row.id.number) (ix.number (client_of y) y.node y.owner) ≡ Some j.number
+        other y true is before =
+            let k = keyed (client_of row) (client_of y) row.node y.node row.owner y.owner is in
+            let here : ix.number (client_of row) row.node row.owner ≡ Some j.number = (λ t. ix.number (k.0 t) (k.1 t) (k.2 t)) ∙ before in
+            absurd (cc)
+        other y false is before = before
+
+    there_added : (client node : Id) (name : List ℕ) (number : ℕ) → numbered (client_of row) row.node row.owner (Some row.id.number) ix.number client node name ≡ Some number → passes (is_matter client node name) (open_at (inserted open_order row s.opens) (record { level = client.level; number = number })) ≡ true
+    there_added client node name number = by ((same_id (client_of row) client && same_id row.node node) && bytes_eq row.owner name) refl
+      where
+        j : Id
+        j = record { level = client.level; number = number }
+
+        by : (b : Bool) → ((same_id (client_of row) client && same_id row.node node) && bytes_eq row.owner name) ≡ b → cond b (Some row.id.number) (ix.number client node name) ≡ Some number → passes (is_matter client node name) (open_at (inserted open_order row s.opens) (record { level = client.level; number = number })) ≡ true
+        by true is known =
+            let k = keyed (client_of row) client row.node node row.owner name is in
+            let number_is : row.id.number ≡ number = cc in
+            let id : record { level = client.level; number = number } ≡ row.id = λ t. record { level = (sym k.0 t).level; number = sym number_is t } in
+            let here : open_at (inserted open_order row s.opens) row.id ≡ Some row = open_at-inserted row s.opens row.id ∙ ap (λ b. cond b (Some row) (open_at s.opens row.id)) (id_itself row.id) in
+            let itself : is_matter (client_of row) row.node row.owner row ≡ true = grind (arith, nat_tests, id_itself row.node, bytes_itself row.owner) in
+            ap (passes (is_matter client node name)) (ap (open_at (inserted open_order row s.opens)) id ∙ here) ∙ (λ t. is_matter (sym k.0 t) (sym k.1 t) (sym k.2 t) row) ∙ itself
+        by false is known = add_keeps (λ x. passes (is_matter client node name) x ≡ true) (record { level = client.level; number = number })
+            (λ own. absurd (let old = kept.there client node name number known in let gone = ap (open_at s.opens) (id_same (record { level = client.level; number = number }) row.id own) ∙ absent in false≢true (ap (passes (is_matter client node name)) (sym gone) ∙ old)))
+            (λ other. kept.there client node name number known)
+
+    pub entered : IsIndexed (record { opens = inserted open_order row s.opens; lasts = inserted level_order row.id s.lasts }) Entered
+    entered = record {
+      rise = row_rises (λ x. x.id) row s.opens kept.rise;
+      given = given_added;
+      lasting = λ level. last_of-inserted row.id s.lasts level ∙ ap (λ n. cond (row.id.level == level) row.id.number n) (kept.lasting level);
+      counted = counted_added;
+      nodes = grouped ix.nodes row.node (λ n y. same_id n y.node) kept.nodes (λ n. grind (arith, nat_tests));
+      clients = grouped ix.clients (client_of row) is_open_of kept.clients (λ c. grind (arith, nat_tests));
+      filed = filed_added;
+      there = there_added;
+    }
+
+  -- ---- an open goes
+
+  module _ (i : Id) (o : Open) (found : open_at s.opens i ≡ Some o) where
+    own_left : o.id ≡ i
+    own_left = sym (id_same i o.id (found_id s.opens i o found))
+
+    abbrev left : List Open
+    left = filter (λ x. not (same_id i x.id)) s.opens
+
+    abbrev Left : Index
+    Left = record {
+      last = ix.last;
+      opens = with_number i.level (ix.opens i.level - 1) ix.opens;
+      nodes = left_in o.node i ix.nodes;
+      clients = left_in (client_of o) i ix.clients;
+      number = numbered (client_of o) o.node o.owner None ix.number;
+    }
+
+    drop_keeps : (P : Option Open → Type 0) (j : Id) → (same_id j i ≡ true → P None) → (same_id j i ≡ false → P (open_at s.opens j)) → P (open_at left j)
+    drop_keeps P j gone other = subst P (sym (open_at-dropped i s.opens j)) (by (same_id j i) refl)
+      where
+        by : (b : Bool) → same_id j i ≡ b → P (cond b None (open_at s.opens j))
+        by true is = gone is
+        by false is = other is
+
+    counted_left : (level : ℕ) → with_number i.level (ix.opens i.level - 1) ix.opens level ≡ count_by (λ x. x.id.level == level) left
+    counted_left level = by (i.level == level) refl
+      where
+        own_level : o.id.level ≡ i.level
+        own_level = ap (λ (x : Id). x.level) own_left
+
+        count : count_by (λ (x : Open). x.id.level == level) left + one_if (o.id.level == level) ≡ count_by (λ (x : Open). x.id.level == level) s.opens
+        count = count-dropped (λ x. x.id.level == level) i o s.opens kept.rise found
+
+        by : (b : Bool) → (i.level == level) ≡ b → cond b (ix.opens i.level - 1) (ix.opens level) ≡ count_by (λ (x : Open). x.id.level == level) left
+        by true is =
+            let same : i.level ≡ level = grind (arith, nat_tests) in
+            let one : one_if (o.id.level == level) ≡ 1 = grind (arith, nat_tests, own_level, same) in
+            omega (arith, count, one, kept.counted level, ap ix.opens same)
+        by false is =
+            let none : one_if (o.id.level == level) ≡ 0 = grind (arith, nat_tests, own_level, is) in
+            omega (arith, count, none, kept.counted level)
+
+    turned_left : (j : Id) → same_id i j ≡ same_id j i
+    turned_left j = grind (arith, nat_tests)
+
+    grouped_left : (f : Id → Id → Bool) (g : Id) (test : Id → Open → Bool) → ((n j : Id) → f n j ≡ passes (test n) (open_at s.opens j)) → ((n : Id) → same_id g n ≡ test n o) → (n j : Id) → left_in g i f n j ≡ passes (test n) (open_at left j)
+    grouped_left f g test told here n j = drop_keeps (λ x. left_in g i f n j ≡ passes (test n) x) j
+        (λ is.
+        let before : f n j ≡ test n o = told n j ∙ ap (passes (test n)) (ap (open_at s.opens) (id_same j i is) ∙ found) in
+        let own : same_id i j ≡ true = turned_left j ∙ is in
+        (λ t. (not (same_id g n && own t) && before t)) ∙ grind (arith, here n))
+        (λ is.
+        let own : same_id i j ≡ false = turned_left j ∙ is in
+        (λ t. (not (same_id g n && own t) && told n j t)) ∙ grind arith)
+
+    filed_left : (j : Id) (y : Open) → open_at left j ≡ Some y → numbered (client_of o) o.node o.owner None ix.number (client_of y) y.node y.owner ≡ Some j.number
+    filed_left j = drop_keeps (λ x. (y : Open) → x ≡ Some y → numbered (client_of o) o.node o.owner None ix.number (client_of y) y.node y.owner ≡ Some j.number) j
+        (λ is y at. absurd (cc))
+        (λ is y at. other y is at ((same_id (client_of o) (client_of y) && same_id o.node y.node) && bytes_eq o.owner y.owner) refl)
+      where
+        other : (y : Open) → same_id j i ≡ false → open_at s.opens j ≡ Some y → (b : Bool) → ((same_id (client_of o) (client_of y) && same_id o.node y.node) && bytes_eq o.owner y.owner) ≡ b → cond b None (ix.number (client_of y) y.node y.owner) ≡ Some j.number
+        other y is at false key = kept.filed j y at
+        other y is at true key =
+            let k = keyed (client_of o) (client_of y) o.node y.node o.owner y.owner key in
+            let mine : ix.number (client_of y) y.node y.owner ≡ Some i.number = (λ t. ix.number (sym k.0 t) (sym k.1 t) (sym k.2 t)) ∙ kept.filed i o found in
+            let number : j.number ≡ i.number = let before = kept.filed j y at in cc in
+            let level : i.level ≡ y.id.level = ap (λ (x : Id). x.level) (sym own_left) ∙ ap (λ (x : Id). x.level) k.0 in
+            let here : j.level ≡ y.id.level = ap (λ (x : Id). x.level) (id_same j y.id (found_id s.opens j y at)) in
+            absurd (false≢true (sym is ∙ grind (arith, nat_tests, number, level, here)))
+
+    there_left : (client node : Id) (name : List ℕ) (number : ℕ) → numbered (client_of o) o.node o.owner None ix.number client node name ≡ Some number → passes (is_matter client node name) (open_at left (record { level = client.level; number = number })) ≡ true
+    there_left client node name number = by ((same_id (client_of o) client && same_id o.node node) && bytes_eq o.owner name) refl
+      where
+        by : (b : Bool) → ((same_id (client_of o) client && same_id o.node node) && bytes_eq o.owner name) ≡ b → cond b None (ix.number client node name) ≡ Some number → passes (is_matter client node name) (open_at left (record { level = client.level; number = number })) ≡ true
+        by true key known = absurd (cc)
+        by false key known = drop_keeps (λ x. passes (is_matter client node name) x ≡ true) (record { level = client.level; number = number })
+            (λ is.
+            let here : is_matter client node name o ≡ true = sym (ap (passes (is_matter client node name)) (ap (open_at s.opens) (id_same (record { level = client.level; number = number }) i is) ∙ found)) ∙ kept.there client node name number known in
+            let of = matter_of client node name o here in
+            let same : ((same_id (client_of o) client && same_id o.node node) && bytes_eq o.owner name) ≡ true = (λ t. (same_id (client_of o) (of.0 t) && same_id o.node (of.1 t)) && bytes_eq o.owner (of.2 t)) ∙ grind (arith, id_itself (client_of o), id_itself o.node, bytes_itself o.owner) in
+            absurd (false≢true (sym key ∙ same)))
+            (λ is. kept.there client node name number known)
+
+    pub dropped : IsIndexed (record s { opens = left }) Left
+    dropped = record {
+      rise = rising_filter open_order _ s.opens kept.rise;
+      given = λ j. drop_keeps (λ x. is_some x ≡ true → j.number ≤ ix.last j.level) j (λ is some. absurd (false≢true some)) (λ is some. kept.given j some);
+      lasting = kept.lasting;
+      counted = counted_left;
+      nodes = grouped_left ix.nodes o.node (λ n y. same_id n y.node) kept.nodes (λ n. grind (arith, nat_tests));
+      clients = grouped_left ix.clients (client_of o) is_open_of kept.clients (λ c. grind (arith, nat_tests));
+      filed = filed_left;
+      there = there_left;
+    }

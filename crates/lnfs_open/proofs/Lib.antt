@@ -1,0 +1,13 @@
+pub mod Entries
+pub mod Counting
+pub mod Named
+pub mod Places
+pub mod NamedNumbers
+pub mod OpenRows
+pub mod Indexing
+pub mod Grouped
+pub mod Joining
+pub mod Entering
+pub mod Naming
+pub mod Runs
+pub mod Sharings

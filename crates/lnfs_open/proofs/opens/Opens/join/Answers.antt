@@ -1,0 +1,61 @@
+use Rattle.std.proofs.Common.{◌≡◌, Some, refl, sym, ap, ◌∙◌, subst}
+use Rattle.std.specs.Prelude.{option_map}
+use Rattle.lnfs_world.specs.World.{Open}
+use Rattle.lnfs_open.specs.Lists.{Lists}
+use Rattle.lnfs_open.specs.Listed.{id_of, client_id, node_id}
+use Rattle.lnfs_open.specs.Kept.{lists_in}
+use Rattle.lnfs_open.specs.Finding.{index_of}
+use Rattle.lnfs_open.specs.Opening.{Wish, own_open, sequence_after, joined, rows_set, IsJoined}
+use Rattle.lnfs_open.specs.Indexed.{open_at}
+use Rattle.lnfs_open.proofs.Indexing.{told_same}
+use Rattle.lnfs_open.proofs.Joining.{id_in, own_at, set_kept, answered, clash}
+use Rattle.lnfs_open.proofs.opens.Opens.join.Goals as goal
+
+pub returns-in_err-seq-clause-answer : goal.returns-in_err-seq-clause-answer
+returns-in_err-seq-clause-answer c =
+    let s = lists_in c.self.inside.rows.entries c.self.inside.counters in
+    let wish : Wish = record { client = client_id c.args.client; owner = c.args.owner.now; node = node_id c.args.node; access = c.args.access; deny = c.args.deny } in
+    let i = id_of c.in_ok-id.id in
+    let known : Some i ≡ id_in (own_open s wish) = c.in_ok-id.ensures ∙ sym (ap (λ (lists : Lists). id_in (own_open lists wish)) c.self.view_is) in
+    let own : own_open s wish ≡ open_at s.opens i = own_at s wish i c.self.invariant.indexed.rise known in
+    absurd (clash (λ (o : Open). o.id) (λ (o : Open). sequence_after o.sequence) (open_at s.opens i) i (known ∙ ap id_in own) c.in_err-seq.ensures.sequence)
+
+pub returns-in_err-seq-clause-lists : goal.returns-in_err-seq-clause-lists
+returns-in_err-seq-clause-lists c =
+    let s = lists_in c.self.inside.rows.entries c.self.inside.counters in
+    let wish : Wish = record { client = client_id c.args.client; owner = c.args.owner.now; node = node_id c.args.node; access = c.args.access; deny = c.args.deny } in
+    let i = id_of c.in_ok-id.id in
+    let known : Some i ≡ id_in (own_open s wish) = c.in_ok-id.ensures ∙ sym (ap (λ (lists : Lists). id_in (own_open lists wish)) c.self.view_is) in
+    let own : own_open s wish ≡ open_at s.opens i = own_at s wish i c.self.invariant.indexed.rise known in
+    absurd (clash (λ (o : Open). o.id) (λ (o : Open). sequence_after o.sequence) (open_at s.opens i) i (known ∙ ap id_in own) c.in_err-seq.ensures.sequence)
+
+pub invariant_of-self-2 : goal.invariant_of-self-2
+invariant_of-self-2 c =
+    let s = lists_in c.self.inside.rows.entries c.self.inside.counters in
+    let ix = index_of c.self.inside.counters c.self.inside.finder in
+    let set = set_kept s ix c.self.invariant.indexed (id_of c.in_ok-id.id) c.args.access c.args.deny in
+    record {
+      own = c.join_row.ensures.own c.self.invariant.own;
+      indexed = told_same _ _ ix ix (λ t. record s { opens = c.join_row.ensures.joined t }) (record { last = λ l. refl; opens = λ l. refl; nodes = λ n j. refl; clients = λ d j. refl; number = λ d n o. refl }) set;
+    }
+
+pub returns-clause-answer : goal.returns-clause-answer
+returns-clause-answer c =
+    let s = lists_in c.self.inside.rows.entries c.self.inside.counters in
+    let wish : Wish = record { client = client_id c.args.client; owner = c.args.owner.now; node = node_id c.args.node; access = c.args.access; deny = c.args.deny } in
+    let i = id_of c.in_ok-id.id in
+    let known : Some i ≡ id_in (own_open s wish) = c.in_ok-id.ensures ∙ sym (ap (λ (lists : Lists). id_in (own_open lists wish)) c.self.view_is) in
+    let own : own_open s wish ≡ open_at s.opens i = own_at s wish i c.self.invariant.indexed.rise known in
+    let told : Some c.in_ok-seq.seq ≡ option_map (λ (o : Open). sequence_after o.sequence) (own_open s wish) = c.in_ok-seq.ensures.sequence ∙ ap (option_map (λ (o : Open). sequence_after o.sequence)) (sym own) in
+    subst (λ (k : Lists). IsJoined c.args.access c.args.deny (own_open k wish) (Some c.at.result)) c.self.view_is
+    (answered c.args.access c.args.deny (own_open s wish) i c.at.result c.in_ok-seq.seq known told c.at.ensures.id c.at.ensures.seq)
+
+pub returns-clause-lists : goal.returns-clause-lists
+returns-clause-lists c =
+    let s = lists_in c.self.inside.rows.entries c.self.inside.counters in
+    let wish : Wish = record { client = client_id c.args.client; owner = c.args.owner.now; node = node_id c.args.node; access = c.args.access; deny = c.args.deny } in
+    let i = id_of c.in_ok-id.id in
+    let known : Some i ≡ id_in (own_open s wish) = c.in_ok-id.ensures ∙ sym (ap (λ (lists : Lists). id_in (own_open lists wish)) c.self.view_is) in
+    let own : own_open s wish ≡ open_at s.opens i = own_at s wish i c.self.invariant.indexed.rise known in
+    let new = c.join_row.ensures.joined ∙ ap (λ x. rows_set (joined c.args.access c.args.deny) x s.opens) (sym own) in
+    subst (λ (k : Lists). lists_in c.join_row.new.rows.entries c.self.inside.counters ≡ record k { opens = rows_set (joined c.args.access c.args.deny) (own_open k wish) k.opens }) c.self.view_is (λ t. record s { opens = new t })

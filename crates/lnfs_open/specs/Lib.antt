@@ -1,0 +1,10 @@
+pub mod Lists
+pub mod Opening
+pub mod Sharing
+pub mod Listed
+pub mod Counters
+pub mod Groups
+pub mod Owners
+pub mod Indexed
+pub mod Finding
+pub mod Kept
