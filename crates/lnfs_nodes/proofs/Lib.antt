@@ -1,32 +1,32 @@
-mod Tests
-mod Found
+pub mod Tests
+pub mod Found
 mod ReadLinks
 mod Views
 mod Answering
 mod Supported
-mod Written
-mod Refusing
+pub mod Written
+pub mod Refusing
 mod Asking
 mod Comparisons
 mod Walking
 mod Entering
 mod Extended
 mod ReadDirs
-mod NamedHeld
-mod Stages
-mod Labelling
-mod Creates
-mod Inserts
+pub mod NamedHeld
+pub mod Stages
+pub mod Labelling
+pub mod Creates
+pub mod Inserts
 mod SetAttrs
-mod Done
-mod ValuesTold
+pub mod Done
+pub mod ValuesTold
 mod Raising
 mod RaiseAsked
-mod TreeSteps
-mod Acting
-mod OfNodes
-mod Peeling
+pub mod TreeSteps
+pub mod Acting
+pub mod OfNodes
+pub mod Peeling
 mod LinkChecked
-mod Going
+pub mod Going
 mod GoingPast
 mod RenameChecked

@@ -2,7 +2,7 @@
 use Rattle.std.specs.Prelude.{ℕ, if◌then◌else◌, List, Option, Some, None, Result, Ok, Err, option_map}
 use Rattle.std.specs.Option.{option_and_then}
 use Rattle.lnfs_arguments.specs.declared.stateid.Cinfo.{Cinfo}
-use Rattle.lnfs_arguments.specs.declared.statuses.TheConstants.{NFS4ERR_STALE, NFS4ERR_NOTDIR, NFS4ERR_NOENT, NFS4ERR_ISDIR, NFS4ERR_EXIST, NFS4ERR_NOTEMPTY, NFS4ERR_INVAL, NFS4ERR_MLINK, NFS4ERR_NOSPC}
+use Rattle.lnfs_arguments.specs.declared.statuses.TheConstants.{NFS4ERR_STALE, NFS4ERR_NOTDIR, NFS4ERR_NOENT, NFS4ERR_ISDIR, NFS4ERR_EXIST, NFS4ERR_NOTEMPTY, NFS4ERR_INVAL, NFS4ERR_MLINK, NFS4ERR_FBIG, NFS4ERR_NOSPC}
 use Rattle.lnfs_world.specs.World.{Id, Node, Entry, node_at, is_directory}
 use Rattle.lnfs_world.specs.Names.{entry_at}
 use Rattle.lnfs_world.specs.Outcome.{Place, Outcome}
@@ -13,7 +13,7 @@ use Rattle.lnfs_operations.specs.Chain as chain
 use Rattle.lnfs_tree.specs.declared.node.Info.{Info}
 use Rattle.lnfs_tree.specs.declared.node.NodeKind.{NodeKind}
 use Rattle.lnfs_tree.specs.declared.node.TreeError.{TreeError}
-use Rattle.lnfs_tree.specs.declared.node.TreeError.TheVariants.{Stale, NotDir, NoEnt, IsDir, Exist, NotEmpty, Inval, MLink, Spent, Memory}
+use Rattle.lnfs_tree.specs.declared.node.TreeError.TheVariants.{Stale, NotDir, NoEnt, IsDir, Exist, NotEmpty, Inval, MLink, FBig, Spent, Memory}
 use Rattle.lnfs_tree.specs.Rows.{Rows, kind_of}
 use Rattle.lnfs_tree.specs.Changed.{Doing, Gone, gone}
 use Rattle.lnfs_nodes.specs.Refusals.{name_refusal}
@@ -31,6 +31,7 @@ refusal_by Exist = refusal Namespace NFS4ERR_EXIST
 refusal_by NotEmpty = refusal Namespace NFS4ERR_NOTEMPTY
 refusal_by Inval = refusal Namespace NFS4ERR_INVAL
 refusal_by MLink = refusal Namespace NFS4ERR_MLINK
+refusal_by FBig = refusal Namespace NFS4ERR_FBIG
 refusal_by Spent = refusal Quota NFS4ERR_NOSPC
 refusal_by Memory = refusal Quota NFS4ERR_NOSPC
 

@@ -12,8 +12,8 @@ ghost use Rattle.lnfs_nodes.specs.Told.{naming, no_directory, named, refusal_by}
 use crate::held::{Held, denied, namespace};
 use crate::naming::name_refusal;
 use lnfs_arguments::statuses::{
-    NFS4ERR_EXIST, NFS4ERR_INVAL, NFS4ERR_ISDIR, NFS4ERR_MLINK, NFS4ERR_NOENT, NFS4ERR_NOSPC,
-    NFS4ERR_NOTDIR, NFS4ERR_NOTEMPTY, NFS4ERR_STALE,
+    NFS4ERR_EXIST, NFS4ERR_FBIG, NFS4ERR_INVAL, NFS4ERR_ISDIR, NFS4ERR_MLINK, NFS4ERR_NOENT,
+    NFS4ERR_NOSPC, NFS4ERR_NOTDIR, NFS4ERR_NOTEMPTY, NFS4ERR_STALE,
 };
 use lnfs_calipso::Level;
 use lnfs_monitor::Question;
@@ -96,6 +96,7 @@ pub fn refused_by(error: TreeError) -> Refusal
         TreeError::NotEmpty => namespace(NFS4ERR_NOTEMPTY),
         TreeError::Inval => namespace(NFS4ERR_INVAL),
         TreeError::MLink => namespace(NFS4ERR_MLINK),
+        TreeError::FBig => namespace(NFS4ERR_FBIG),
         TreeError::Spent | TreeError::Memory => Refusal {
             gate: Gate::Quota,
             status: NFS4ERR_NOSPC,
@@ -122,6 +123,7 @@ pub fn settled_by(error: TreeError) -> Result<Refusal, AllocError>
         | TreeError::NotEmpty
         | TreeError::Inval
         | TreeError::MLink
+        | TreeError::FBig
         | TreeError::Spent => Ok(refused_by(error)),
     }
 }

@@ -57,7 +57,7 @@ fn no_space() -> Refusal
 }
 
 /// The level of the label that was given, or else another one.
-fn level_or(level: Level, given: &Option<GivenLabel>) -> Level
+pub fn level_or(level: Level, given: &Option<GivenLabel>) -> Level
     ensures { result.0 ≡ level_or level.0 (option_map given_of given.now) }
 {
     match given {
@@ -93,7 +93,7 @@ fn copied_of(
 
 /// How the label of a new node is kept: where labels are carried alone, as it was given, or else as its directory shows
 /// its own.
-fn kept_label(
+pub fn kept_label(
     alloc: Global,
     site: &Site<'_>,
     tree: &Tree,

@@ -76,7 +76,7 @@ fn are_bytes(_bytes: &[u8])
 /// # Errors
 ///
 /// `AllocError` where there is no memory.
-fn values_of(alloc: Global, given: &RawAttrs) -> Result<Result<AttrSet, Refusal>, AllocError>
+pub fn values_of(alloc: Global, given: &RawAttrs) -> Result<Result<AttrSet, Refusal>, AllocError>
     ensures { IfOk result (λ told. result_map_both (λ values. values) refusal_of told ≡ values_in given.now) }
 {
     is_whole(given.mask);
@@ -91,7 +91,7 @@ fn values_of(alloc: Global, given: &RawAttrs) -> Result<Result<AttrSet, Refusal>
 }
 
 /// Whether a mode that is given is one (RFC 8881 section 6.2.4).
-fn is_mode(mode: Option<u32>) -> bool
+pub fn is_mode(mode: Option<u32>) -> bool
     ensures { result ≡ is_mode mode }
 {
     match mode {
@@ -105,7 +105,7 @@ fn is_mode(mode: Option<u32>) -> bool
 /// # Errors
 ///
 /// NFS4ERR_WRONG_LFS where there is no such format, and NFS4ERR_BADLABEL where it is the label of no level.
-fn label_of(site: &Site<'_>, label: Option<LabelValue>) -> Result<Option<GivenLabel>, Refusal>
+pub fn label_of(site: &Site<'_>, label: Option<LabelValue>) -> Result<Option<GivenLabel>, Refusal>
     ensures { result_map_both (option_map given_of) refusal_of result ≡ label_in (site_of site.now) label }
 {
     let Some(value) = label else {

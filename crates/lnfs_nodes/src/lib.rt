@@ -22,12 +22,16 @@ mod rights;
 mod setting;
 mod showing;
 
+pub use accessed::set_accessed;
 pub use attributes::get_attr;
-pub use calls::Caller;
+pub use calls::{
+    Caller, check_allowed, check_directory, check_name, node_named, refused_by, settled_by,
+};
 pub use comparing::{nverify, verify};
-pub use creating::{Created, create};
-pub use handles::{HANDLE_SIZE, get_fh, put_fh, put_root_fh, restore_fh, save_fh};
-pub use held::Held;
+pub use creating::{Created, create, kept_label, level_or};
+pub use given::{GivenLabel, argument, is_mode, label_of, set_of, values_of};
+pub use handles::{HANDLE_SIZE, get_fh, handle_of, put_fh, put_root_fh, restore_fh, save_fh};
+pub use held::{Held, denied, namespace, node_held};
 pub use linking::link;
 pub use links::read_link;
 pub use listing::{Listing, read_dir};

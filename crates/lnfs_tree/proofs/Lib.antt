@@ -29,3 +29,4 @@ pub mod MovedNodes
 pub mod Settled
 pub mod NodeHomes
 pub mod Kept
+pub mod FileData

@@ -292,4 +292,4 @@ module _ (ns : List Node) (lasts : List (Level × ℕ)) (i : Id) (name : List �
 
           -- what is told of it
           pub answer-gone : (info : Info) (told : Dropped) → info ≡ info_of n → told ≡ record { node = m.id; label = m.label; size = size_in m (kind_of m.kind) } → (info, option_map gone_of (Some told)) ≡ went.answer
-          answer-gone info told is tells = (λ k. (is k, Some (gone_of (tells k)))) ∙ ap (λ (size : ℕ). (info_of n, Some (record { node = id_of m.id; label = m.label.0; size = size }))) (size_is ns rising tree m (kind_of m.kind) (ap (node_at ns) (sym own_child) ∙ sym child))
+          answer-gone info told is tells = (λ k. (is k, Some (gone_of (tells k)))) ∙ ap (λ (size : ℕ). (info_of n, Some (record { node = id_of m.id; label = m.label.0; size = size }))) (size_is ns rising tree m (kind_of m.kind) refl (ap (node_at ns) (sym own_child) ∙ sym child))

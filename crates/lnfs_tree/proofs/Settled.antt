@@ -331,7 +331,7 @@ module _ (ns : List Node) (lasts : List (Level × ℕ)) (rising : Rising node_or
     gone-lost told is =
         ap (option_map gone_of) is
         ∙ by_links (nat_lt 1 m.links)
-        ∙ (λ k. cond (sym has_other k) None (Some (record { node = id_of m.id; label = m.label.0; size = size_is ns rising tree m (kind_of m.kind) (ap (node_at ns) (sym (found_id i ns m (sym replaced))) ∙ sym replaced) k })))
+        ∙ (λ k. cond (sym has_other k) None (Some (record { node = id_of m.id; label = m.label.0; size = size_is ns rising tree m (kind_of m.kind) refl (ap (node_at ns) (sym (found_id i ns m (sym replaced))) ∙ sym replaced) k })))
       where
         by_links : (l : Bool) → option_map gone_of (cond l None (Some (record { node = m.id; label = m.label; size = size_in m (kind_of m.kind) }))) ≡ cond l None (Some (record { node = id_of m.id; label = m.label.0; size = size_in m (kind_of m.kind) }))
         by_links true = refl

@@ -1,5 +1,6 @@
 -- What each change of a tree does to its rows, what it answers, and when it is refused. A refusal leaves the rows.
-use Rattle.std.specs.Prelude.{◌≡◌, ℕ, ◌&&◌, Bool, not, cond, List, [], ◌∷◌, ◌++◌, length, Option, Some, None, option_map, Result, Ok, Err, is_some, nat_lt, if◌then◌else◌}
+use Rattle.std.specs.Prelude.{◌≡◌, ℕ, ◌&&◌, nat_le, Bool, not, cond, List, [], ◌∷◌, ◌++◌, length, Option, Some, None, option_map, Result, Ok, Err, is_some, nat_lt, if◌then◌else◌}
+use Rattle.lnfs_words.specs.Words.{is_empty}
 use Rattle.lnfs_calipso.specs.Label.{IsPreorderWithBottom}
 use Rattle.lnfs_outside.specs.declared.event.Moment.{Moment}
 use Rattle.lnfs_world.specs.declared.numbers.TheConstants.{FIRST_COOKIE, MOST_NAMES}
@@ -7,15 +8,17 @@ use Rattle.lnfs_world.specs.World.{Id, Stored as StoredLabel, Inner, Node, Entry
 use Rattle.lnfs_world.specs.Names.{entry_at, names_of, size_of}
 use Rattle.lnfs_world.specs.Tree.{parent_of, holds_names, has_other_name, is_above}
 use Rattle.lnfs_world.specs.Change.{Change, Make, Touch, Relabel, Link, Move, apply_all}
-use Rattle.lnfs_world.specs.Effects.{stepped, attributes_changed, names_changed, name_added, next_entry, has_cookie, has_number, next_id, taken_out, may_give_way, directories_changed}
+use Rattle.lnfs_world.specs.Effects.{stepped, attributes_changed, names_changed, name_added, sized, written, size_written, data_changed, next_entry, has_cookie, has_number, next_id, taken_out, may_give_way, directories_changed}
 use Rattle.lnfs_world.specs.Facts.{NodeFacts}
+use Rattle.lnfs_content.specs.declared.limits.TheConstants.{MOST_BYTES}
 use Rattle.lnfs_tree.specs.declared.store.Node.{Node as StoredNode}
 use Rattle.lnfs_tree.specs.declared.node.Fresh.{Fresh}
 use Rattle.lnfs_tree.specs.declared.node.Info.{Info}
 use Rattle.lnfs_tree.specs.declared.node.Dropped.{Dropped}
 use Rattle.lnfs_tree.specs.declared.node.TreeError.{TreeError}
-use Rattle.lnfs_tree.specs.declared.node.TreeError.TheVariants.{Stale, NotDir, NoEnt, IsDir, Exist, NotEmpty, Inval, MLink, Spent, Memory}
-use Rattle.lnfs_tree.specs.Rows.{Rows, rows_of, id_of, kind_of, stored_of, in_directory}
+use Rattle.lnfs_tree.specs.declared.node.TreeError.TheVariants.{Stale, NotDir, NoEnt, IsDir, Exist, NotEmpty, Inval, MLink, FBig, Spent, Memory}
+use Rattle.lnfs_tree.specs.Rows.{Rows, rows_of, id_of, kind_of, stored_of, in_directory, on_file}
+use Rattle.lnfs_tree.specs.Flat.{content_of}
 use Rattle.lnfs_tree.specs.Places.{world_of}
 
 -- the facts of a world hold of the rows, whatever dominance is
@@ -84,7 +87,7 @@ abbrev pub new_inner : Moment → Fresh → Option StoredLabel → Inner
 new_inner at fresh stored = record {
   stored = stored;
   mode = fresh.mode;
-  content = fresh.text;
+  content = content_of (kind_of fresh.kind) [] fresh.text;
   change = 1;
   accessed = at;
   metadata = at;
@@ -194,3 +197,25 @@ raise_of t i label at =
     on_node (node_at t.nodes i) (λ n.
     test (not (holds_names t.entries n.id)) NotEmpty (
     Ok (record { answer = tt; changes = Relabel n.id label (attributes_changed at n.inner) ∷ [] })))
+
+-- ---- data of files
+
+-- one change, which sets the data
+abbrev pub sets_data : Moment → Node → (content : List ℕ) → Doing (Unit {0})
+sets_data at n content = record { answer = tt; changes = Touch n.id (data_changed at content n.inner) ∷ [] }
+
+abbrev pub set_size_of : Rows → Id → (size : ℕ) → Moment → Result (Doing (Unit {0})) TreeError
+set_size_of t i size at =
+    on_file (node_at t.nodes i) (λ n.
+    test (nat_le size MOST_BYTES) FBig (
+    Ok (sets_data at n (sized size n.inner.content))))
+
+-- no bytes change nothing
+abbrev pub writes : Moment → Node → (offset : ℕ) → (bytes : List ℕ) → Doing (Unit {0})
+writes at n offset bytes = cond (is_empty bytes) (record { answer = tt; changes = [] }) (sets_data at n (written offset bytes n.inner.content))
+
+abbrev pub write_of : Rows → Id → (offset : ℕ) → (bytes : List ℕ) → Moment → Result (Doing (Unit {0})) TreeError
+write_of t i offset bytes at =
+    on_file (node_at t.nodes i) (λ n.
+    test (nat_le (size_written offset bytes n.inner.content) MOST_BYTES) FBig (
+    Ok (writes at n offset bytes)))

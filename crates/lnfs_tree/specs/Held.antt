@@ -6,14 +6,14 @@ use Rattle.slab.specs.Slab.{Slab, get}
 use Rattle.lnfs_outside.specs.declared.event.Moment.{Moment}
 use Rattle.lnfs_world.specs.Rows.{inserted, updated}
 use Rattle.lnfs_world.specs.World.{Id, id_order, same_id, is_directory}
-use Rattle.lnfs_world.specs.Effects.{stepped}
+use Rattle.lnfs_world.specs.Effects.{stepped, sized, written}
 use Rattle.lnfs_tree.specs.declared.node.NodeId.{NodeId}
 use Rattle.lnfs_tree.specs.declared.node.TreeError.{TreeError}
 use Rattle.lnfs_tree.specs.declared.node.TreeError.TheVariants.{Stale, NotDir}
 use Rattle.lnfs_tree.specs.declared.setting.Setting.{Setting}
 use Rattle.lnfs_tree.specs.declared.setting.Setting.TheVariants as settings
 use Rattle.lnfs_tree.specs.declared.store.Node.{Node}
-use Rattle.lnfs_tree.specs.Rows.{id_of, kind_of}
+use Rattle.lnfs_tree.specs.Rows.{id_of, kind_of, of_file}
 use Rattle.lnfs_tree.specs.Listed.{name_at, name_order, without_name}
 
 abbrev pub id_cmp : NodeId → NodeId → Ordering
@@ -44,6 +44,11 @@ node_order a b = id_cmp a.id b.id
 abbrev pub directory_in : Option Node → Result Node TreeError
 directory_in None = Err Stale
 directory_in (Some n) = if is_directory (kind_of n.kind) then Ok n else Err NotDir
+
+-- what is there has to be a file
+abbrev pub file_in : Option Node → Result Node TreeError
+file_in None = Err Stale
+file_in (Some n) = of_file (kind_of n.kind) (Ok n)
 
 -- a directory can take a name at a cookie
 pub record IsOpenTo (nodes : List Node) (i : Id) (cookie : ℕ) (name : List ℕ) : Type 0 where
@@ -77,12 +82,18 @@ with_parent parent n = record n { parent = Some parent }
 abbrev pub with_access : Moment → Node → Node
 with_access at n = record n { access = at }
 
--- a node whose attributes changed, and a directory whose names did
+-- a node whose attributes changed, and one whose names or data did
 abbrev pub with_step : Moment → Node → Node
 with_step at n = record n { change = stepped n.change; metadata = at }
 
 abbrev pub with_names_step : Moment → Node → Node
 with_names_step at n = record n { change = stepped n.change; metadata = at; modify = at }
+
+abbrev pub with_size : (size : ℕ) → Moment → Node → Node
+with_size size at n = with_names_step at (record n { bytes = sized size n.bytes })
+
+abbrev pub with_written : (offset : ℕ) → List ℕ → Moment → Node → Node
+with_written offset bytes at n = with_names_step at (record n { bytes = written offset bytes n.bytes })
 
 abbrev pub with_set : Setting → Node → Node
 with_set (settings.Mode mode) n = record n { mode = mode }

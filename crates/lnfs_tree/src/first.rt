@@ -18,6 +18,7 @@ use crate::node::{DirSpec, NodeId, NodeKind, Stored};
 use crate::store::{Node, Store};
 use crate::tree::{ROOT, Tree};
 use lnfs_calipso::{Lattice, Level};
+use lnfs_content::Content;
 use lnfs_lists::Octets;
 use lnfs_monitor::dominates;
 use lnfs_outside::Moment;
@@ -50,7 +51,8 @@ fn first_directory(
         verifier: None,
         stored,
         mode: FIRST_MODE,
-        content: Octets::new(Vec::new(alloc)),
+        text: Octets::new(Vec::new(alloc)),
+        bytes: Content::new(alloc),
         change: 1,
         access: BEGINNING,
         metadata: BEGINNING,

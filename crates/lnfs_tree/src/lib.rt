@@ -1,6 +1,7 @@
 //! Nodes and their names: found by identifier, by name and by cookie.
 #![tactic(auto)]
 
+mod contents;
 mod directory;
 mod first;
 mod homes;
@@ -18,6 +19,8 @@ mod tying;
 pub use node::{DirSpec, Dropped, Entry, Facts, Fresh, Info, NodeId, NodeKind, Stored, TreeError};
 pub use tree::Tree;
 
+#[cfg(test)]
+mod data_tests;
 #[cfg(test)]
 mod many_tests;
 #[cfg(test)]

@@ -20,7 +20,7 @@ const ROOT: NodeId = NodeId {
 };
 
 /// The root alone.
-fn root_alone(alloc: Global) -> Result<Tree, Fail>
+pub(crate) fn root_alone(alloc: Global) -> Result<Tree, Fail>
     ensures { IfOk result (λ tree. IsSound tree) }
 {
     let bottom = Label::new(alloc, 1, 0, &[])?;

@@ -81,7 +81,7 @@ pub struct Fresh {
     pub label: Level,
     pub stored: Option<Stored>,
     pub mode: u32,
-    /// The text of a symbolic link.
+    /// The text of a symbolic link. Nothing is kept of it in other nodes: a new file is empty.
     pub text: Octets,
     /// What an exclusive create brought (RFC 8881 section 18.16.3).
     pub verifier: Option<[u8; 8]>,
@@ -117,10 +117,12 @@ pub enum TreeError {
     Exist,
     /// The directory holds names.
     NotEmpty,
-    /// A directory would go under itself.
+    /// A directory would go under itself, or a symbolic link has no data.
     Inval,
     /// The node has as many names as one may have.
     MLink,
+    /// A file would have more bytes than one may.
+    FBig,
     /// The level has no number left, or the directory no cookie.
     Spent,
     /// There is no memory.

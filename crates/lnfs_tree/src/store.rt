@@ -8,6 +8,7 @@ ghost use Rattle.lnfs_tree.specs.Rows.{id_of};
 use crate::directory::Directory;
 use crate::node::{NodeId, NodeKind, Stored, TreeError};
 use lnfs_calipso::Level;
+use lnfs_content::Content;
 use lnfs_lists::Octets;
 use lnfs_outside::Moment;
 use slab::Slab;
@@ -26,7 +27,9 @@ pub struct Node {
     pub stored: Option<Stored>,
     pub mode: u32,
     /// A link's text.
-    pub content: Octets,
+    pub text: Octets,
+    /// A file's data.
+    pub bytes: Content,
     pub change: u64,
     pub access: Moment,
     pub metadata: Moment,

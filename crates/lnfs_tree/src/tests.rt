@@ -3,7 +3,7 @@
 ghost use Rattle.std.specs.Prelude.{IfOk};
 ghost use Rattle.lnfs_tree.specs.Changed.{HasFacts};
 
-use crate::{DirSpec, Facts, Fresh, Info, NodeId, NodeKind, Stored, Tree, TreeError};
+use crate::{DirSpec, Facts, Fresh, NodeId, NodeKind, Stored, Tree, TreeError};
 use lnfs_calipso::{Label, Lattice, Level};
 use lnfs_lists::Octets;
 use lnfs_outside::Moment;
@@ -11,6 +11,8 @@ use std::alloc::{AllocError, Global};
 use std::test::Fail;
 
 const BEGINNING: Moment = Moment { secs: 0, nanos: 0 };
+
+const NOW: Moment = Moment { secs: 9, nanos: 1 };
 
 const ROOT: NodeId = NodeId {
     home: Level(0),
@@ -128,25 +130,32 @@ fn nodes_of_the_first_tree(rt: HostRuntime) -> Result<(), Fail> {
     Ok(())
 }
 
+/// Whether a name comes behind a cookie, and is that of a directory.
+fn comes_next(
+    tree: &Tree,
+    dir: NodeId,
+    after: u64,
+    cookie: u64,
+    name: &[u8],
+    node: NodeId,
+) -> bool {
+    let Ok(Some(entry)) = tree.next_entry(dir, after) else {
+        return false;
+    };
+    if entry.cookie != cookie || entry.name.as_slice() != name || entry.node != node {
+        return false;
+    }
+    tree.lookup(dir, name) == Ok(node) && tree.parent(node) == Ok(dir)
+}
+
 #[test]
 fn names_of_the_first_tree(rt: HostRuntime) -> Result<(), Fail> {
     let tree = first_tree(rt.alloc())?;
-    let rows: [(NodeId, u64, u64, &[u8], NodeId); 5] = [
-        (ROOT, 0, 3, b"one", ONE),
-        (ROOT, 2, 3, b"one", ONE),
-        (ROOT, 3, 4, b"two", TWO),
-        (ROOT, 4, 5, b"top", TOP),
-        (ONE, 0, 3, b"up", UP),
-    ];
-    for (dir, after, cookie, name, node) in rows {
-        let Some(entry) = tree.next_entry(dir, after)? else {
-            return Err(Fail::new("a name is left out"));
-        };
-        assert!(rt; entry.cookie == cookie && entry.name.as_slice() == name);
-        assert_eq!(rt; entry.node, node);
-        assert_eq!(rt; tree.lookup(dir, name)?, node);
-        assert_eq!(rt; tree.parent(node)?, dir);
-    }
+    assert!(rt; comes_next(&tree, ROOT, 0, 3, b"one", ONE));
+    assert!(rt; comes_next(&tree, ROOT, 2, 3, b"one", ONE));
+    assert!(rt; comes_next(&tree, ROOT, 3, 4, b"two", TWO));
+    assert!(rt; comes_next(&tree, ROOT, 4, 5, b"top", TOP));
+    assert!(rt; comes_next(&tree, ONE, 0, 3, b"up", UP));
     assert!(rt; tree.next_entry(ROOT, 5)?.is_none());
     assert!(rt; tree.next_entry(UP, 0)?.is_none());
     Ok(())
@@ -168,12 +177,11 @@ fn what_is_not_there(rt: HostRuntime) -> Result<(), Fail> {
 #[test]
 fn a_node_is_touched(rt: HostRuntime) -> Result<(), Fail> {
     let mut tree = first_tree(rt.alloc())?;
-    let at = Moment { secs: 9, nanos: 1 };
-    tree.touch(UP, at)?;
+    tree.touch(UP, NOW)?;
     let Some(facts) = tree.node(UP) else {
         return Err(Fail::new("no node"));
     };
-    assert!(rt; facts.access == at && facts.modify == BEGINNING);
+    assert!(rt; facts.access == NOW && facts.modify == BEGINNING);
     assert!(rt; tree.node(TOP) == directory(3, 0));
     Ok(())
 }
@@ -210,95 +218,101 @@ fn file(alloc: Global, home: u32, label: u32) -> Fresh {
     }
 }
 
+/// Makes a file in a directory of the first tree, and looks at it. Its number, or why it is not made.
+fn made_in(
+    alloc: Global,
+    dir: NodeId,
+    name: &[u8],
+    home: u32,
+) -> Result<Result<u32, TreeError>, Fail> {
+    let mut tree = first_tree(alloc)?;
+    let (node, info) = match tree.insert(alloc, dir, name, file(alloc, home, 3), NOW) {
+        Ok(made) => made,
+        Err(error) => return Ok(Err(error)),
+    };
+    if info.before != 1 || info.after != 2 {
+        return Err(Fail::new("other change numbers"));
+    }
+    if tree.lookup(dir, name) != Ok(node) || tree.lookup(node, name) != Err(TreeError::NotDir) {
+        return Err(Fail::new("another node"));
+    }
+    if tree.raise(dir, Level(3), NOW) != Err(TreeError::NotEmpty) {
+        return Err(Fail::new("an empty directory"));
+    }
+    tree.set_mode(node, 0o600, NOW)?;
+    if tree.node(node) != made(3, NOW) {
+        return Err(Fail::new("other facts"));
+    }
+    Ok(Ok(node.number))
+}
+
 #[test]
 fn nodes_that_are_made(rt: HostRuntime) -> Result<(), Fail> {
     let alloc = rt.alloc();
-    let at = Moment { secs: 9, nanos: 1 };
-    let rows: [(NodeId, &[u8], u32, Result<u32, TreeError>); 5] = [
-        (ROOT, b"new", 0, Ok(5)),
-        (ONE, b"one", 1, Ok(2)),
-        (UP, b"up", 3, Ok(1)),
-        (ROOT, b"one", 0, Err(TreeError::Exist)),
-        (OTHER, b"new", 3, Err(TreeError::Stale)),
-    ];
-    for (dir, name, home, number) in rows {
-        let mut tree = first_tree(alloc)?;
-        match tree.insert(alloc, dir, name, file(alloc, home, 3), at) {
-            Ok((node, info)) => {
-                assert_eq!(rt; node.number, number?);
-                assert_eq!(rt;
-                    info,
-                    Info {
-                        before: 1,
-                        after: 2
-                    }
-                );
-                assert_eq!(rt; tree.lookup(dir, name)?, node);
-                assert!(rt; tree.lookup(node, name) == Err(TreeError::NotDir));
-                assert!(rt; tree.raise(dir, Level(3), at) == Err(TreeError::NotEmpty));
-                tree.set_mode(node, 0o600, at)?;
-                assert!(rt; tree.node(node) == made(3, at));
-            }
-            Err(error) => assert!(rt; number == Err(error)),
-        }
-    }
+    assert!(rt; made_in(alloc, ROOT, b"new", 0)? == Ok(5));
+    assert!(rt; made_in(alloc, ONE, b"one", 1)? == Ok(2));
+    assert!(rt; made_in(alloc, UP, b"up", 3)? == Ok(1));
+    assert!(rt; made_in(alloc, ROOT, b"one", 0)? == Err(TreeError::Exist));
+    assert!(rt; made_in(alloc, OTHER, b"new", 3)? == Err(TreeError::Stale));
     Ok(())
+}
+
+/// Moves a name in the first tree, and looks at it. The node that goes by it, or why it is not moved.
+fn moved(
+    alloc: Global,
+    from: NodeId,
+    old: &[u8],
+    to: NodeId,
+    new: &[u8],
+) -> Result<Result<Option<NodeId>, TreeError>, Fail> {
+    let mut tree = first_tree(alloc)?;
+    let gone = match tree.rename(alloc, from, old, to, new, NOW) {
+        Ok((_, _, gone)) => gone,
+        Err(error) => return Ok(Err(error)),
+    };
+    let node = tree.lookup(to, new)?;
+    if tree.parent(node) != Ok(to) {
+        return Err(Fail::new("another parent"));
+    }
+    Ok(Ok(gone.map(|dropped| dropped.node)))
 }
 
 #[test]
 fn names_that_move(rt: HostRuntime) -> Result<(), Fail> {
     let alloc = rt.alloc();
-    let at = Moment { secs: 9, nanos: 1 };
-    let rows: [(
-        NodeId,
-        &[u8],
-        NodeId,
-        &[u8],
-        Result<Option<NodeId>, TreeError>,
-    ); 7] = [
-        (ROOT, b"two", ONE, b"second", Ok(None)),
-        (ROOT, b"top", ONE, b"up", Ok(Some(UP))),
-        (ROOT, b"two", ROOT, b"two", Ok(None)),
-        (ROOT, b"two", ROOT, b"one", Err(TreeError::Exist)),
-        (ROOT, b"one", UP, b"one", Err(TreeError::Inval)),
-        (ROOT, b"three", ONE, b"third", Err(TreeError::NoEnt)),
-        (ROOT, b"two", OTHER, b"two", Err(TreeError::Stale)),
-    ];
-    for (from, old, to, new, replaced) in rows {
-        let mut tree = first_tree(alloc)?;
-        match tree.rename(alloc, from, old, to, new, at) {
-            Ok((_, _, gone)) => {
-                let node = tree.lookup(to, new)?;
-                assert_eq!(rt; tree.parent(node)?, to);
-                assert!(rt; gone.map(|dropped| dropped.node) == replaced?);
-            }
-            Err(error) => assert!(rt; replaced == Err(error)),
-        }
-    }
+    assert!(rt; moved(alloc, ROOT, b"two", ONE, b"second")? == Ok(None));
+    assert!(rt; moved(alloc, ROOT, b"top", ONE, b"up")? == Ok(Some(UP)));
+    assert!(rt; moved(alloc, ROOT, b"two", ROOT, b"two")? == Ok(None));
+    assert!(rt; moved(alloc, ROOT, b"two", ROOT, b"one")? == Err(TreeError::Exist));
+    assert!(rt; moved(alloc, ROOT, b"one", UP, b"one")? == Err(TreeError::Inval));
+    assert!(rt; moved(alloc, ROOT, b"three", ONE, b"third")? == Err(TreeError::NoEnt));
+    assert!(rt; moved(alloc, ROOT, b"two", OTHER, b"two")? == Err(TreeError::Stale));
     Ok(())
+}
+
+/// Takes a name out of a directory of the first tree, and looks for it. Why it stays.
+fn taken_out(alloc: Global, dir: NodeId, name: &[u8]) -> Result<Option<TreeError>, Fail> {
+    let mut tree = first_tree(alloc)?;
+    let (info, gone) = match tree.remove(dir, name, NOW) {
+        Ok(removed) => removed,
+        Err(error) => return Ok(Some(error)),
+    };
+    if info.before != 1 || info.after != 2 || gone.is_none() {
+        return Err(Fail::new("other change numbers, or the node is there"));
+    }
+    if tree.lookup(dir, name) != Err(TreeError::NoEnt) {
+        return Err(Fail::new("the name is there"));
+    }
+    Ok(None)
 }
 
 #[test]
 fn names_that_go(rt: HostRuntime) -> Result<(), Fail> {
     let alloc = rt.alloc();
-    let at = Moment { secs: 9, nanos: 1 };
-    let rows: [(NodeId, &[u8], Option<TreeError>); 3] = [
-        (ONE, b"up", None),
-        (ROOT, b"one", Some(TreeError::NotEmpty)),
-        (UP, b"up", Some(TreeError::NoEnt)),
-    ];
-    for (dir, name, refused) in rows {
-        let mut tree = first_tree(alloc)?;
-        match tree.remove(dir, name, at) {
-            Ok((info, gone)) => {
-                assert!(rt; refused.is_none() && gone.is_some());
-                assert!(rt; info.before == 1 && info.after == 2);
-                assert!(rt; tree.lookup(dir, name) == Err(TreeError::NoEnt));
-            }
-            Err(error) => assert!(rt; refused == Some(error)),
-        }
-    }
+    assert!(rt; taken_out(alloc, ONE, b"up")? == None);
+    assert!(rt; taken_out(alloc, ROOT, b"one")? == Some(TreeError::NotEmpty));
+    assert!(rt; taken_out(alloc, UP, b"up")? == Some(TreeError::NoEnt));
     let mut tree = first_tree(alloc)?;
-    assert!(rt; tree.link(alloc, UP, ROOT, b"up", at) == Err(TreeError::IsDir));
+    assert!(rt; tree.link(alloc, UP, ROOT, b"up", NOW) == Err(TreeError::IsDir));
     Ok(())
 }

@@ -1,0 +1,13 @@
+//! The data of a file: bytes in chunks, seen as their list.
+#![tactic(auto)]
+
+mod chunk;
+mod chunks;
+mod content;
+mod limits;
+
+pub use content::Content;
+pub use limits::{MOST_BYTES, fits};
+
+#[cfg(test)]
+mod tests;

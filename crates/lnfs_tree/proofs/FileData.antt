@@ -1,0 +1,163 @@
+-- The data of a file, looked for and set.
+use Rattle.std.proofs.Common.{◌≡◌, ◌+◌, ◌≤◌, ℕ, Bool, true, false, List, [], ◌∷◌, length, Option, Some, None, Ok, Err, map, refl, sym, ◌∙◌, ap, subst, arith}
+use Rattle.std.specs.Prelude.{Result, nat_le}
+use Rattle.std.specs.Option.{option_map}
+use Rattle.std.proofs.lemmas.Bool.Decides.{nat_tests}
+use Rattle.lnfs_calipso.specs.declared.Level.{Level}
+use Rattle.lnfs_outside.specs.declared.event.Moment.{Moment}
+use Rattle.lnfs_world.specs.Rows.{updated}
+use Rattle.lnfs_world.specs.World.{Id, Kind, File, Directory, SymbolicLink, Node as NodeRow, same_id}
+use Rattle.lnfs_world.specs.World as world
+use Rattle.lnfs_world.specs.Effects.{sized, written, size_written, read_at, data_changed}
+use Rattle.lnfs_content.specs.declared.limits.TheConstants.{MOST_BYTES}
+use Rattle.lnfs_tree.specs.declared.node.TreeError.{TreeError}
+use Rattle.lnfs_tree.specs.declared.node.TreeError.TheVariants.{Stale, NotDir, NoEnt, IsDir, Exist, NotEmpty, Inval, MLink, FBig, Spent, Memory}
+use Rattle.lnfs_tree.specs.declared.store.Node.{Node}
+use Rattle.lnfs_tree.specs.Rows.{Rows, id_of, kind_of, of_file, on_file, file_found, read_found, Gives}
+use Rattle.lnfs_tree.specs.Held.{is_node, node_at, file_in, with_names_step, with_size, with_written}
+use Rattle.lnfs_tree.specs.Flat.{row_of, rows_in, content_of, IsTree}
+use Rattle.lnfs_tree.specs.Changed.{Doing, Does, test, sets_data, set_size_of, writes, write_of}
+use Rattle.lnfs_tree.proofs.Flat.{node_at-rows, found_id}
+use Rattle.lnfs_tree.proofs.Touched.{IsPlain, tree-set, rows_in-set}
+use Rattle.lnfs_tree.proofs.Chains.{done, refused, row_found}
+
+-- ---- a file that is looked for
+module _ (ns : List Node) (i : Id) where
+  pub file_there : (n : Node) → Ok n ≡ file_in (node_at ns i) → (node_at ns i ≡ Some n) × (kind_of n.kind ≡ File)
+  file_there n is = at (node_at ns i) is
+    where
+      kind : (m : Node) (k : Kind) → kind_of m.kind ≡ k → Ok n ≡ of_file k (Ok m) → (Some m ≡ Some n) × (kind_of n.kind ≡ File)
+      kind m File is e = let same : m ≡ n = cc in (ap Some same, subst (λ (x : Node). kind_of x.kind ≡ File) same is)
+      kind m Directory is e = absurd (cc)
+      kind m SymbolicLink is e = absurd (cc)
+
+      at : (o : Option Node) → Ok n ≡ file_in o → (o ≡ Some n) × (kind_of n.kind ≡ File)
+      at None e = absurd (cc)
+      at (Some m) e = kind m (kind_of m.kind) refl e
+
+  module _ {A : Type 0} (look : NodeRow → Result A TreeError) where
+    pub no_file : (why : TreeError) → Err why ≡ file_in (node_at ns i) → on_file (world.node_at (map row_of ns) i) look ≡ Err why
+    no_file why is = ap (λ (o : Option NodeRow). on_file o look) (node_at-rows i ns) ∙ at (node_at ns i) is
+      where
+        kind : (m : Node) (k : Kind) → Err why ≡ of_file k (Ok m) → of_file k (look (row_of m)) ≡ Err why
+        kind m File e = absurd (cc)
+        kind m Directory e = let same : IsDir ≡ why = cc in ap (λ (w : TreeError). Err w) same
+        kind m SymbolicLink e = let same : Inval ≡ why = cc in ap (λ (w : TreeError). Err w) same
+
+        at : (o : Option Node) → Err why ≡ file_in o → on_file (option_map row_of o) look ≡ Err why
+        at None e = let same : Stale ≡ why = cc in ap (λ (w : TreeError). Err w) same
+        at (Some m) e = kind m (kind_of m.kind) e
+
+    pub a_file : (n : Node) → Ok n ≡ file_in (node_at ns i) → on_file (world.node_at (map row_of ns) i) look ≡ look (row_of n)
+    a_file n is =
+        ap (λ (o : Option NodeRow). on_file o look) (row_found ns i n (file_there n is).0)
+        ∙ ap (λ (k : Kind). of_file k (look (row_of n))) (file_there n is).1
+
+-- its row has its bytes
+pub file_content : (ns : List Node) (i : Id) (n : Node) → Ok n ≡ file_in (node_at ns i) → (row_of n).inner.content ≡ n.bytes
+file_content ns i n is = ap (λ (k : Kind). content_of k n.bytes n.text) (file_there ns i n is).1
+
+-- ---- what is told of its data
+module _ (i : Id) (ns : List Node) (lasts : List (Level × ℕ)) (t : Rows) (view : rows_in ns lasts ≡ t) where
+  pub content_of_none : (why : TreeError) → Err why ≡ file_in (node_at ns i) → file_found t i ≡ Err why
+  content_of_none why is = ap (λ (t : Rows). file_found t i) (sym view) ∙ no_file ns i _ why is
+
+  pub content_of_file : (n : Node) → Ok n ≡ file_in (node_at ns i) → Ok n.bytes ≡ file_found t i
+  content_of_file n is = sym (ap (λ (t : Rows). file_found t i) (sym view) ∙ a_file ns i _ n is ∙ ap (λ (content : List ℕ). Ok content) (file_content ns i n is))
+
+  module _ (offset count : ℕ) where
+    pub read_of_none : (why : TreeError) → Err why ≡ file_in (node_at ns i) → read_found t i offset count ≡ Err why
+    read_of_none why is = ap (λ (t : Rows). read_found t i offset count) (sym view) ∙ no_file ns i _ why is
+
+    pub read_of_file : (n : Node) → Ok n ≡ file_in (node_at ns i) → Ok (read_at offset count n.bytes) ≡ read_found t i offset count
+    read_of_file n is = sym (ap (λ (t : Rows). read_found t i offset count) (sym view) ∙ a_file ns i _ n is ∙ ap (λ (content : List ℕ). Ok (read_at offset count content)) (file_content ns i n is))
+
+pub gives_refusal : {A B : Type 0} (seen : A → B) (told : Result B TreeError) (why : TreeError) → told ≡ Err why → Gives seen told (Err why)
+gives_refusal seen told Stale is = sym is
+gives_refusal seen told NotDir is = sym is
+gives_refusal seen told NoEnt is = sym is
+gives_refusal seen told IsDir is = sym is
+gives_refusal seen told Exist is = sym is
+gives_refusal seen told NotEmpty is = sym is
+gives_refusal seen told Inval is = sym is
+gives_refusal seen told MLink is = sym is
+gives_refusal seen told FBig is = sym is
+gives_refusal seen told Spent is = sym is
+gives_refusal seen told Memory is = tt
+
+-- ---- data that is set
+
+abbrev with_bytes : (List ℕ → List ℕ) → Moment → Node → Node
+with_bytes f at n = with_names_step at (record n { bytes = f n.bytes })
+
+plain : (f : List ℕ → List ℕ) (at : Moment) → IsPlain (with_bytes f at)
+plain f at = record { id = λ n. refl; kind = λ n. refl; names = λ n. refl; links = λ n. refl; parent = λ n. refl }
+
+module _ (f : List ℕ → List ℕ) (at : Moment) (i : Id) (ns now : List Node) (set : now ≡ updated (is_node i) (with_bytes f at) ns) where
+  tree_set : IsTree ns → IsTree now
+  tree_set tree = subst IsTree (sym set) (tree-set (with_bytes f at) (plain f at) i ns tree)
+
+  module _ (lasts : List (Level × ℕ)) (n : Node) (file : Ok n ≡ file_in (node_at ns i)) where
+    abbrev set_row : List ℕ → NodeRow → NodeRow
+    set_row content r = record r { inner = data_changed at content (row_of n).inner }
+
+    row_set : row_of (with_bytes f at n) ≡ set_row (f (row_of n).inner.content) (row_of n)
+    row_set = ap (λ (content : List ℕ). set_row content (row_of n)) (ap (λ (k : Kind). content_of k (f n.bytes) n.text) (file_there ns i n file).1 ∙ ap f (sym (file_content ns i n file)))
+
+    rows_set : rows_in now lasts ≡ record (rows_in ns lasts) { nodes = updated (λ r. same_id (id_of n.id) r.id) (set_row (f (row_of n).inner.content)) (map row_of ns) }
+    rows_set =
+        ap (λ (ns : List Node). rows_in ns lasts) set
+        ∙ rows_in-set (with_bytes f at) (plain f at) i (set_row (f (row_of n).inner.content)) ns lasts n (file_there ns i n file).0 row_set
+        ∙ ap (λ (j : Id). record (rows_in ns lasts) { nodes = updated (λ r. same_id j r.id) (set_row (f (row_of n).inner.content)) (map row_of ns) }) (found_id i ns n (file_there ns i n file).0)
+
+abbrev Sets : Result (Doing (Unit {0})) TreeError → (before after : Rows) → Result (Unit {0}) TreeError → Type 0
+Sets told before after result = Does (λ u. u) told before after result
+
+pub size_tree : (size : ℕ) (at : Moment) (i : Id) (ns now : List Node) → now ≡ updated (is_node i) (with_size size at) ns → IsTree ns → IsTree now
+size_tree size at = tree_set (sized size) at
+
+pub written_tree : (offset : ℕ) (bytes : List ℕ) (at : Moment) (i : Id) (ns now : List Node) → now ≡ updated (is_node i) (with_written offset bytes at) ns → IsTree ns → IsTree now
+written_tree offset bytes at = tree_set (written offset bytes) at
+
+module _ (at : Moment) (i : Id) (ns : List Node) (lasts : List (Level × ℕ)) (t : Rows) (view : rows_in ns lasts ≡ t) where
+  -- ---- a size
+  module _ (size : ℕ) where
+    pub size_no_file : (why : TreeError) → Err why ≡ file_in (node_at ns i) → Sets (set_size_of t i size at) t t (Err why)
+    size_no_file why is = subst (λ (t : Rows). Sets (set_size_of t i size at) t t (Err why)) view (refused (λ u. u) (rows_in ns lasts) why (set_size_of (rows_in ns lasts) i size at) (no_file ns i _ why is))
+
+    module _ (n : Node) (file : Ok n ≡ file_in (node_at ns i)) where
+      told : (b : Bool) → nat_le size MOST_BYTES ≡ b → set_size_of (rows_in ns lasts) i size at ≡ test b FBig (Ok (sets_data at (row_of n) (sized size (row_of n).inner.content)))
+      told b is = a_file ns i _ n file ∙ ap (λ (b : Bool). test b FBig (Ok (sets_data at (row_of n) (sized size (row_of n).inner.content)))) is
+
+      pub size_too_big : MOST_BYTES + 1 ≤ size → Sets (set_size_of t i size at) t t (Err FBig)
+      size_too_big big = subst (λ (t : Rows). Sets (set_size_of t i size at) t t (Err FBig)) view (refused (λ u. u) (rows_in ns lasts) FBig (set_size_of (rows_in ns lasts) i size at) (told false (grind (arith, nat_tests))))
+
+      pub size_set : (now : List Node) → now ≡ updated (is_node i) (with_size size at) ns → size ≤ MOST_BYTES → Sets (set_size_of t i size at) t (rows_in now lasts) (Ok tt)
+      size_set now set fits = subst (λ (t : Rows). Sets (set_size_of t i size at) t (rows_in now lasts) (Ok tt)) view (done (λ u. u) (rows_in ns lasts) (rows_in now lasts) tt (set_size_of (rows_in ns lasts) i size at) _ (told true (grind (arith, nat_tests))) refl (rows_set (sized size) at i ns now set lasts n file))
+
+  -- ---- bytes that are written
+  module _ (offset : ℕ) (bytes : List ℕ) where
+    pub write_no_file : (why : TreeError) → Err why ≡ file_in (node_at ns i) → Sets (write_of t i offset bytes at) t t (Err why)
+    write_no_file why is = subst (λ (t : Rows). Sets (write_of t i offset bytes at) t t (Err why)) view (refused (λ u. u) (rows_in ns lasts) why (write_of (rows_in ns lasts) i offset bytes at) (no_file ns i _ why is))
+
+    module _ (n : Node) (file : Ok n ≡ file_in (node_at ns i)) where
+      written_told : (b : Bool) → b ≡ nat_le (size_written offset bytes n.bytes) MOST_BYTES → write_of (rows_in ns lasts) i offset bytes at ≡ test b FBig (Ok (writes at (row_of n) offset bytes))
+      written_told b is = a_file ns i _ n file ∙ ap (λ (b : Bool). test b FBig (Ok (writes at (row_of n) offset bytes))) (ap (λ (content : List ℕ). nat_le (size_written offset bytes content) MOST_BYTES) (file_content ns i n file) ∙ sym is)
+
+      pub write_too_big : false ≡ nat_le (size_written offset bytes n.bytes) MOST_BYTES → Sets (write_of t i offset bytes at) t t (Err FBig)
+      write_too_big is = subst (λ (t : Rows). Sets (write_of t i offset bytes at) t t (Err FBig)) view (refused (λ u. u) (rows_in ns lasts) FBig (write_of (rows_in ns lasts) i offset bytes at) (written_told false is))
+
+      module _ (fits : true ≡ nat_le (size_written offset bytes n.bytes) MOST_BYTES) where
+        pub write_none : length bytes ≡ 0 → Sets (write_of t i offset bytes at) t t (Ok tt)
+        write_none none = subst (λ (t : Rows). Sets (write_of t i offset bytes at) t t (Ok tt)) view (done (λ u. u) (rows_in ns lasts) (rows_in ns lasts) tt (write_of (rows_in ns lasts) i offset bytes at) (record { answer = tt; changes = [] }) (written_told true fits ∙ nothing bytes none) refl refl)
+          where
+            nothing : (xs : List ℕ) → length xs ≡ 0 → test true FBig (Ok (writes at (row_of n) offset xs)) ≡ Ok (record { answer = tt; changes = [] })
+            nothing [] e = refl
+            nothing (x ∷ xs) e = absurd (omega arith)
+
+        pub write_set : (now : List Node) → now ≡ updated (is_node i) (with_written offset bytes at) ns → 1 ≤ length bytes → Sets (write_of t i offset bytes at) t (rows_in now lasts) (Ok tt)
+        write_set now set some = subst (λ (t : Rows). Sets (write_of t i offset bytes at) t (rows_in now lasts) (Ok tt)) view (done (λ u. u) (rows_in ns lasts) (rows_in now lasts) tt (write_of (rows_in ns lasts) i offset bytes at) (sets_data at (row_of n) (written offset bytes (row_of n).inner.content)) (written_told true fits ∙ something bytes some) refl (rows_set (written offset bytes) at i ns now set lasts n file))
+          where
+            something : (xs : List ℕ) → 1 ≤ length xs → test true FBig (Ok (writes at (row_of n) offset xs)) ≡ Ok (sets_data at (row_of n) (written offset xs (row_of n).inner.content))
+            something [] e = absurd (omega arith)
+            something (x ∷ xs) e = refl
