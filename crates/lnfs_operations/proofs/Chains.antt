@@ -1,13 +1,15 @@
 -- Chains of tests: two that look alike, and the footprint of one from those of its ends.
-use Rattle.std.proofs.Common.{◌≡◌, ℕ, Bool, true, false, cond, List, [], Option, Some, None, refl, sym, ap, ◌∙◌}
+use Rattle.std.proofs.Common.{◌≡◌, ℕ, Bool, true, false, cond, List, [], Option, Some, None, refl, sym, ap, ◌∙◌, arith}
 use Rattle.std.specs.Prelude.{◌==◌}
 use Rattle.std.specs.Str.{bytes_eq}
 use Rattle.lnfs_world.specs.World.{Kept, World}
 use Rattle.lnfs_world.specs.Erased.{erased}
-use Rattle.lnfs_world.specs.Outcome.{Place, Outcome, Act, Stands, View, IsFootprint}
+use Rattle.lnfs_world.specs.Outcome.{Site, Place, Outcome, Act, Stands, View, IsFootprint}
+use Rattle.lnfs_monitor.specs.Rules.{Asks, allows}
 use Rattle.lnfs_arguments.specs.declared.statuses.TheConstants.{NFS4ERR_SEQ_FALSE_RETRY, NFS4ERR_SEQ_MISORDERED}
 use Rattle.lnfs_operations.specs.declared.Gate.TheVariants.{Session}
 use Rattle.lnfs_operations.specs.Chain.{Answer, refuse, demand, where_there}
+use Rattle.lnfs_operations.specs.Judged.{where_asked}
 use Rattle.lnfs_operations.specs.InOrder.{in_order}
 
 -- ---- alike
@@ -23,6 +25,11 @@ demand_agrees shown test refusal a b agree same = ap (λ t. demand t refusal a) 
 pub where_alike : {X A : Type 0} (o : Option X) (f g : X → Outcome A) (absent : Outcome A) → ((x : X) → o ≡ Some x → f x ≡ g x) → where_there o f absent ≡ where_there o g absent
 where_alike None f g absent same = refl
 where_alike (Some x) f g absent same = same x refl
+
+-- behind a question that may come up, which then allowed it
+pub asked_alike : {R : Type 0} (comes_up : Bool) (site : Site) (p : Place) (asks : Asks) (x y : Outcome (Answer R)) → ((comes_up ≡ true → allows site.dom p.subject asks ≡ true) → x ≡ y) → where_asked comes_up site p asks x ≡ where_asked comes_up site p asks y
+asked_alike true site p asks x y same = demand_alike (allows site.dom p.subject asks) _ x y (λ allowed. same (λ up. allowed))
+asked_alike false site p asks x y same = same (λ up. absurd (grind arith))
 
 -- an operation that looks at what its subject sees alone
 pub seen_view : {A : Type 0} (dom : ℕ → ℕ → Bool) (act : Act A) → ((p : Place) (w : World) → act p (erased dom p.subject w) ≡ act p w) → View dom act

@@ -1,21 +1,24 @@
 -- What the operations leave that make nodes, change their names and set their attributes: the place but for its current file
 -- handle, all clients and sessions, and the sizes of nodes.
 use Rattle.std.proofs.Common.{◌≡◌, ◌≤◌, ℕ, Bool, true, false, cond, List, [], ◌∷◌, ◌++◌, length, Option, Some, None, refl, sym, ap, subst, ◌∙◌, arith}
-use Rattle.std.specs.Prelude.{nat_le, IfSome}
+use Rattle.std.specs.Prelude.{nat_le, is_some, IfSome}
 use Rattle.std.specs.Option.{option_map}
 use Rattle.std.specs.List.{AllByRecursion}
 use Rattle.std.proofs.lemmas.Bool.Decides.{nat_tests}
 use Rattle.lnfs_outside.specs.declared.event.Moment.{Moment}
+use Rattle.lnfs_words.specs.Words.{is_empty}
 use Rattle.lnfs_attrs.specs.declared.bitmap.Bitmap.{Bitmap}
 use Rattle.lnfs_attrs.specs.declared.raw.RawAttrs.{RawAttrs}
 use Rattle.lnfs_attrs.specs.declared.view.LabelValue.{LabelValue}
+use Rattle.lnfs_arguments.specs.declared.stateid.StateId.{StateId}
+use Rattle.lnfs_arguments.specs.declared.stateid.Cinfo.{Cinfo}
 use Rattle.lnfs_arguments.specs.declared.types.What.{What}
 use Rattle.lnfs_arguments.specs.declared.types.What.TheVariants.{Dir, Symlink}
 use Rattle.lnfs_arguments.specs.declared.types.Op.{Op}
 use Rattle.lnfs_arguments.specs.declared.types.Op.TheVariants as ops
-use Rattle.lnfs_world.specs.World.{Id, Inner, Stored, Node, Entry, World, same_id, node_at, node_order}
-use Rattle.lnfs_world.specs.Change.{Change, Touch, Relabel, Make, Unlink, Drop, Move, apply, apply_all}
-use Rattle.lnfs_world.specs.Effects.{names_changed, name_added, attributes_changed, next_entry, taken_out, directories_changed}
+use Rattle.lnfs_world.specs.World.{Id, Inner, Stored, Node, Entry, Open, World, same_id, node_at, node_order}
+use Rattle.lnfs_world.specs.Change.{Change, Touch, Relabel, Make, Unlink, Drop, Move, EndOpen, apply, apply_all}
+use Rattle.lnfs_world.specs.Effects.{names_changed, name_added, attributes_changed, next_entry, written, data_changed, taken_out, directories_changed}
 use Rattle.lnfs_world.specs.Tree.{has_other_name}
 use Rattle.lnfs_world.specs.Outcome.{Site, Place, Outcome, done_to}
 use Rattle.lnfs_world.proofs.Rows.{all_find, all_left}
@@ -32,7 +35,10 @@ use Rattle.lnfs_operations.specs.Create.{is_text, text_of, kind_of, new_node, cr
 use Rattle.lnfs_operations.specs.Link.{link}
 use Rattle.lnfs_operations.specs.Remove.{remove}
 use Rattle.lnfs_operations.specs.Rename.{Mover, rename}
-use Rattle.lnfs_operations.specs.SetAttr.{set_attr}
+use Rattle.lnfs_operations.specs.SetAttr.{size_set, mode_set, set_attr}
+use Rattle.lnfs_operations.specs.Open.{Arguments as OpenArguments, Wanted, new_open, joined, new_file, cut, opened_with, open_file}
+use Rattle.lnfs_operations.specs.Close.{close}
+use Rattle.lnfs_operations.specs.Write.{Arguments as WriteArguments, write}
 use Rattle.lnfs_operations.specs.Sequence.{Sent}
 use Rattle.lnfs_operations.specs.Served.{row}
 use Rattle.lnfs_operations.specs.Sizes.{SessionFits, ClientFits, NodeFits, Sizes, SpellsShortly}
@@ -41,6 +47,8 @@ use Rattle.lnfs_operations.proofs.GivenLaws.{IsGiven}
 use Rattle.lnfs_operations.proofs.CreateLaws.{create_any}
 use Rattle.lnfs_operations.proofs.Namings.{renamed, link_any, remove_any, rename_any}
 use Rattle.lnfs_operations.proofs.SetAttrLaws.{set_attr_any}
+use Rattle.lnfs_operations.proofs.FileLaws.{IsFile, close_any, write_any}
+use Rattle.lnfs_operations.proofs.Openings.{open_any}
 use Rattle.lnfs_operations.proofs.ReadingRows.{all_found}
 use Rattle.lnfs_operations.proofs.ShortRows.{label_short}
 
@@ -106,7 +114,7 @@ module _ (site : Site) (w : World) where
     sizes = λ spells fits. all_left NodeFits _ v.nodes (before.sizes spells fits);
   }
 
-  -- the nodes are left, and what is beside them
+  -- the nodes are left, and what is beside them; names or opens change
   names_change : (v u : World) → u.nodes ≡ v.nodes → Beside v u → Changed v → Changed u
   names_change v u same beside before = record {
     beside = record { clients = beside.clients ∙ before.beside.clients; sessions = beside.sessions ∙ before.beside.sessions };
@@ -140,6 +148,9 @@ is_changing (ops.Link name) = true
 is_changing (ops.Remove name) = true
 is_changing (ops.Rename old new) = true
 is_changing (ops.SetAttr id given) = true
+is_changing (ops.Open seqid access deny client owner making claim) = true
+is_changing (ops.Close seqid id) = true
+is_changing (ops.Write id offset stable content) = true
 is_changing op = false
 
 -- what an outcome leaves
@@ -175,7 +186,7 @@ module _ (site : Site) (p : Place) (w : World) where
   refused_changes gate status = record { session = refl; changed = (unchanged site w).changed }
 
   create_changes : (what : What) (name : List ℕ) (given : RawAttrs) → Changes site p w (create site what name given p w)
-  create_changes what name given = create_any (Changes site p w) site what name given p w refused_changes (λ values label d parsed as_given may. record {
+  create_changes what name given = create_any (Changes site p w) site what name given p w refused_changes (λ values label d read as_given may. record {
     session = refl;
     changed = make_changes site w (apply (Touch d.id (name_added p.moment d.inner)) w) (new_node site p w what values.mode label d) _
         (λ spells fits. record {
@@ -232,12 +243,63 @@ module _ (site : Site) (p : Place) (w : World) where
     };
   }
 
-  set_attr_changes : (given : RawAttrs) → Changes site p w (set_attr site given p w)
-  set_attr_changes given = set_attr_any (Changes site p w) site given p w refused_changes
+  -- a size is that of a file, and no other value is of a size
+  values_give : (n : Node) (size mode : Option ℕ) → (is_some size ≡ true → is_link n.kind ≡ false) → Gives site w n (mode_set p mode (size_set p n size))
+  values_give n None None file spells fits = record { stored = fits.stored; text = fits.text }
+  values_give n None (Some mode) file spells fits = record { stored = fits.stored; text = fits.text }
+  values_give n (Some size) None file spells fits = record { stored = fits.stored; text = λ link. absurd (grind (arith, link, file refl)) }
+  values_give n (Some size) (Some mode) file spells fits = record { stored = fits.stored; text = λ link. absurd (grind (arith, link, file refl)) }
+
+  set_attr_changes : (id : StateId) (given : RawAttrs) → Changes site p w (set_attr site id given p w)
+  set_attr_changes id given = set_attr_any (Changes site p w) site id given p w refused_changes
       (record { session = refl; changed = (unchanged site w).changed })
-      (λ values label n limited parsed as_given may. set_changes (set_of given) n _ may.found (λ spells fits. record { stored = given_short site spells values.label label limited as_given; text = fits.text }))
+      (λ values label n limited read as_given may. set_changes (set_of given) n _ may.found (λ spells fits. record { stored = given_short site spells values.label label limited as_given; text = fits.text }))
       (λ n level may. raised_changes (set_of given) n level _ may.set.found (λ spells fits. record { stored = fits.stored; text = fits.text }))
-      (λ n mode may. set_changes (set_of given) n _ may.found (λ spells fits. record { stored = fits.stored; text = fits.text }))
+      (λ n values may. set_changes (set_of given) n _ may.set.found (values_give n values.size values.mode may.file))
+
+  -- ---- data of files, and opens
+
+  -- a file has no text of a link
+  data_gives : (n : Node) (content : List ℕ) → is_link n.kind ≡ false → Gives site w n (data_changed p.moment content n.inner)
+  data_gives n content file spells fits = record { stored = fits.stored; text = λ link. absurd (grind (arith, link, file)) }
+
+  -- nothing, or data of a file
+  data_steps : (n : Node) (content : List ℕ) → IsFile w n → (b : Bool) → Stepped site w (apply_all (cond b (Touch n.id (data_changed p.moment content n.inner) ∷ []) []) w)
+  data_steps n content file true = touch_steps site w w n (data_changed p.moment content n.inner) file.found (data_gives n content file.link) (unchanged site w)
+  data_steps n content file false = unchanged site w
+
+  close_changes : (id : StateId) → Changes site p w (close id p w)
+  close_changes id = close_any (Changes site p w) id p w refused_changes (λ n o found named. record { session = refl; changed = names_change site w w (apply (EndOpen o.id) w) refl (record { clients = refl; sessions = refl }) (unchanged site w).changed })
+
+  write_changes : (args : WriteArguments) → Changes site p w (write site args p w)
+  write_changes args = write_any (Changes site p w) site args p w refused_changes (λ n may.
+      either (is_empty args.content) n (written args.offset args.content n.inner.content) may.file)
+    where
+      either : (none : Bool) (n : Node) (content : List ℕ) → IsFile w n → Changes site p w (done p (length args.content) (cond none [] (Touch n.id (data_changed p.moment content n.inner) ∷ [])))
+      either true n content file = record { session = refl; changed = (data_steps n content file false).changed }
+      either false n content file = record { session = refl; changed = (data_steps n content file true).changed }
+
+  -- a file that is there, and then a change of opens
+  opened_changes : (wanted : Wanted) (info : Cinfo) (n : Node) (o : Open) (c : Change) → IsFile w n → ((v : World) → (apply c v).nodes ≡ v.nodes) → ((v : World) → Beside v (apply c v)) → Changes site p w (opened_with p wanted n info o c)
+  opened_changes wanted info n o c file nodes beside =
+      let v : World = apply_all (cut p wanted n) w in
+      let before = data_steps n [] file wanted.sized in
+      record { session = refl; changed = subst (Changed site w) (sym (applied_joined (cut p wanted n) (c ∷ []) w)) (names_change site w v (apply c v) (nodes v) (beside v) before.changed) }
+
+  open_changes : (args : OpenArguments) → Changes site p w (open_file site args p w)
+  open_changes args = open_any (Changes site p w) site args p w (record {
+    refused = refused_changes;
+    makes = λ client name making wanted d may.
+        let n : Node = new_file site p w making wanted d in
+        let v : World = apply (Touch d.id (name_added p.moment d.inner)) w in
+        let first = touch_steps site w w d (name_added p.moment d.inner) may.found (λ spells fits. record { stored = fits.stored; text = fits.text }) (unchanged site w) in
+        let then = make_changes site w v n (next_entry d name n.id)
+        (λ spells fits. record { stored = kept_short site spells p d may.as_given.values.label wanted.label (node_fits_in site w w d.id d fits may.found) may.as_given.given; text = λ link. absurd cc })
+        first.changed in
+        record { session = refl; changed = names_change site w (apply (Make n (next_entry d name n.id)) v) _ refl (record { clients = refl; sessions = refl }) then };
+    joins = λ client wanted info n o may found. opened_changes wanted info n (joined args o) _ may.file (λ v. refl) (λ v. record { clients = refl; sessions = refl });
+    adds = λ client wanted info n may none left. opened_changes wanted info n (new_open args p w client n.id) _ may.file (λ v. refl) (λ v. record { clients = refl; sessions = refl });
+  })
 
   -- with another answer
   replied_changes : {A B : Type 0} (o : Outcome A) (answer : B) → Changes site p w o → Changes site p w (record { answer = answer; place = o.place; changes = o.changes })
@@ -248,7 +310,10 @@ module _ (site : Site) (p : Place) (w : World) where
   row_changes sent (ops.Link name) is = replied_changes _ _ (link_changes name)
   row_changes sent (ops.Remove name) is = replied_changes _ _ (remove_changes name)
   row_changes sent (ops.Rename old new) is = replied_changes _ _ (rename_changes old new)
-  row_changes sent (ops.SetAttr id given) is = replied_changes _ _ (set_attr_changes given)
+  row_changes sent (ops.SetAttr id given) is = replied_changes _ _ (set_attr_changes id given)
+  row_changes sent (ops.Open seqid access deny client owner making claim) is = replied_changes _ _ (open_changes (record { access = access; deny = deny; owner = owner; making = making; claim = claim }))
+  row_changes sent (ops.Close seqid id) is = replied_changes _ _ (close_changes id)
+  row_changes sent (ops.Write id offset stable content) is = replied_changes _ _ (write_changes (record { id = id; offset = offset; stable = stable; content = content }))
   row_changes sent op is = absurd (grind arith)
 
   pub changes_stay : {A : Type 0} (o : Outcome A) → Changes site p w o → ((done_to w o).sessions ≡ w.sessions) × (o.place.session ≡ p.session)

@@ -1,14 +1,12 @@
 -- What CREATE looks at, and what it changes: a directory whose label is the subject's, and a new node in it.
 use Rattle.std.proofs.Common.{◌≡◌, ◌+◌, ℕ, Bool, true, not, ◌&&◌, List, [], ◌∷◌, length, Option, Some, None, refl, sym, ap, ◌∙◌, arith}
-use Rattle.std.specs.Prelude.{◌==◌, is_some, nat_le, nat_lt, Ok}
+use Rattle.std.specs.Prelude.{◌==◌, is_some, nat_le, nat_lt}
 use Rattle.std.specs.Option.{option_map}
 use Rattle.std.proofs.lemmas.Bool.Decides.{nat_tests}
 use Rattle.lnfs_words.specs.Words.{is_empty}
-use Rattle.lnfs_xdr.specs.Message.{parse}
 use Rattle.lnfs_calipso.specs.Label.{IsPreorderWithBottom}
 use Rattle.lnfs_attrs.specs.declared.raw.RawAttrs.{RawAttrs}
 use Rattle.lnfs_attrs.specs.declared.settable.AttrSet.{AttrSet}
-use Rattle.lnfs_attrs.specs.Settable.{list_values}
 use Rattle.lnfs_arguments.specs.declared.types.What.{What}
 use Rattle.lnfs_arguments.specs.declared.statuses.TheConstants.{NFS4ERR_EXIST, NFS4ERR_NOSPC}
 use Rattle.lnfs_monitor.specs.Rules.{Change as ChangeNames, Child}
@@ -38,7 +36,7 @@ use Rattle.lnfs_operations.specs.Create.{Made, is_text, has_room, new_node, made
 use Rattle.lnfs_operations.proofs.Chains.{demand_alike, demand_any, standing_view, unchanged_footprint}
 use Rattle.lnfs_operations.proofs.CurrentLaws.{with_current-seen}
 use Rattle.lnfs_operations.proofs.Ends.{current_any, allowed_any, named_any, new_any}
-use Rattle.lnfs_operations.proofs.GivenLaws.{values_alike, label_alike, IsGiven, values_any, mode_any, label_any}
+use Rattle.lnfs_operations.proofs.GivenLaws.{values_alike, label_alike, AreRead, IsGiven, values_any, mode_any, label_any}
 
 -- ---- what is looked at
 
@@ -86,10 +84,10 @@ pub record MayMake (site : Site) (what : What) (name : List ℕ) (p : Place) (w 
 
 -- what holds of each end of CREATE holds of its outcome
 pub create_any : (P : Outcome (Answer Made) → Type 0) (site : Site) (what : What) (name : List ℕ) (given : RawAttrs) (p : Place) (w : World) → ((gate : Gate) (status : ℕ) → P (refuse p gate status)) →
-    ((values : AttrSet) (label : Option GivenLabel) (d : Node) → parse (list_values given.mask) given.list ≡ Ok values → IsGiven site values.label label → MayMake site what name p w label d → P (made p d name (set_of given) (new_node site p w what values.mode label d))) → P (create site what name given p w)
+    ((values : AttrSet) (label : Option GivenLabel) (d : Node) → AreRead given values → IsGiven site values.label label → MayMake site what name p w label d → P (made p d name (set_of given) (new_node site p w what values.mode label d))) → P (create site what name given p w)
 create_any P site what name given p w refused told =
     named_any P p refused name _ (
-    values_any P p refused given _ (λ values parsed.
+    values_any P p refused given _ (λ values read.
     demand_any P (not (is_some values.size)) _ _ (refused _ _) (λ none.
     mode_any P p refused values.mode _ (λ mode.
     label_any P p refused site values.label _ (λ label as_given.
@@ -101,7 +99,7 @@ create_any P site what name given p w refused told =
     allowed_any P p refused site (Child d.label (level_or d.label label)) _ (λ rises.
     new_any P p refused w d name _ (λ new.
     demand_any P (has_room site w d) _ _ (refused _ _) (λ room.
-    told values label d parsed as_given (record { found = ap (node_at w.nodes) (node_at-id i w.nodes d found) ∙ found; text = short; directory = directory; own = own; rises = rises; new = new; room = room }))))))))))))))
+    told values label d read as_given (record { found = ap (node_at w.nodes) (node_at-id i w.nodes d found) ∙ found; text = short; directory = directory; own = own; rises = rises; new = new; room = room }))))))))))))))
 
 -- ---- what is changed
 
@@ -116,7 +114,7 @@ made_within dom s w facts d n name moment found directory own id rises new =
     λ k. touch k && ((next k && (rises k && (id_itself n.id k && adds k))) && true)
 
 pub create_footprint : (site : Site) → IsPreorderWithBottom site.dom → (what : What) (name : List ℕ) (given : RawAttrs) → Footprint site.dom (create site what name given)
-create_footprint site lattice what name given p w stands = create_any (IsFootprint site.dom p w) site what name given p w (λ gate status. unchanged_footprint site.dom p w stands _) (λ values label d parsed as_given may.
+create_footprint site lattice what name given p w stands = create_any (IsFootprint site.dom p w) site what name given p w (λ gate status. unchanged_footprint site.dom p w stands _) (λ values label d read as_given may.
     let own : d.label ≡ p.subject = let is = may.own in grind (arith, nat_tests, is) in
     let home : site.dom p.subject d.label ≡ true = ap (site.dom p.subject) own ∙ lattice.reflexive p.subject in
     let n : Node = new_node site p w what values.mode label d in

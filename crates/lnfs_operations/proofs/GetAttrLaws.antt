@@ -75,7 +75,7 @@ verify_any P site given p w refused told = compared_any P site given p w (verifi
 pub nverify_any : (P : Outcome (Answer (Unit {0})) → Type 0) (site : Site) (given : RawAttrs) (p : Place) (w : World) → ((gate : Gate) (status : ℕ) → P (refuse p gate status)) → P (done p tt []) → P (nverify site given p w)
 nverify_any P site given p w refused told = compared_any P site given p w (denied p) refused (λ b. demand_any P (not b) (refuse p Namespace NFS4ERR_SAME) (done p tt []) (refused Namespace NFS4ERR_SAME) (λ is. told))
 
-pub get_attr_any : (P : Outcome (Answer RawAttrs) → Type 0) (site : Site) (asked : Bitmap) (p : Place) (w : World) → ((gate : Gate) (status : ℕ) → P (refuse p gate status)) → ((i : Id) (n : Node) → node_at w.nodes i ≡ Some n → P (done p (answer_to asked true (shown site p w.entries n 0)) [])) → P (get_attr site asked p w)
+pub get_attr_any : (P : Outcome (Answer RawAttrs) → Type 0) (site : Site) (asked : Bitmap) (p : Place) (w : World) → ((gate : Gate) (status : ℕ) → P (refuse p gate status)) → ((i : Id) (n : Node) → node_at w.nodes i ≡ Some n → P (done p (answer_to asked true (shown site p w n 0)) [])) → P (get_attr site asked p w)
 get_attr_any P site asked p w refused told =
     current_any P p refused w _ (λ i n found.
     asked_any P p refused (asks_inner asked) site (Read n.label) _ (λ allowed. told i n found))

@@ -40,6 +40,11 @@ label_alike site p (Some v) f g same = read_alike p (spelled_by v) (site.reading
 
 -- ---- any outcome
 
+-- attributes that can be set, as they were read
+pub record AreRead (given : RawAttrs) (values : AttrSet) : Type 0 where
+  pub settable : are_settable given.mask ≡ true
+  pub parsed : parse (list_values given.mask) given.list ≡ Ok values
+
 -- a label as it was given and read, where one was
 abbrev pub IsGiven : Site → Option LabelValue → Option GivenLabel → Type 0
 IsGiven site None label = label ≡ None
@@ -50,11 +55,11 @@ module _ {R : Type 0} (P : Outcome (Answer R) → Type 0) (p : Place) (refused :
   parsed_any (Ok values) next is = is values refl
   parsed_any (Err stuck) next is = refused _ _
 
-  pub values_any : (given : RawAttrs) (next : AttrSet → Outcome (Answer R)) → ((values : AttrSet) → parse (list_values given.mask) given.list ≡ Ok values → P (next values)) → P (where_values p given next)
+  pub values_any : (given : RawAttrs) (next : AttrSet → Outcome (Answer R)) → ((values : AttrSet) → AreRead given values → P (next values)) → P (where_values p given next)
   values_any given next is =
       demand_any P (is_supported given.mask) _ _ (refused _ _) (λ supported.
       demand_any P (are_settable given.mask) _ _ (refused _ _) (λ settable.
-      parsed_any (parse (list_values given.mask) given.list) next is))
+      parsed_any (parse (list_values given.mask) given.list) next (λ values parsed. is values (record { settable = settable; parsed = parsed }))))
 
   pub mode_any : (mode : Option ℕ) (next : Outcome (Answer R)) → (is_mode mode ≡ true → P next) → P (where_mode p mode next)
   mode_any mode next is = demand_any P (is_mode mode) _ next (refused _ _) is

@@ -17,7 +17,7 @@ use Rattle.lnfs_operations.specs.declared.Gate.TheVariants as gates
 use Rattle.lnfs_operations.specs.Sequence.{Sent}
 use Rattle.lnfs_operations.specs.Extra.{Untouched, Extra, AreLawful}
 use Rattle.lnfs_operations.specs.Admission.{admission}
-use Rattle.lnfs_operations.specs.Served.{Reply, Nowhere, row, row_in, further_reply, is_served, where_admitted, operation}
+use Rattle.lnfs_operations.specs.Served.{Reply, Nowhere, row, row_in, further_reply, operation}
 use Rattle.lnfs_operations.specs.SlotRule.{run_behind, run_all, result_of, keep_in, served}
 use Rattle.lnfs_operations.proofs.ServedLaws.{row_footprint, operation_lawful}
 use Rattle.lnfs_operations.proofs.SlotRules.{followed_any, all_stand, keep_footprint}
@@ -53,9 +53,7 @@ module _ (X : Extra) (owed : AreLawful X) (site : Site) (lattice : IsPreorderWit
 
   operation_raised : (so_far : List OpResult) (op : Op) (p : Place) (b : Both X.Row) → BothStand X.Fact site.dom p b → Rise b (operation X site sent c so_far op p b).state
   operation_raised so_far op p b stands =
-      let after = row_in_raised op p b stands in
-      chosen_raised (is_served X.grammar op) (where_admitted X c so_far op (row_in X site sent op)) (row_in X site sent op) p b
-      (admitted_any (λ q (v : Both X.Row). Rise b v) op (admission X.grammar c so_far op p b.world) p b (row_in X site sent op p b) (raised_itself site.dom lattice b.world) after) after
+      admitted_any (λ q (v : Both X.Row). Rise b v) op (admission X.grammar c so_far op p b.world) p b (row_in X site sent op p b) (raised_itself site.dom lattice b.world) (row_in_raised op p b stands)
 
   behind_raised : (os : List Op) (so_far : List OpResult) (p : Place) (b : Both X.Row) → BothStand X.Fact site.dom p b → Rise b (run_behind (operation X site sent c) so_far os p b).state
   unfolding run_behind

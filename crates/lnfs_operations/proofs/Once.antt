@@ -25,7 +25,7 @@ use Rattle.lnfs_operations.specs.Sequence.{Sent, Sequenced, New, in_session, seq
 use Rattle.lnfs_operations.specs.ReclaimComplete.{client_under, reclaimed, reclaim_complete}
 use Rattle.lnfs_operations.specs.Extra.{Extra, AreLawful}
 use Rattle.lnfs_operations.specs.Admission.{admission}
-use Rattle.lnfs_operations.specs.Served.{Reply, row, row_in, further_reply, admitted, where_admitted, operation}
+use Rattle.lnfs_operations.specs.Served.{Reply, row, row_in, further_reply, admitted, operation}
 use Rattle.lnfs_operations.specs.SlotRule.{run_behind, kept_after, served}
 use Rattle.lnfs_operations.specs.Retries.{Names}
 use Rattle.lnfs_operations.proofs.KeepingLaws.{session_at-inserted}
@@ -68,12 +68,11 @@ module _ (X : Extra) (owed : AreLawful X) (site : Site) (lattice : IsPreorderWit
       let tame = owed.tame site lattice number arguments p b stands in
       (tame.untouched.sessions, ap (λ (q : Place). q.session) tame.moved.rest)
 
-  chosen_stays : (served : Bool) (r : OpResult) (rs : List OpResult) (number : ℕ) (arguments : List ℕ) (p : Place) (b : Both X.Row) → BothStand X.Fact site.dom p b →
-      let own = cond served (further_reply number (X.outcome site number arguments)) (on_world (deed_of (row site sent (ops.Extra number arguments)))) in
-      let t = cond served (where_admitted X c (r ∷ rs) (ops.Extra number arguments) own) own p b in
+  extra_stays : (serves : Bool) (number : ℕ) (arguments : List ℕ) (p : Place) (b : Both X.Row) → BothStand X.Fact site.dom p b →
+      let t = cond serves (further_reply number (X.outcome site number arguments)) (on_world (deed_of (row site sent (ops.Extra number arguments)))) p b in
       Stays p b t.place t.state
-  chosen_stays true r rs number arguments p b stands = admitted_any (Stays p b) (ops.Extra number arguments) (admission X.grammar c (r ∷ rs) (ops.Extra number arguments) p b.world) p b (further_reply number (X.outcome site number arguments) p b) (refl, refl) (further_stays number arguments p b stands)
-  chosen_stays false r rs number arguments p b stands = (refl, refl)
+  extra_stays true number arguments p b stands = further_stays number arguments p b stands
+  extra_stays false number arguments p b stands = (refl, refl)
 
   reclaim_stays : (r : OpResult) (rs : List OpResult) (one_fs : Bool) (p : Place) (b : Both X.Row) → Stays p b (operation X site sent c (r ∷ rs) (ops.ReclaimComplete one_fs) p b).place (operation X site sent c (r ∷ rs) (ops.ReclaimComplete one_fs) p b).state
   reclaim_stays r rs one_fs p b = admitted_any (Stays p b) (ops.ReclaimComplete one_fs) (admission X.grammar c (r ∷ rs) (ops.ReclaimComplete one_fs) p b.world) p b (row_in X site sent (ops.ReclaimComplete one_fs) p b) (refl, refl)
@@ -114,9 +113,15 @@ module _ (X : Extra) (owed : AreLawful X) (site : Site) (lattice : IsPreorderWit
   operation_stays r rs (ops.Remove name) p b stands = changing_stays r rs (ops.Remove name) p b refl
   operation_stays r rs (ops.Rename old new) p b stands = changing_stays r rs (ops.Rename old new) p b refl
   operation_stays r rs (ops.SetAttr id given) p b stands = changing_stays r rs (ops.SetAttr id given) p b refl
+  operation_stays r rs (ops.Read id offset count) p b stands = reading_stays r rs (ops.Read id offset count) p b refl
+  operation_stays r rs (ops.Commit offset count) p b stands = reading_stays r rs (ops.Commit offset count) p b refl
+  operation_stays r rs (ops.Open seqid access deny client owner making claim) p b stands = changing_stays r rs (ops.Open seqid access deny client owner making claim) p b refl
+  operation_stays r rs (ops.Close seqid id) p b stands = changing_stays r rs (ops.Close seqid id) p b refl
+  operation_stays r rs (ops.Write id offset stable content) p b stands = changing_stays r rs (ops.Write id offset stable content) p b refl
   operation_stays r rs (ops.Outside number status) p b stands = admitted_any (Stays p b) (ops.Outside number status) (admission X.grammar c (r ∷ rs) (ops.Outside number status) p b.world) p b (row_in X site sent (ops.Outside number status) p b) (refl, refl) (refl, refl)
-  operation_stays r rs (ops.Extra number arguments) p b stands = chosen_stays (X.grammar.serves number) r rs number arguments p b stands
-  operation_stays r rs op p b stands = (refl, refl)
+  operation_stays r rs (ops.Extra number arguments) p b stands =
+      admitted_any (Stays p b) (ops.Extra number arguments) (admission X.grammar c (r ∷ rs) (ops.Extra number arguments) p b.world) p b (row_in X site sent (ops.Extra number arguments) p b) (refl, refl)
+      (extra_stays (X.grammar.serves number) number arguments p b stands)
 
   pub behind_stays : (os : List Op) (r : OpResult) (rs : List OpResult) (p : Place) (b : Both X.Row) → BothStand X.Fact site.dom p b → Stays p b (run_behind (operation X site sent c) (r ∷ rs) os p b).place (run_behind (operation X site sent c) (r ∷ rs) os p b).state
   unfolding run_behind

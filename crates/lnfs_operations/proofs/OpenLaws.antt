@@ -28,13 +28,12 @@ use Rattle.lnfs_world.proofs.Views.{row_at-seen, last_of-seen}
 use Rattle.lnfs_operations.specs.declared.Gate.TheVariants as gates
 use Rattle.lnfs_operations.specs.declared.numbers.TheConstants.{OPENS_OF_A_LEVEL, OPEN4_SHARE_ACCESS_WRITE, OPEN4_SHARE_ACCESS_BOTH}
 use Rattle.lnfs_operations.specs.Chain.{Answer, refuse, done, demand, where_there}
-use Rattle.lnfs_operations.specs.Judged.{where_asked}
 use Rattle.lnfs_operations.specs.NewNames.{changed, unchanged}
 use Rattle.lnfs_operations.specs.Shown.{bitmap_of}
 use Rattle.lnfs_operations.specs.Given.{is_mode, level_or}
 use Rattle.lnfs_operations.specs.StateIds.{state_of, has_any}
 use Rattle.lnfs_operations.specs.Open.{Arguments, Opened, access_of, Wanted, attrs_of, nothing_wanted, is_no_size, where_wanted, gives_size, is_of_handle, where_claim, new_open, own_open, joined, conflicts, has_open_left, where_shared, new_file, open_absent, may_be_there, opened, open_present, no_change, open_claimed, open_file}
-use Rattle.lnfs_operations.proofs.Chains.{demand_alike, demand_agrees, where_alike, standing_view}
+use Rattle.lnfs_operations.proofs.Chains.{demand_alike, asked_alike, demand_agrees, where_alike, standing_view}
 use Rattle.lnfs_operations.proofs.CurrentLaws.{shown_alike, with_current-seen}
 use Rattle.lnfs_operations.proofs.GivenLaws.{values_alike, label_alike}
 use Rattle.lnfs_operations.proofs.SessionLaws.{own_level}
@@ -42,11 +41,6 @@ use Rattle.lnfs_operations.proofs.TakingLaws.{own_above, own_whole}
 use Rattle.lnfs_operations.proofs.FileLaws.{file_alike}
 
 -- ---- tests that look at no world
-
--- behind a question that may come up, which then allowed it
-asked_alike : {R : Type 0} (comes_up : Bool) (site : Site) (p : Place) (asks : Asks) (x y : Outcome (Answer R)) → ((comes_up ≡ true → allows site.dom p.subject asks ≡ true) → x ≡ y) → where_asked comes_up site p asks x ≡ where_asked comes_up site p asks y
-asked_alike true site p asks x y same = demand_alike (allows site.dom p.subject asks) _ x y (λ allowed. same (λ up. allowed))
-asked_alike false site p asks x y same = same (λ up. absurd (grind arith))
 
 wanted_alike : {R : Type 0} (site : Site) (p : Place) (making : Option Making) (f g : Wanted → Outcome (Answer R)) → ((wanted : Wanted) → f wanted ≡ g wanted) → where_wanted site p making f ≡ where_wanted site p making g
 wanted_alike site p None f g same = same nothing_wanted

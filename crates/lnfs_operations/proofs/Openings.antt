@@ -1,9 +1,7 @@
 -- The ends of OPEN: what holds of each holds of its outcome.
 use Rattle.std.proofs.Common.{◌≡◌, ℕ, true, not, ◌&&◌, ◌||◌, List, Option, Some, None, refl, sym, ap, ◌∙◌}
-use Rattle.std.specs.Prelude.{◌==◌, Ok, is_some, nat_le}
-use Rattle.lnfs_xdr.specs.Message.{parse}
+use Rattle.std.specs.Prelude.{◌==◌, is_some, nat_le}
 use Rattle.lnfs_attrs.specs.declared.settable.AttrSet.{AttrSet}
-use Rattle.lnfs_attrs.specs.Settable.{list_values}
 use Rattle.lnfs_arguments.specs.declared.stateid.Cinfo.{Cinfo}
 use Rattle.lnfs_arguments.specs.declared.types.Making.{Making}
 use Rattle.lnfs_arguments.specs.declared.types.Claim.{Claim}
@@ -26,7 +24,7 @@ use Rattle.lnfs_operations.specs.StateIds.{has_any}
 use Rattle.lnfs_operations.specs.Open.{Arguments, Opened, access_of, Wanted, attrs_of, nothing_wanted, is_no_size, where_wanted, gives_size, is_of_handle, where_claim, new_open, own_open, joined, conflicts, has_open_left, where_shared, new_file, made, open_absent, may_be_there, opened_with, opened, open_present, open_name, no_change, open_claimed, open_file}
 use Rattle.lnfs_operations.proofs.Chains.{demand_any, where_any}
 use Rattle.lnfs_operations.proofs.Ends.{current_any, allowed_any, asked_any, named_any}
-use Rattle.lnfs_operations.proofs.GivenLaws.{IsGiven, values_any, mode_any, label_any}
+use Rattle.lnfs_operations.proofs.GivenLaws.{AreRead, IsGiven, values_any, mode_any, label_any}
 use Rattle.lnfs_operations.proofs.FileLaws.{IsFile, file_any}
 
 -- ---- what was tested
@@ -34,7 +32,7 @@ use Rattle.lnfs_operations.proofs.FileLaws.{IsFile, file_any}
 -- what is wanted of a file that is made, as it was given
 pub record IsWanted (site : Site) (making : Making) (wanted : Wanted) : Type 0 where
   pub values : AttrSet
-  pub parsed : parse (list_values (attrs_of making).mask) (attrs_of making).list ≡ Ok values
+  pub read : AreRead (attrs_of making) values
   pub given : IsGiven site values.label wanted.label
   pub set : wanted.set ≡ set_of (attrs_of making)
 
@@ -72,11 +70,11 @@ module _ {R : Type 0} (P : Outcome (Answer R) → Type 0) (p : Place) (refused :
   wanted_any : (making : Option Making) (next : Wanted → Outcome (Answer R)) → ((wanted : Wanted) → WantedOf site making wanted → P (next wanted)) → P (where_wanted site p making next)
   wanted_any None next is = is nothing_wanted refl
   wanted_any (Some making) next is =
-      values_any P p refused (attrs_of making) _ (λ values parsed.
+      values_any P p refused (attrs_of making) _ (λ values read.
       demand_any P (is_no_size values.size) _ _ (refused _ _) (λ none.
       mode_any P p refused values.mode _ (λ mode.
       label_any P p refused site values.label _ (λ label given.
-      is _ (record { values = values; parsed = parsed; given = given; set = refl })))))
+      is _ (record { values = values; read = read; given = given; set = refl })))))
 
   shared_any : (args : Arguments) (label : ℕ) (next : Outcome (Answer R)) → P next → P (where_shared site p args label next)
   shared_any args label next is =

@@ -38,7 +38,7 @@ module _ (site : Site) (lattice : IsPreorderWithBottom site.dom) (p : Place) (w 
   none_inner : (asked : Bitmap) (above : Bool) → above ≡ false → NoneInner asked above
   none_inner asked above apart = subst (NoneInner asked) (sym apart) (none_allowed asked)
 
-  entry_seen : (asked : Bitmap) (e : Entry) (n : Node) → node_at w.nodes e.node ≡ Some n → entry_of site p seen_world.entries asked e (shrunk site.dom p.subject n) ≡ entry_of site p w.entries asked e n
+  entry_seen : (asked : Bitmap) (e : Entry) (n : Node) → node_at w.nodes e.node ≡ Some n → entry_of site p seen_world asked e (shrunk site.dom p.subject n) ≡ entry_of site p w asked e n
   entry_seen asked e n found =
       ap (λ a. let d : DirEntry = record { cookie = e.cookie; name = e.name; attrs = a } in d)
       (answer_seen site lattice p w stands.facts e.node n (error_of site p asked n) asked (site.dom p.subject n.label) found (none_inner asked (site.dom p.subject n.label)))

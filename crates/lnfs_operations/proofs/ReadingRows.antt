@@ -20,6 +20,7 @@ use Rattle.lnfs_operations.specs.Sizes.{NodeFits, Sizes}
 use Rattle.lnfs_operations.proofs.Readings.{IsMovedPlace, put_fh_any, get_fh_any, save_fh_any, restore_fh_any, lookup_any, lookup_parent_any, access_any, read_link_any}
 use Rattle.lnfs_operations.proofs.GetAttrLaws.{get_attr_any, verify_any, nverify_any}
 use Rattle.lnfs_operations.proofs.ReadDirLaws.{read_dir_any}
+use Rattle.lnfs_operations.proofs.FileLaws.{read_any, commit_any}
 
 -- nothing changes, or the time of access of a node does
 pub record Reads {A : Type 0} (p : Place) (w : World) (o : Outcome A) : Type 0 where
@@ -42,6 +43,8 @@ is_reading (ops.NVerify given) = true
 is_reading (ops.Access bits) = true
 is_reading (ops.ReadDir cookie verifier dircount maxcount asked) = true
 is_reading ops.ReadLink = true
+is_reading (ops.Read id offset count) = true
+is_reading (ops.Commit offset count) = true
 is_reading op = false
 
 module _ (site : Site) (sent : Sent) (p : Place) (w : World) where
@@ -75,6 +78,8 @@ module _ (site : Site) (sent : Sent) (p : Place) (w : World) where
   row_reads (ops.Access bits) is = replied_reads _ _ (access_any (Reads p w) site bits p w refused_reads (λ granted. told_reads granted))
   row_reads (ops.ReadDir cookie verifier dircount maxcount asked) is = replied_reads _ _ (read_dir_any (Reads p w) site (record { cookie = cookie; maxcount = maxcount; asked = asked }) p w refused_reads (λ i d found there size listed. accessed_reads i d found there))
   row_reads ops.ReadLink is = replied_reads _ _ (read_link_any (Reads p w) site p w refused_reads (λ i n there link. accessed_reads i n _ there))
+  row_reads (ops.Read id offset count) is = replied_reads _ _ (read_any (Reads p w) site (record { id = id; offset = offset; count = count }) p w refused_reads (λ n file. accessed_reads n.id n _ file.found))
+  row_reads (ops.Commit offset count) is = replied_reads _ _ (commit_any (Reads p w) site p w refused_reads (told_reads tt))
   row_reads op is = absurd (grind arith)
 
 -- ---- what stays

@@ -110,15 +110,16 @@ module _ (c : Compound) (most : ℕ) where
         subst (λ o. Good rs (admitted op p b (unless (fits (RESERVED_ROOM + used c rs + op_bound X.grammar op) o) gates.Room NFS4ERR_REP_TOO_BIG) t).answer) (sym inside)
         (roomy rs op p b t (op_bound X.grammar op) x is before good (nat_le (RESERVED_ROOM + used c rs + op_bound X.grammar op) x.channel.max_response) refl)
 
-    chosen_good : (served : Bool) (r : OpResult) (rs : List OpResult) (number : ℕ) (arguments : List ℕ) (p : Place) (b : Both X.Row) → BothStand X.Fact site.dom p b → In p b → RESERVED_ROOM + used c (r ∷ rs) ≤ most →
-        let own = cond served (further_reply number (X.outcome site number arguments)) (on_world (deed_of (row site sent (ops.Extra number arguments)))) in
-        Good (r ∷ rs) (cond served (where_admitted X c (r ∷ rs) (ops.Extra number arguments) own) own p b).answer
-    chosen_good true r rs number arguments p b stands inside before =
+    extra_good : (serves : Bool) (r : OpResult) (rs : List OpResult) (number : ℕ) (arguments : List ℕ) (p : Place) (b : Both X.Row) → BothStand X.Fact site.dom p b → In p b → RESERVED_ROOM + used c (r ∷ rs) ≤ most →
+        let own = cond serves (further_reply number (X.outcome site number arguments)) (on_world (deed_of (row site sent (ops.Extra number arguments)))) in
+        Good (r ∷ rs) (where_admitted X c (r ∷ rs) (ops.Extra number arguments) own p b).answer
+    extra_good true r rs number arguments p b stands inside before =
         behind_room (r ∷ rs) (ops.Extra number arguments) p b (further_reply number (X.outcome site number arguments) p b) inside before (λ room.
         let said = (X.outcome site number arguments p b).answer in
         let tame = owed.tame site lattice number arguments p b stands in
         by_good (r ∷ rs) (results.Extra number (status_said said.refusal) said.bytes) said.refusal (omega (arith, room, said_short number (status_said said.refusal) said.bytes (X.grammar.bound number arguments) tame.bound)))
-    chosen_good false r rs number arguments p b stands inside before = failure_good (r ∷ rs) (ops.Extra number arguments) (record { gate = gates.Outside; status = NFS4ERR_NOTSUPP }) before
+    extra_good false r rs number arguments p b stands inside before =
+        behind_room (r ∷ rs) (ops.Extra number arguments) p b (on_world (deed_of (row site sent (ops.Extra number arguments))) p b) inside before (λ room. failure_good (r ∷ rs) (ops.Extra number arguments) (record { gate = gates.Outside; status = NFS4ERR_NOTSUPP }) before)
 
     reading_good : (r : OpResult) (rs : List OpResult) (op : Op) (p : Place) (b : Both X.Row) → is_reading op ≡ true → In p b → Sizes b.world → RESERVED_ROOM + used c (r ∷ rs) ≤ most →
         Good (r ∷ rs) (admitted op p b (room_refusal X.grammar c (r ∷ rs) op p b.world) (on_world (deed_of (row site sent op)) p b)).answer
@@ -157,15 +158,19 @@ module _ (c : Compound) (most : ℕ) where
     operation_good r rs (ops.Remove name) p b stands inside sizes before = changing_good r rs (ops.Remove name) p b refl inside before
     operation_good r rs (ops.Rename old new) p b stands inside sizes before = changing_good r rs (ops.Rename old new) p b refl inside before
     operation_good r rs (ops.SetAttr id given) p b stands inside sizes before = changing_good r rs (ops.SetAttr id given) p b refl inside before
+    operation_good r rs (ops.Read id offset count) p b stands inside sizes before = reading_good r rs (ops.Read id offset count) p b refl inside sizes before
+    operation_good r rs (ops.Commit offset count) p b stands inside sizes before = reading_good r rs (ops.Commit offset count) p b refl inside sizes before
+    operation_good r rs (ops.Open seqid access deny client owner making claim) p b stands inside sizes before = changing_good r rs (ops.Open seqid access deny client owner making claim) p b refl inside before
+    operation_good r rs (ops.Close seqid id) p b stands inside sizes before = changing_good r rs (ops.Close seqid id) p b refl inside before
+    operation_good r rs (ops.Write id offset stable content) p b stands inside sizes before = changing_good r rs (ops.Write id offset stable content) p b refl inside before
     operation_good r rs (ops.Outside number status) p b stands inside sizes before =
         behind_room (r ∷ rs) (ops.Outside number status) p b (row_in X site sent (ops.Outside number status) p b) inside before (λ room. failure_good (r ∷ rs) (ops.Outside number status) (record { gate = gates.Outside; status = status }) before)
-    operation_good r rs (ops.Extra number arguments) p b stands inside sizes before = chosen_good (X.grammar.serves number) r rs number arguments p b stands inside before
+    operation_good r rs (ops.Extra number arguments) p b stands inside sizes before = extra_good (X.grammar.serves number) r rs number arguments p b stands inside before
     operation_good r rs (ops.ExchangeId verifier owner flags implementation) p b stands inside sizes before = failure_good (r ∷ rs) (ops.ExchangeId verifier owner flags implementation) (record { gate = gates.Session; status = NFS4ERR_NOT_ONLY_OP }) before
     operation_good r rs (ops.CreateSession args) p b stands inside sizes before = failure_good (r ∷ rs) (ops.CreateSession args) (record { gate = gates.Session; status = NFS4ERR_NOT_ONLY_OP }) before
     operation_good r rs (ops.DestroySession session) p b stands inside sizes before = failure_good (r ∷ rs) (ops.DestroySession session) (record { gate = gates.Session; status = NFS4ERR_NOT_ONLY_OP }) before
     operation_good r rs (ops.DestroyClientId client) p b stands inside sizes before = failure_good (r ∷ rs) (ops.DestroyClientId client) (record { gate = gates.Session; status = NFS4ERR_NOT_ONLY_OP }) before
     operation_good r rs (ops.Sequence args) p b stands inside sizes before = failure_good (r ∷ rs) (ops.Sequence args) (record { gate = gates.Session; status = NFS4ERR_SEQUENCE_POS }) before
-    operation_good r rs op p b stands inside sizes before = failure_good (r ∷ rs) op (record { gate = gates.Outside; status = NFS4ERR_NOTSUPP }) before
 
     stays_in : (p q : Place) (b v : Both X.Row) → In p b → v.world.sessions ≡ b.world.sessions → q.session ≡ p.session → q.subject ≡ p.subject → In q v
     stays_in p q b v inside sessions session subject = (λ i. session_behind (record p { subject = subject i }) (session i) (sessions i)) ∙ inside

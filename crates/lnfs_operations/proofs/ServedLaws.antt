@@ -17,16 +17,17 @@ use Rattle.lnfs_world.specs.Both.{Both, both_seen, BothStand, on_world}
 use Rattle.lnfs_world.proofs.Beside.{on_world_lawful}
 use Rattle.lnfs_world.proofs.Views.{client_at-seen, session_at-seen}
 use Rattle.lnfs_operations.specs.declared.Gate.TheVariants as gates
-use Rattle.lnfs_operations.specs.declared.numbers.TheConstants.{RESERVED_ROOM}
+use Rattle.lnfs_operations.specs.declared.numbers.TheConstants.{RESERVED_ROOM, FILE_SYNC4}
 use Rattle.lnfs_arguments.specs.declared.statuses.TheConstants.{NFS4ERR_REP_TOO_BIG}
 use Rattle.lnfs_compound.specs.Bounds.{op_bound}
 use Rattle.lnfs_operations.specs.Chain.{Refusal}
 use Rattle.lnfs_operations.specs.Identifiers.{client_named}
 use Rattle.lnfs_operations.specs.CreateSession.{is_next_of}
 use Rattle.lnfs_operations.specs.Sequence.{Sent}
+use Rattle.lnfs_operations.specs.Close.{closed}
 use Rattle.lnfs_operations.specs.Extra.{Said, Extra, AreLawful}
 use Rattle.lnfs_operations.specs.Admission.{unless, used, fits, session_behind, or_else, place_refusal, admission}
-use Rattle.lnfs_operations.specs.Served.{Record, Nowhere, Reply, success, created_reply, sequence_reply, told_reply, replied, under, created_keeper, create_session_in, plainly, zeros, row, said_reply, further_reply, row_in, admitted, is_served, where_admitted, operation}
+use Rattle.lnfs_operations.specs.Served.{Record, Nowhere, Reply, success, created_reply, sequence_reply, told_reply, replied, under, created_keeper, create_session_in, plainly, zeros, opened_reply, row, said_reply, further_reply, row_in, admitted, operation}
 use Rattle.lnfs_operations.proofs.Chains.{seen_view, unchanged_footprint}
 use Rattle.lnfs_operations.proofs.ExchangeIdLaws.{exchange_id_view, exchange_id_footprint}
 use Rattle.lnfs_operations.proofs.SessionLaws.{own_level, destroy_session_view, destroy_session_footprint, sequence_view, sequence_footprint, destroy_clientid_view, destroy_clientid_footprint, reclaim_complete_view, reclaim_complete_footprint}
@@ -41,6 +42,9 @@ use Rattle.lnfs_operations.proofs.LinkLaws.{link_view, link_footprint}
 use Rattle.lnfs_operations.proofs.RemoveLaws.{remove_view, remove_footprint}
 use Rattle.lnfs_operations.proofs.RenameLaws.{rename_view, rename_footprint}
 use Rattle.lnfs_operations.proofs.SetAttrLaws.{set_attr_view, set_attr_footprint}
+use Rattle.lnfs_operations.proofs.OpenLaws.{open_view}
+use Rattle.lnfs_operations.proofs.OpenChanges.{open_footprint}
+use Rattle.lnfs_operations.proofs.FileLaws.{close_view, close_footprint, read_view, read_footprint, write_view, write_footprint, commit_view, commit_footprint}
 
 and_alike : (b x y : Bool) → (b ≡ true → x ≡ y) → (b && x) ≡ (b && y)
 and_alike true x y same = same refl
@@ -91,9 +95,14 @@ module _ (site : Site) (lattice : IsPreorderWithBottom site.dom) (sent : Sent) w
   row_view (ops.Link name) p a b sa sb e = ap (replied (ops.Link name) (λ info. success (results.Link info) Nowhere)) (link_view site lattice name p a b sa sb e)
   row_view (ops.Remove name) p a b sa sb e = ap (replied (ops.Remove name) (λ info. success (results.Remove info) Nowhere)) (remove_view site lattice name p a b sa sb e)
   row_view (ops.Rename old new) p a b sa sb e = ap (replied (ops.Rename old new) (λ renamed. success (results.Rename renamed.source renamed.target) Nowhere)) (rename_view site lattice old new p a b sa sb e)
-  row_view (ops.SetAttr id given) p a b sa sb e = ap (replied (ops.SetAttr id given) (λ set. success (results.SetAttr 0 set) Nowhere)) (set_attr_view site lattice given p a b sa sb e)
+  row_view (ops.SetAttr id given) p a b sa sb e = ap (replied (ops.SetAttr id given) (λ set. success (results.SetAttr 0 set) Nowhere)) (set_attr_view site lattice id given p a b sa sb e)
+  row_view (ops.Open seqid access deny client owner making claim) p a b sa sb e = ap (replied (ops.Open seqid access deny client owner making claim) opened_reply) (open_view site lattice (record { access = access; deny = deny; owner = owner; making = making; claim = claim }) p a b sa sb e)
+  row_view (ops.Close seqid id) p a b sa sb e = ap (replied (ops.Close seqid id) (plainly (results.Close closed))) (close_view site lattice id p a b sa sb e)
+  row_view (ops.Read id offset count) p a b sa sb e = ap (replied (ops.Read id offset count) (λ found. success (results.Read found.eof found.content) Nowhere)) (read_view site lattice (record { id = id; offset = offset; count = count }) p a b sa sb e)
+  row_view (ops.Write id offset stable content) p a b sa sb e = ap (replied (ops.Write id offset stable content) (λ many. success (results.Write many FILE_SYNC4 (zeros 8)) Nowhere)) (write_view site lattice (record { id = id; offset = offset; stable = stable; content = content }) p a b sa sb e)
+  row_view (ops.Commit offset count) p a b sa sb e = ap (replied (ops.Commit offset count) (plainly (results.Commit (zeros 8)))) (commit_view site lattice p a b sa sb e)
   row_view (ops.Outside number status) p a b sa sb e = refl
-  row_view op p a b sa sb e = refl
+  row_view (ops.Extra number arguments) p a b sa sb e = refl
 
   pub row_footprint : (op : Op) → Footprint site.dom (row site sent op)
   row_footprint (ops.ExchangeId verifier owner flags implementation) p w stands = with_answer site.dom p w _ _ (exchange_id_footprint site.dom (record { verifier = verifier; owner = owner; flags = flags }) p w stands)
@@ -119,9 +128,14 @@ module _ (site : Site) (lattice : IsPreorderWithBottom site.dom) (sent : Sent) w
   row_footprint (ops.Link name) p w stands = with_answer site.dom p w _ _ (link_footprint site lattice name p w stands)
   row_footprint (ops.Remove name) p w stands = with_answer site.dom p w _ _ (remove_footprint site lattice name p w stands)
   row_footprint (ops.Rename old new) p w stands = with_answer site.dom p w _ _ (rename_footprint site lattice old new p w stands)
-  row_footprint (ops.SetAttr id given) p w stands = with_answer site.dom p w _ _ (set_attr_footprint site lattice p w stands given)
+  row_footprint (ops.SetAttr id given) p w stands = with_answer site.dom p w _ _ (set_attr_footprint site lattice p w stands id given)
+  row_footprint (ops.Open seqid access deny client owner making claim) p w stands = with_answer site.dom p w _ _ (open_footprint site lattice (record { access = access; deny = deny; owner = owner; making = making; claim = claim }) p w stands)
+  row_footprint (ops.Close seqid id) p w stands = with_answer site.dom p w _ _ (close_footprint site p w stands id)
+  row_footprint (ops.Read id offset count) p w stands = with_answer site.dom p w _ _ (read_footprint site p w stands (record { id = id; offset = offset; count = count }))
+  row_footprint (ops.Write id offset stable content) p w stands = with_answer site.dom p w _ _ (write_footprint site p w stands (record { id = id; offset = offset; stable = stable; content = content }))
+  row_footprint (ops.Commit offset count) p w stands = with_answer site.dom p w _ _ (commit_footprint site p w stands)
   row_footprint (ops.Outside number status) p w stands = unchanged_footprint site.dom p w stands _
-  row_footprint op p w stands = unchanged_footprint site.dom p w stands _
+  row_footprint (ops.Extra number arguments) p w stands = unchanged_footprint site.dom p w stands _
 
 -- ---- the tests before them
 
@@ -191,8 +205,6 @@ module _ (X : Extra) (owed : AreLawful X) (site : Site) (lattice : IsPreorderWit
 
   pub operation_lawful : (c : Compound) (so_far : List OpResult) (op : Op) → Lawful site.dom (both_seen X.level_of site.dom) (BothStand X.Fact site.dom) (operation X site sent c so_far op)
   operation_lawful c so_far op =
-      chosen_lawful site.dom (both_seen X.level_of site.dom) (BothStand X.Fact site.dom) (is_served X.grammar op) (where_admitted X c so_far op (row_in X site sent op)) (row_in X site sent op)
-      (admitted_lawful site.dom (both_seen X.level_of site.dom) (BothStand X.Fact site.dom) op (λ p b. admission X.grammar c so_far op p b.world)
+      admitted_lawful site.dom (both_seen X.level_of site.dom) (BothStand X.Fact site.dom) op (λ p b. admission X.grammar c so_far op p b.world)
       (λ level p a b above e. sym (admission_seen site.dom level X.grammar c so_far op p a.world above) ∙ ap (λ (v : Both X.Row). admission X.grammar c so_far op p v.world) e ∙ admission_seen site.dom level X.grammar c so_far op p b.world above)
-      (row_in X site sent op) (row_in_lawful op))
-      (row_in_lawful op)
+      (row_in X site sent op) (row_in_lawful op)

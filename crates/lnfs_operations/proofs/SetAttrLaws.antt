@@ -1,17 +1,16 @@
 -- What SETATTR looks at, and what it changes: a node whose label is the subject's.
 use Rattle.std.proofs.Common.{◌≡◌, ℕ, Bool, true, false, cond, not, ◌&&◌, ◌||◌, [], ◌∷◌, Option, Some, None, refl, sym, ap, ◌∙◌, arith}
-use Rattle.std.specs.Prelude.{◌==◌, is_some, Ok}
+use Rattle.std.specs.Prelude.{◌==◌, is_some}
 use Rattle.std.specs.Option.{option_map}
 use Rattle.std.specs.List.{list_all}
 use Rattle.std.proofs.lemmas.Bool.{and_parts}
 use Rattle.std.proofs.lemmas.Bool.Decides.{nat_tests}
 use Rattle.lnfs_words.specs.Words.{is_empty}
-use Rattle.lnfs_xdr.specs.Message.{parse}
 use Rattle.lnfs_calipso.specs.Label.{IsPreorderWithBottom}
 use Rattle.lnfs_attrs.specs.declared.bitmap.Bitmap.{Bitmap}
 use Rattle.lnfs_attrs.specs.declared.raw.RawAttrs.{RawAttrs}
 use Rattle.lnfs_attrs.specs.declared.settable.AttrSet.{AttrSet}
-use Rattle.lnfs_attrs.specs.Settable.{list_values}
+use Rattle.lnfs_arguments.specs.declared.stateid.StateId.{StateId}
 use Rattle.lnfs_arguments.specs.declared.statuses.TheConstants.{NFS4ERR_NOTEMPTY}
 use Rattle.lnfs_monitor.specs.Rules.{Write, Raise}
 use Rattle.lnfs_world.specs.World.{Inner, Node, Stored, World, session_at, node_at, label_at, is_directory}
@@ -22,40 +21,33 @@ use Rattle.lnfs_world.specs.Effects.{attributes_changed, parent_labels}
 use Rattle.lnfs_world.specs.Facts.{has_confirmed, cookies_at}
 use Rattle.lnfs_world.specs.Within.{is_within, all_within}
 use Rattle.lnfs_world.specs.Outcome.{Site, Place, Outcome, Stands, View, IsFootprint, is_session_for}
-use Rattle.lnfs_world.proofs.Seen.{node_at-id, shrunk_whole, label_of-found, sees_node, holds_names-seen}
+use Rattle.lnfs_world.proofs.Seen.{node_at-id, label_of-found, holds_names-seen}
 use Rattle.lnfs_world.proofs.Parents.{parent_labels-seen, home_of_parents, named_by_parents}
 use Rattle.lnfs_world.proofs.NewNames.{holds_none}
 use Rattle.lnfs_world.proofs.Places.{place_stays}
 use Rattle.lnfs_operations.specs.declared.Gate.{Gate}
 use Rattle.lnfs_operations.specs.declared.Gate.TheVariants.{Namespace}
 use Rattle.lnfs_operations.specs.Chain.{Answer, refuse, done, demand}
-use Rattle.lnfs_operations.specs.Judged.{where_asked}
 use Rattle.lnfs_operations.specs.Lookup.{is_link}
 use Rattle.lnfs_operations.specs.Shown.{label_shown}
+use Rattle.lnfs_operations.specs.StateIds.{Writing}
+use Rattle.lnfs_operations.specs.Files.{where_fitting}
 use Rattle.lnfs_operations.specs.Given.{is_mode, GivenLabel, set_of}
-use Rattle.lnfs_operations.specs.SetAttr.{is_company, same_spelling, respelled, label_set, mode_set, values_set, set_on, set_attr}
-use Rattle.lnfs_operations.proofs.Chains.{demand_alike, demand_any, standing_view, unchanged_footprint}
+use Rattle.lnfs_operations.specs.SetAttr.{is_company, same_spelling, respelled, label_set, size_set, mode_set, where_size, values_set, set_on, set_attr}
+use Rattle.lnfs_operations.proofs.Chains.{demand_alike, asked_alike, demand_any, standing_view, unchanged_footprint}
 use Rattle.lnfs_operations.proofs.CurrentLaws.{IsHeld, with_current-seen}
-use Rattle.lnfs_operations.proofs.Ends.{current_any, allowed_any}
-use Rattle.lnfs_operations.proofs.GivenLaws.{values_alike, label_alike, IsGiven, values_any, mode_any, label_any}
+use Rattle.lnfs_operations.proofs.Ends.{current_any, allowed_any, asked_any}
+use Rattle.lnfs_operations.proofs.TakingLaws.{own_whole, own_seen}
+use Rattle.lnfs_operations.proofs.StateIdLaws.{where_usable-seen, usable_any}
+use Rattle.lnfs_operations.proofs.FileLaws.{where_fitting-seen, fitting_any}
+use Rattle.lnfs_operations.proofs.GivenLaws.{values_alike, label_alike, AreRead, IsGiven, values_any, mode_any, label_any}
 
 -- ---- what is looked at
-
--- what is behind a question to the rule for writing is alike at the subject's label, or where the question doesn't come up
-written_alike : {R : Type 0} (asks : Bool) (site : Site) (p : Place) (label : ℕ) (x y : Outcome (Answer R)) → ((p.subject == label) ≡ true → x ≡ y) → (asks ≡ false → x ≡ y) → where_asked asks site p (Write label) x ≡ where_asked asks site p (Write label) y
-written_alike true site p label x y own quiet = demand_alike (p.subject == label) _ x y own
-written_alike false site p label x y own quiet = quiet refl
 
 -- behind a test all is alike, and so is the rest of the test
 demand_both : {A : Type 0} (own x y : Bool) (refusal a b : Outcome A) → (own ≡ true → (x ≡ y) × (a ≡ b)) → demand (own && x) refusal a ≡ demand (own && y) refusal b
 demand_both true x y refusal a b same = let both = same refl in λ k. demand (both.0 k) refusal (both.1 k)
 demand_both false x y refusal a b same = refl
-
--- no mode is set of any node
-no_mode : (p : Place) (m n : Node) (sized : Bool) (mode : Option ℕ) → (sized || is_some mode) ≡ false → mode_set p m mode ≡ mode_set p n mode
-no_mode p m n sized None none = refl
-no_mode p m n true (Some mode) none = absurd (grind arith)
-no_mode p m n false (Some mode) none = absurd (grind arith)
 
 module _ (site : Site) (lattice : IsPreorderWithBottom site.dom) (p : Place) (w : World) (stands : Stands site.dom p w) (set : Bitmap) (n : Node) (held : IsHeld site.dom p w stands n) where
   abbrev seen_world : World
@@ -64,17 +56,25 @@ module _ (site : Site) (lattice : IsPreorderWithBottom site.dom) (p : Place) (w 
   abbrev seen_node : Node
   seen_node = shrunk site.dom p.subject n
 
-  above : (p.subject == n.label) ≡ true → site.dom p.subject n.label ≡ true
-  above own = grind (arith, nat_tests, own, lattice.reflexive p.subject)
-
   whole : (p.subject == n.label) ≡ true → seen_node ≡ n
-  whole own = shrunk_whole site.dom p.subject n (above own)
+  whole own = own_whole site.dom lattice p w stands n own
 
-  values_seen : (values : AttrSet) → values_set site p seen_node values set ≡ values_set site p n values set
-  values_seen values =
-      written_alike (is_some values.size || is_some values.mode) site p n.label _ _
-      (λ own. demand_alike (not (is_some values.size)) _ _ _ (λ none. ap (λ m. done p set (mode_set p m values.mode)) (whole own)))
-      (λ quiet. demand_alike (not (is_some values.size)) _ _ _ (λ none. ap (done p set) (no_mode p seen_node n (is_some values.size) values.mode quiet)))
+  -- a size, where its question allowed it
+  sized_seen : {R : Type 0} (id : StateId) (size : Option ℕ) (next : Outcome (Answer R)) → (is_some size ≡ true → (p.subject == n.label) ≡ true) → where_size site id p seen_world seen_node size next ≡ where_size site id p w n size next
+  sized_seen id None next own = refl
+  sized_seen id (Some size) next own = where_usable-seen site lattice p w n id Writing _ _ (
+      ap (λ m. where_fitting site p seen_world m size next) (whole (own refl)) ∙ where_fitting-seen site lattice p w stands n size next (own refl))
+
+  written_seen : (values : AttrSet) (asks : Bool) → (asks ≡ true → (p.subject == n.label) ≡ true) →
+      cond asks (Touch n.id (mode_set p values.mode (size_set p seen_node values.size)) ∷ []) [] ≡ cond asks (Touch n.id (mode_set p values.mode (size_set p n values.size)) ∷ []) []
+  written_seen values true own = ap (λ m. Touch n.id (mode_set p values.mode (size_set p m values.size)) ∷ []) (whole (own refl))
+  written_seen values false own = refl
+
+  values_seen : (id : StateId) (values : AttrSet) → values_set site id p seen_world seen_node values set ≡ values_set site id p w n values set
+  values_seen id values =
+      asked_alike (is_some values.size || is_some values.mode) site p (Write n.label) _ _ (λ own.
+      ap (λ changes. where_size site id p seen_world seen_node values.size (done p set changes)) (written_seen values (is_some values.size || is_some values.mode) own)
+      ∙ sized_seen id values.size _ (λ some. own (grind (arith, some))))
 
   -- a level that is set, on what it looks at of the world
   abbrev raised_on : Node → (level : ℕ) → (holds : Bool) → Outcome (Answer Bitmap)
@@ -88,19 +88,19 @@ module _ (site : Site) (lattice : IsPreorderWithBottom site.dom) (p : Place) (w 
   label_seen given =
       let respelled_alike = demand_alike (p.subject == n.label) _ _ _ (λ own. ap (λ m. respelled site p m given.spelled set) (whole own)) in
       let raised_alike = demand_both (p.subject == n.label) _ _ _ _ _ (λ own.
-      let seen = sees_node site.dom lattice p.subject w stands.facts n.id n held.found (above own) in
+      let seen = own_seen site.dom lattice p w stands n held.found own in
       let labels = parent_labels-seen site.dom lattice p.subject w stands.facts n.id seen in
       let holds = holds_names-seen site.dom p.subject w n.id seen in
       ((λ k. list_all (λ parent. p.subject == parent) (labels k) && (not (is_empty (labels k)) && site.dom given.level n.label)), (λ k. raised_on (whole own k) given.level (holds k)))) in
       λ k. cond site.limited (respelled_alike k) (raised_alike k)
 
-  set_seen : (values : AttrSet) (label : Option GivenLabel) → set_on site p seen_world seen_node values label set ≡ set_on site p w n values label set
-  set_seen values None = values_seen values
-  set_seen values (Some given) = label_seen given
+  set_seen : (id : StateId) (values : AttrSet) (label : Option GivenLabel) → set_on site id p seen_world seen_node values label set ≡ set_on site id p w n values label set
+  set_seen id values None = values_seen id values
+  set_seen id values (Some given) = label_seen given
 
 module _ (site : Site) (lattice : IsPreorderWithBottom site.dom) where
-  set_attr_seen : (given : RawAttrs) (p : Place) (w : World) → Stands site.dom p w → set_attr site given p (erased site.dom p.subject w) ≡ set_attr site given p w
-  set_attr_seen given p w stands =
+  set_attr_seen : (id : StateId) (given : RawAttrs) (p : Place) (w : World) → Stands site.dom p w → set_attr site id given p (erased site.dom p.subject w) ≡ set_attr site id given p w
+  set_attr_seen id given p w stands =
       values_alike p given _ _ (λ values.
       demand_alike (is_mode values.mode) _ _ _ (λ mode.
       label_alike site p values.label _ _ (λ label.
@@ -108,10 +108,10 @@ module _ (site : Site) (lattice : IsPreorderWithBottom site.dom) where
       with_current-seen site.dom p w stands _ _ (λ n held.
       demand_alike (not (is_some values.size && is_directory n.kind)) _ _ _ (λ other.
       demand_alike (not (is_some values.size && is_link n.kind)) _ _ _ (λ file.
-      set_seen site lattice p w stands (set_of given) n held values label)))))))
+      set_seen site lattice p w stands (set_of given) n held id values label)))))))
 
-  pub set_attr_view : (given : RawAttrs) → View site.dom (set_attr site given)
-  set_attr_view given = standing_view site.dom (set_attr site given) (set_attr_seen given)
+  pub set_attr_view : (id : StateId) (given : RawAttrs) → View site.dom (set_attr site id given)
+  set_attr_view id given = standing_view site.dom (set_attr site id given) (set_attr_seen id given)
 
 -- ---- what is answered
 
@@ -124,15 +124,15 @@ first_any : {A : Type 0} (P : Outcome A → Type 0) (b : Bool) (x y : Outcome A)
 first_any P true x y here there = here refl
 first_any P false x y here there = there
 
--- behind a question to the rule for writing: the label is the subject's, or the question didn't come up
-written_any : {R : Type 0} (P : Outcome (Answer R) → Type 0) (p : Place) → ((gate : Gate) (status : ℕ) → P (refuse p gate status)) → (asks : Bool) (site : Site) (label : ℕ) (next : Outcome (Answer R)) → ((p.subject == label) ≡ true → P next) → (asks ≡ false → P next) → P (where_asked asks site p (Write label) next)
-written_any P p refused true site label next own quiet = allowed_any P p refused site (Write label) next own
-written_any P p refused false site label next own quiet = quiet refl
-
 -- a node at the label of the subject, whose attributes it may set
 pub record MaySet (p : Place) (w : World) (n : Node) : Type 0 where
   pub found : node_at w.nodes n.id ≡ Some n
   pub own : (p.subject == n.label) ≡ true
+
+-- and one of which it may set values: a size is that of a file
+pub record MaySetValues (p : Place) (w : World) (n : Node) (values : AttrSet) : Type 0 where
+  pub set : MaySet p w n
+  pub file : is_some values.size ≡ true → is_link n.kind ≡ false
 
 -- and one whose label it may raise
 pub record MayRaise (site : Site) (p : Place) (w : World) (n : Node) (level : ℕ) : Type 0 where
@@ -150,35 +150,35 @@ module _ (p : Place) (set : Bitmap) (n : Node) where
   abbrev pub raised_to : (level : ℕ) → Outcome (Answer Bitmap)
   raised_to level = done p set (Relabel n.id level (attributes_changed p.moment n.inner) ∷ [])
 
-  abbrev pub mode_to : (mode : ℕ) → Outcome (Answer Bitmap)
-  mode_to mode = done p set (Touch n.id (attributes_changed p.moment (record n.inner { mode = mode })) ∷ [])
+  abbrev pub values_to : AttrSet → Outcome (Answer Bitmap)
+  values_to values = done p set (Touch n.id (mode_set p values.mode (size_set p n values.size)) ∷ [])
 
 -- what holds of each end of SETATTR holds of its outcome
-module _ (P : Outcome (Answer Bitmap) → Type 0) (site : Site) (given : RawAttrs) (p : Place) (w : World)
+module _ (P : Outcome (Answer Bitmap) → Type 0) (site : Site) (id : StateId) (given : RawAttrs) (p : Place) (w : World)
     (refused : (gate : Gate) (status : ℕ) → P (refuse p gate status))
     (nothing : P (done p (set_of given) []))
-    (spelled : (values : AttrSet) (label : GivenLabel) (n : Node) → site.limited ≡ true → parse (list_values given.mask) given.list ≡ Ok values → IsGiven site values.label (Some label) → MaySet p w n → P (spelled_to p (set_of given) n label.spelled))
+    (spelled : (values : AttrSet) (label : GivenLabel) (n : Node) → site.limited ≡ true → AreRead given values → IsGiven site values.label (Some label) → MaySet p w n → P (spelled_to p (set_of given) n label.spelled))
     (raises : (n : Node) (level : ℕ) → MayRaise site p w n level → P (raised_to p (set_of given) n level))
-    (modes : (n : Node) (mode : ℕ) → MaySet p w n → P (mode_to p (set_of given) n mode)) where
+    (writes : (n : Node) (values : AttrSet) → MaySetValues p w n values → P (values_to p (set_of given) n values)) where
   module _ (n : Node) (found : node_at w.nodes n.id ≡ Some n) where
-    mode_set_any : (mode : Option ℕ) → (p.subject == n.label) ≡ true → P (done p (set_of given) (mode_set p n mode))
-    mode_set_any None own = nothing
-    mode_set_any (Some mode) own = modes n mode (record { found = found; own = own })
+    sized_any : (size : Option ℕ) (next : Outcome (Answer Bitmap)) → P next → P (where_size site id p w n size next)
+    sized_any None next is = is
+    sized_any (Some size) next is = usable_any P p refused w site n id Writing _ (fitting_any P p refused site w n size next (λ small few. is))
 
-    no_mode_any : (sized : Bool) (mode : Option ℕ) → (sized || is_some mode) ≡ false → P (done p (set_of given) (mode_set p n mode))
-    no_mode_any sized None none = nothing
-    no_mode_any true (Some mode) none = absurd (grind arith)
-    no_mode_any false (Some mode) none = absurd (grind arith)
+    written_any : (values : AttrSet) (asks : Bool) → (asks ≡ true → MaySetValues p w n values) → P (done p (set_of given) (cond asks (Touch n.id (mode_set p values.mode (size_set p n values.size)) ∷ []) []))
+    written_any values true may = writes n values (may refl)
+    written_any values false may = nothing
 
-    values_set_any : (values : AttrSet) → P (values_set site p n values (set_of given))
-    values_set_any values = written_any P p refused (is_some values.size || is_some values.mode) site n.label _
-        (λ own. demand_any P (not (is_some values.size)) _ _ (refused _ _) (λ none. mode_set_any values.mode own))
-        (λ quiet. demand_any P (not (is_some values.size)) _ _ (refused _ _) (λ none. no_mode_any (is_some values.size) values.mode quiet))
+    values_set_any : (values : AttrSet) → (is_some values.size ≡ true → is_link n.kind ≡ false) → P (values_set site id p w n values (set_of given))
+    values_set_any values file =
+        asked_any P p refused (is_some values.size || is_some values.mode) site (Write n.label) _ (λ own.
+        sized_any values.size _ (
+        written_any values (is_some values.size || is_some values.mode) (λ asks. record { set = record { found = found; own = own asks }; file = file })))
 
-    label_set_any : (values : AttrSet) (label : GivenLabel) → parse (list_values given.mask) given.list ≡ Ok values → IsGiven site values.label (Some label) → P (label_set site p w n label (set_of given))
-    label_set_any values label parsed as_given = first_any P site.limited _ _
+    label_set_any : (values : AttrSet) (label : GivenLabel) → AreRead given values → IsGiven site values.label (Some label) → P (label_set site p w n label (set_of given))
+    label_set_any values label read as_given = first_any P site.limited _ _
         (λ limited. allowed_any P p refused site (Write n.label) _ (λ own.
-        either_any P (same_spelling (label_shown site p n) label.spelled) _ _ nothing (spelled values label n limited parsed as_given (record { found = found; own = own }))))
+        either_any P (same_spelling (label_shown site p n) label.spelled) _ _ nothing (spelled values label n limited read as_given (record { found = found; own = own }))))
         (allowed_any P p refused site (Raise n.label (parent_labels w.nodes w.entries n.id) label.level) _ (λ allowed.
         let own = and_parts _ _ allowed in
         let parents = and_parts _ _ own.1 in
@@ -187,20 +187,20 @@ module _ (P : Outcome (Answer Bitmap) → Type 0) (site : Site) (given : RawAttr
         demand_any P (not (is_directory n.kind && holds_names w.entries n.id)) _ _ (refused _ _) (λ empty.
         raises n label.level (record { set = record { found = found; own = own.0 }; parents = parents.0; named = named.0; rises = named.1; empty = empty })))))
 
-    set_on_any : (values : AttrSet) (label : Option GivenLabel) → parse (list_values given.mask) given.list ≡ Ok values → IsGiven site values.label label → P (set_on site p w n values label (set_of given))
-    set_on_any values None parsed as_given = values_set_any values
-    set_on_any values (Some label) parsed as_given = label_set_any values label parsed as_given
+    set_on_any : (values : AttrSet) (label : Option GivenLabel) → (is_some values.size ≡ true → is_link n.kind ≡ false) → AreRead given values → IsGiven site values.label label → P (set_on site id p w n values label (set_of given))
+    set_on_any values None file read as_given = values_set_any values file
+    set_on_any values (Some label) file read as_given = label_set_any values label read as_given
 
-  pub set_attr_any : P (set_attr site given p w)
+  pub set_attr_any : P (set_attr site id given p w)
   set_attr_any =
-      values_any P p refused given _ (λ values parsed.
+      values_any P p refused given _ (λ values read.
       mode_any P p refused values.mode _ (λ mode.
       label_any P p refused site values.label _ (λ label as_given.
       demand_any P (not (is_company values)) _ _ (refused _ _) (λ alone.
       current_any P p refused w _ (λ i n found.
       demand_any P (not (is_some values.size && is_directory n.kind)) _ _ (refused _ _) (λ other.
       demand_any P (not (is_some values.size && is_link n.kind)) _ _ (refused _ _) (λ file.
-      set_on_any n (ap (node_at w.nodes) (node_at-id i w.nodes n found) ∙ found) values label parsed as_given)))))))
+      set_on_any n (ap (node_at w.nodes) (node_at-id i w.nodes n found) ∙ found) values label (λ sized. grind (arith, file, sized)) read as_given)))))))
 
 -- ---- what is changed
 
@@ -233,9 +233,16 @@ module _ (site : Site) (lattice : IsPreorderWithBottom site.dom) (p : Place) (w 
       let holds : holds_names w.entries n.id ≡ false = grind (arith, empty, none) in
       grind (arith, nat_tests, label, home, rises, named, holds)
 
-  pub set_attr_footprint : (given : RawAttrs) → IsFootprint site.dom p w (set_attr site given p w)
-  set_attr_footprint given = set_attr_any (IsFootprint site.dom p w) site given p w
+  -- the cookies of a node stay where its values are set
+  cookies_stay : (n : Node) (size mode : Option ℕ) → (mode_set p mode (size_set p n size)).cookies ≡ n.inner.cookies
+  cookies_stay n None None = refl
+  cookies_stay n None (Some mode) = refl
+  cookies_stay n (Some size) None = refl
+  cookies_stay n (Some size) (Some mode) = refl
+
+  pub set_attr_footprint : (id : StateId) (given : RawAttrs) → IsFootprint site.dom p w (set_attr site id given p w)
+  set_attr_footprint id given = set_attr_any (IsFootprint site.dom p w) site id given p w
       (λ gate status. unchanged_footprint site.dom p w stands _) (unchanged_footprint site.dom p w stands _)
-      (λ values label n limited parsed as_given may. touched_footprint (set_of given) n _ may refl)
+      (λ values label n limited read as_given may. touched_footprint (set_of given) n _ may refl)
       (λ n level may. set_place (set_of given) (Relabel n.id level (attributes_changed p.moment n.inner)) (grind (arith, raised_within n level (attributes_changed p.moment n.inner) may)) refl refl)
-      (λ n mode may. touched_footprint (set_of given) n _ may refl)
+      (λ n values may. touched_footprint (set_of given) n _ may.set (cookies_stay n values.size values.mode))

@@ -1,5 +1,5 @@
 -- What the operations that read answer is within their bounds.
-use Rattle.std.proofs.Common.{◌≡◌, ◌≤◌, ◌+◌, ◌-◌, ℕ, Bool, true, false, ◌&&◌, cond, List, [], ◌∷◌, ◌++◌, length, Option, Some, None, refl, subst, arith, length-append}
+use Rattle.std.proofs.Common.{◌≡◌, ◌≤◌, ◌+◌, ◌-◌, ℕ, Bool, true, false, ◌&&◌, cond, List, [], ◌∷◌, ◌++◌, length, Option, Some, None, drop, refl, subst, arith, length-append, length-take}
 use Rattle.std.specs.Prelude.{nat_le, min, IfSome}
 use Rattle.std.proofs.lemmas.Bool.Decides.{nat_tests}
 use Rattle.lnfs_xdr.specs.Canon.{word, flag, padded, linked}
@@ -15,10 +15,12 @@ use Rattle.lnfs_results.specs.declared.limits.TheConstants.{MOST_DATA}
 use Rattle.lnfs_results.specs.declared.types.DirEntry.{DirEntry}
 use Rattle.lnfs_results.specs.declared.types.OpResult.{OpResult}
 use Rattle.lnfs_results.specs.declared.types.OpResult.TheVariants as results
+use Rattle.lnfs_results.specs.Bounds.{rounded}
 use Rattle.lnfs_results.specs.Texts.{entry_text, fields_text, further_text, result_text}
-use Rattle.lnfs_results.proofs.Bounds.{length-result, result-bound}
+use Rattle.lnfs_results.proofs.Bounds.{length-result, result-bound, length-read}
 use Rattle.lnfs_world.specs.World.{Id, Stored, Node, Entry, World, same_id, node_at}
 use Rattle.lnfs_world.specs.Names.{entries_above}
+use Rattle.lnfs_world.specs.Effects.{read_at}
 use Rattle.lnfs_world.specs.Outcome.{Site, Place, Outcome}
 use Rattle.lnfs_world.proofs.Rows.{all_find}
 use Rattle.lnfs_monitor.specs.Rules.{Read, allows}
@@ -29,6 +31,7 @@ use Rattle.lnfs_operations.specs.Access.{Granted}
 use Rattle.lnfs_operations.specs.Handles.{handle_of}
 use Rattle.lnfs_operations.specs.Shown.{stored_or, label_shown, shown, answer_to}
 use Rattle.lnfs_operations.specs.ReadDir.{Arguments, Listed, shown_entry, taken, with_entry, where_shown, listed}
+use Rattle.lnfs_operations.specs.Read as read
 use Rattle.lnfs_operations.specs.Sequence.{Sent}
 use Rattle.lnfs_operations.specs.Served.{Nowhere, Reply, Own, Kept, success, reply_of, plainly, zeros, row}
 use Rattle.lnfs_operations.specs.Sizes.{NodeFits, Sizes, SpellsShortly}
@@ -37,6 +40,7 @@ use Rattle.lnfs_operations.proofs.Answering.{handle_length, answer_fits}
 use Rattle.lnfs_operations.proofs.Readings.{put_fh_any, get_fh_any, save_fh_any, restore_fh_any, lookup_any, lookup_parent_any, access_any, read_link_any}
 use Rattle.lnfs_operations.proofs.GetAttrLaws.{get_attr_any, verify_any, nverify_any}
 use Rattle.lnfs_operations.proofs.ReadDirLaws.{read_dir_any}
+use Rattle.lnfs_operations.proofs.FileLaws.{read_any, commit_any}
 use Rattle.lnfs_operations.proofs.ReadingRows.{is_reading}
 
 -- ---- a listing
@@ -85,8 +89,8 @@ module _ (site : Site) (spells : SpellsShortly site) where
   pub label_short : (p : Place) (n : Node) → NodeFits n → length (label_shown site p n).bytes ≤ MOST_LABEL
   label_short p n fits = spelled_short (site.limited && allows site.dom p.subject (Read n.label)) (site.spelling n.label) n.inner.stored (spells.spelling n.label) fits.stored
 
-  pub shown_fits : (p : Place) (entries : List Entry) (n : Node) (error : ℕ) → NodeFits n → ViewFits (shown site p entries n error)
-  shown_fits p entries n error fits = (handle_length n.id, label_short p n fits)
+  pub shown_fits : (p : Place) (w : World) (n : Node) (error : ℕ) → NodeFits n → ViewFits (shown site p w n error)
+  shown_fits p w n error fits = (handle_length n.id, label_short p n fits)
 
 node_fits : (w : World) → Sizes w → (i : Id) (n : Node) → node_at w.nodes i ≡ Some n → NodeFits n
 node_fits w sizes i n found = (all_find NodeFits (λ m. same_id i m.id) w.nodes n sizes.nodes found).0
@@ -113,6 +117,14 @@ read_dir_short : (found : Listed) (size : ℕ) → EMPTY_LISTING ≤ size → Is
 unfolding fields_text
 read_dir_short found size enough short =
     omega (arith, enough, short, length-result (results.ReadDir (zeros 8) found.entries found.eof), length-append (padded (zeros 8) ++ linked entry_text found.entries) (flag found.eof), length-append (padded (zeros 8)) (linked entry_text found.entries), length-flag found.eof, length-padded (zeros 8))
+
+-- no more data than was asked
+read_short : (offset most : ℕ) (content : List ℕ) (eof : Bool) → length (result_text (results.Read eof (read_at offset most content))) ≤ 16 + rounded most
+read_short offset most content eof = omega (arith, length-read eof (read_at offset most content), length-take most (drop offset content))
+
+committed_short : length (result_text (results.Commit (zeros 8))) ≤ 16
+unfolding fields_text
+committed_short = omega (arith, length-result (results.Commit (zeros 8)), length-padded (zeros 8))
 
 -- ---- each operation
 
@@ -153,7 +165,7 @@ module _ (x : Further) (site : Site) (spells : SpellsShortly site) (sent : Sent)
   row_short (ops.GetAttr asked) is =
       let reply = λ (given : RawAttrs). success (results.GetAttr given) Nowhere in
       get_attr_any (IsShortBy x (ops.GetAttr asked) reply) site asked p w (refused_short x p (ops.GetAttr asked) reply) (λ i n found.
-      get_attr_short (answer_to asked true (shown site p w.entries n 0)) (answer_fits asked true (shown site p w.entries n 0) (shown_fits site spells p w.entries n 0 (node_fits w sizes i n found))))
+      get_attr_short (answer_to asked true (shown site p w n 0)) (answer_fits asked true (shown site p w n 0) (shown_fits site spells p w n 0 (node_fits w sizes i n found))))
   row_short (ops.Verify given) is =
       verify_any (IsShortBy x (ops.Verify given) (plainly results.Verify)) site given p w (refused_short x p (ops.Verify given) (plainly results.Verify)) (plain_short results.Verify refl refl)
   row_short (ops.NVerify given) is =
@@ -170,4 +182,11 @@ module _ (x : Further) (site : Site) (spells : SpellsShortly site) (sent : Sent)
   row_short ops.ReadLink is =
       let reply = λ (text : List ℕ). success (results.ReadLink text) Nowhere in
       read_link_any (IsShortBy x ops.ReadLink reply) site p w (refused_short x p ops.ReadLink reply) (λ i n there link. read_link_short n.inner.content ((node_fits w sizes i n there).text link))
+  row_short (ops.Read id offset count) is =
+      let op = ops.Read id offset count in
+      let args : read.Arguments = record { id = id; offset = offset; count = count } in
+      let reply = λ (found : read.Data). success (results.Read found.eof found.content) Nowhere in
+      read_any (IsShortBy x op reply) site args p w (refused_short x p op reply) (λ n file. read_short offset (min count MOST_DATA) n.inner.content (read.read_from args n).eof)
+  row_short (ops.Commit offset count) is =
+      commit_any (IsShortBy x (ops.Commit offset count) (plainly (results.Commit (zeros 8)))) site p w (refused_short x p (ops.Commit offset count) (plainly (results.Commit (zeros 8)))) committed_short
   row_short op is = absurd (grind arith)

@@ -1,5 +1,5 @@
 -- What is shown of a node to who may not read it doesn't tell of its content.
-use Rattle.std.proofs.Common.{◌≡◌, ℕ, Bool, true, false, cond, ◌&&◌, ◌||◌, not, List, [], ◌∷◌, ◌++◌, Some, refl, sym, ap, ◌∙◌, rules}
+use Rattle.std.proofs.Common.{◌≡◌, ◌-◌, ℕ, Bool, true, false, cond, ◌&&◌, ◌||◌, not, List, [], ◌∷◌, ◌++◌, Some, refl, sym, ap, ◌∙◌, rules}
 use Rattle.std.specs.List.{flat_map, AllByRecursion}
 use Rattle.std.proofs.lemmas.List.Concat.{flat_map-cons}
 use Rattle.lnfs_attrs.specs.declared.bitmap.Bitmap.{Bitmap}
@@ -10,9 +10,11 @@ use Rattle.lnfs_calipso.specs.Label.{IsPreorderWithBottom}
 use Rattle.lnfs_world.specs.World.{Id, Stored, Node, World, node_at}
 use Rattle.lnfs_world.specs.Erased.{erased, sees, shrunk}
 use Rattle.lnfs_world.specs.Facts.{Facts}
+use Rattle.lnfs_world.specs.Usage.{bytes_used}
 use Rattle.lnfs_world.specs.Outcome.{Site, Place}
 use Rattle.lnfs_world.proofs.Rows.{none_any}
 use Rattle.lnfs_world.proofs.Seen.{node_at-id, shrunk_whole, sees_node, size_of-seen, links_of-seen}
+use Rattle.lnfs_world.proofs.Usage.{bytes_used-seen}
 use Rattle.lnfs_operations.specs.Shown.{label_value, stored_or, shown, asks_inner, answer_to}
 
 -- ---- values
@@ -71,32 +73,36 @@ module _ (site : Site) (lattice : IsPreorderWithBottom site.dom) (p : Place) (w 
   abbrev seen_world : World
   seen_world = erased site.dom p.subject w
 
-  shown_hidden : (n : Node) (error : ℕ) → site.dom p.subject n.label ≡ false → hidden (shown site p seen_world.entries (shrunk site.dom p.subject n) error) ≡ hidden (shown site p w.entries n error)
+  -- the bytes of the subject's own level
+  bytes_seen : bytes_used seen_world.nodes p.subject ≡ bytes_used w.nodes p.subject
+  bytes_seen = bytes_used-seen site.dom lattice p.subject p.subject w facts (lattice.reflexive p.subject)
+
+  shown_hidden : (n : Node) (error : ℕ) → site.dom p.subject n.label ≡ false → hidden (shown site p seen_world (shrunk site.dom p.subject n) error) ≡ hidden (shown site p w n error)
   shown_hidden n error apart =
       let inner = (shrunk site.dom p.subject n).inner in
       let label = label_hidden site.limited (site.dom p.subject n.label) (stored_or (site.spelling n.label) inner.stored) (stored_or (site.spelling n.label) n.inner.stored) (site.spelling n.label) apart in
-      ap (λ l. let v : View = record (hidden (shown site p w.entries n error)) { label = label_value l } in v) label
+      λ k. let v : View = record (hidden (shown site p w n error)) { avail = site.bytes p.subject - bytes_seen k; used = bytes_seen k; label = label_value (label k) } in v
 
   -- who may read a node sees all that is shown of it
-  shown_whole : (i : Id) (n : Node) (error : ℕ) → node_at w.nodes i ≡ Some n → site.dom p.subject n.label ≡ true → shown site p seen_world.entries (shrunk site.dom p.subject n) error ≡ shown site p w.entries n error
+  shown_whole : (i : Id) (n : Node) (error : ℕ) → node_at w.nodes i ≡ Some n → site.dom p.subject n.label ≡ true → shown site p seen_world (shrunk site.dom p.subject n) error ≡ shown site p w n error
   shown_whole i n error found above =
       let seen = ap (λ j. sees site.dom p.subject w.nodes j) (node_at-id i w.nodes n found) ∙ sees_node site.dom lattice p.subject w facts i n found above in
       let size = size_of-seen site.dom lattice p.subject w facts n n.kind seen in
       let links = links_of-seen site.dom lattice p.subject w facts n n.kind seen in
-      ap (λ m. shown site p seen_world.entries m error) (shrunk_whole site.dom p.subject n above)
-      ∙ (λ k. record (shown site p w.entries n error) { size = size k; links = links k })
+      ap (λ m. shown site p seen_world m error) (shrunk_whole site.dom p.subject n above)
+      ∙ (λ k. record (shown site p w n error) { size = size k; links = links k; avail = site.bytes p.subject - bytes_seen k; used = bytes_seen k })
 
   pub list_seen : (i : Id) (n : Node) (error : ℕ) (asked : Bitmap) (allowed : Bool) → node_at w.nodes i ≡ Some n → (site.dom p.subject n.label ≡ false → NoneInner asked allowed) →
-      list_text asked (shown site p seen_world.entries (shrunk site.dom p.subject n) error) allowed ≡ list_text asked (shown site p w.entries n error) allowed
+      list_text asked (shown site p seen_world (shrunk site.dom p.subject n) error) allowed ≡ list_text asked (shown site p w n error) allowed
   list_seen i n error asked allowed found none = at (site.dom p.subject n.label) refl
     where
-      at : (above : Bool) → site.dom p.subject n.label ≡ above → list_text asked (shown site p seen_world.entries (shrunk site.dom p.subject n) error) allowed ≡ list_text asked (shown site p w.entries n error) allowed
+      at : (above : Bool) → site.dom p.subject n.label ≡ above → list_text asked (shown site p seen_world (shrunk site.dom p.subject n) error) allowed ≡ list_text asked (shown site p w n error) allowed
       at true is = ap (λ v. list_text asked v allowed) (shown_whole i n error found is)
       at false is =
-          list_hidden asked allowed (shown site p seen_world.entries (shrunk site.dom p.subject n) error) (none is)
+          list_hidden asked allowed (shown site p seen_world (shrunk site.dom p.subject n) error) (none is)
           ∙ ap (λ v. list_text asked v allowed) (shown_hidden n error is)
-          ∙ sym (list_hidden asked allowed (shown site p w.entries n error) (none is))
+          ∙ sym (list_hidden asked allowed (shown site p w n error) (none is))
 
   pub answer_seen : (i : Id) (n : Node) (error : ℕ) (asked : Bitmap) (allowed : Bool) → node_at w.nodes i ≡ Some n → (site.dom p.subject n.label ≡ false → NoneInner asked allowed) →
-      answer_to asked allowed (shown site p seen_world.entries (shrunk site.dom p.subject n) error) ≡ answer_to asked allowed (shown site p w.entries n error)
-  answer_seen i n error asked allowed found none = ap (λ list. record (answer_to asked allowed (shown site p w.entries n error)) { list = list }) (list_seen i n error asked allowed found none)
+      answer_to asked allowed (shown site p seen_world (shrunk site.dom p.subject n) error) ≡ answer_to asked allowed (shown site p w n error)
+  answer_seen i n error asked allowed found none = ap (λ list. record (answer_to asked allowed (shown site p w n error)) { list = list }) (list_seen i n error asked allowed found none)

@@ -5,7 +5,7 @@ use Rattle.lnfs_world.specs.World as world
 use Rattle.lnfs_arguments.specs.declared.types.Op.TheVariants as ops
 use Rattle.lnfs_arguments.specs.declared.channel.Channel.{Channel as Asked}
 use Rattle.lnfs_operations.specs.declared.Gate.TheVariants as gates
-use Rattle.lnfs_operations.specs.Served.{Slot, Record, Nowhere, row, Reply, row_in, further_reply, where_admitted, operation, Keeper, is_served}
+use Rattle.lnfs_operations.specs.Served.{Slot, Record, Nowhere, row, Reply, row_in, further_reply, operation, Keeper}
 use Rattle.lnfs_operations.specs.Sequence.{Again, Sent, sequence}
 use Rattle.std.specs.Prelude.{◌==◌, nat_le, IfSome, slice_get, replicate}
 use Rattle.lnfs_world.specs.Change.{apply, DropClient, AddClient, apply_all, Change, SetClient, AddSession, SetSession, DropSession}
@@ -174,8 +174,13 @@ module _ (p : Place) (w : World) (sizes : Sizes w) where
   row_sizes site spells sent (ops.Remove name) = changes_sizes site p w _ (row_changes site p w sent (ops.Remove name) refl) spells sizes
   row_sizes site spells sent (ops.Rename old new) = changes_sizes site p w _ (row_changes site p w sent (ops.Rename old new) refl) spells sizes
   row_sizes site spells sent (ops.SetAttr id given) = changes_sizes site p w _ (row_changes site p w sent (ops.SetAttr id given) refl) spells sizes
+  row_sizes site spells sent (ops.Open seqid access deny client owner making claim) = changes_sizes site p w _ (row_changes site p w sent (ops.Open seqid access deny client owner making claim) refl) spells sizes
+  row_sizes site spells sent (ops.Close seqid id) = changes_sizes site p w _ (row_changes site p w sent (ops.Close seqid id) refl) spells sizes
+  row_sizes site spells sent (ops.Write id offset stable content) = changes_sizes site p w _ (row_changes site p w sent (ops.Write id offset stable content) refl) spells sizes
+  row_sizes site spells sent (ops.Read id offset count) = reads_sizes p w _ (row_reads site sent p w (ops.Read id offset count) refl) sizes
+  row_sizes site spells sent (ops.Commit offset count) = reads_sizes p w _ (row_reads site sent p w (ops.Commit offset count) refl) sizes
   row_sizes site spells sent (ops.Outside number status) = sizes
-  row_sizes site spells sent op = sizes
+  row_sizes site spells sent (ops.Extra number arguments) = sizes
 
 -- ---- in a COMPOUND
 
@@ -194,9 +199,7 @@ module _ (X : Extra) (owed : AreLawful X) (site : Site) (lattice : IsPreorderWit
 
   pub operation_sizes : (so_far : List OpResult) (op : Op) (p : Place) (b : Both X.Row) → BothStand X.Fact site.dom p b → Sizes b.world → Sizes (operation X site sent c so_far op p b).state.world
   operation_sizes so_far op p b stands sizes =
-      let after = row_in_sizes op p b stands sizes in
-      chosen_sizes (is_served X.grammar op) (where_admitted X c so_far op (row_in X site sent op)) (row_in X site sent op) p b
-      (admitted_any (λ q (v : Both X.Row). Sizes v.world) op (admission X.grammar c so_far op p b.world) p b (row_in X site sent op p b) sizes after) after
+      admitted_any (λ q (v : Both X.Row). Sizes v.world) op (admission X.grammar c so_far op p b.world) p b (row_in X site sent op p b) sizes (row_in_sizes op p b stands sizes)
 
   behind_sizes : (os : List Op) (so_far : List OpResult) (p : Place) (b : Both X.Row) → BothStand X.Fact site.dom p b → Sizes b.world → Sizes (run_behind (operation X site sent c) so_far os p b).state.world
   unfolding run_behind

@@ -5,7 +5,7 @@ use Rattle.lnfs_world.specs.World as world
 use Rattle.lnfs_arguments.specs.declared.types.Op.TheVariants as ops
 use Rattle.lnfs_results.specs.declared.types.OpResult.TheVariants as results
 use Rattle.lnfs_operations.specs.declared.Gate.TheVariants as gates
-use Rattle.lnfs_operations.specs.Served.{row_in, Slot, Record, Nowhere, Own, Kept, under, Reply, row, further_reply, admitted, where_admitted, operation, Keeper, success, failure, reply_of, created_reply, told_reply, create_session_in}
+use Rattle.lnfs_operations.specs.Served.{row_in, Slot, Record, Nowhere, Own, Kept, under, Reply, admitted, operation, Keeper, success, failure, reply_of, created_reply, told_reply, create_session_in}
 use Rattle.lnfs_operations.specs.Sequence.{sequence, New, Again, Sent, Sequenced, in_session, on_slot}
 use Rattle.lnfs_operations.specs.SlotRule.{Ran, followed, served, run_behind, own_reply, new_result, result_of, run_all}
 use Rattle.std.specs.Prelude.{◌==◌, nat_le, IfSome, if◌then◌else◌, slice_get}
@@ -23,9 +23,9 @@ use Rattle.lnfs_arguments.specs.declared.types.Op.{Op}
 use Rattle.lnfs_arguments.specs.declared.types.Compound.{Compound}
 use Rattle.lnfs_results.specs.declared.types.OpResult.{OpResult}
 use Rattle.lnfs_results.specs.Texts.{result_text}
-use Rattle.lnfs_world.specs.Lawful.{Turn, Deed, deed_of}
-use Rattle.lnfs_world.specs.Both.{Both, BothStand, on_world}
-use Rattle.lnfs_arguments.specs.declared.statuses.TheConstants.{NFS4ERR_NOT_ONLY_OP, NFS4ERR_MINOR_VERS_MISMATCH, NFS4ERR_NOTSUPP, NFS4ERR_OP_NOT_IN_SESSION, NFS4ERR_BADSESSION, NFS4ERR_STALE_CLIENTID, NFS4ERR_CLIENTID_BUSY, NFS4ERR_BADSLOT, NFS4ERR_REQ_TOO_BIG, NFS4ERR_TOO_MANY_OPS}
+use Rattle.lnfs_world.specs.Lawful.{Turn, Deed}
+use Rattle.lnfs_world.specs.Both.{Both, BothStand}
+use Rattle.lnfs_arguments.specs.declared.statuses.TheConstants.{NFS4ERR_NOT_ONLY_OP, NFS4ERR_MINOR_VERS_MISMATCH, NFS4ERR_OP_NOT_IN_SESSION, NFS4ERR_BADSESSION, NFS4ERR_STALE_CLIENTID, NFS4ERR_CLIENTID_BUSY, NFS4ERR_BADSLOT, NFS4ERR_REQ_TOO_BIG, NFS4ERR_TOO_MANY_OPS}
 use Rattle.lnfs_operations.specs.Results.{failed}
 use Rattle.lnfs_operations.specs.Sizes.{IsRead, Sizes, SpellsShortly}
 use Rattle.lnfs_arguments.specs.declared.types.Sequence.{Sequence}
@@ -188,13 +188,6 @@ module _ (c : Compound) (read : IsRead c) where
         (λ k kept. subst (λ (o : Option world.Kept). IfSome o (λ kept. length kept.reply + LARGEST_WRAPPING ≤ x.channel.max_response)) kept (slot_fits x.channel.max_response args.slot x.slots slot known.kept names.slot))
         (λ next. (slot_ends X owed site lattice spells sent c level moment b args rest x slot stands sizes names (grind (arith, nat_tests, next)) read.tag known.granted.response.0).0)
 
-    extra_fits : (number : ℕ) (arguments : List ℕ) (rest : List Op) (serves : Bool) →
-        let own = cond serves (further_reply number (X.outcome site number arguments)) (on_world (deed_of (row site sent (ops.Extra number arguments)))) in
-        let t = cond serves (where_admitted X c [] (ops.Extra number arguments) own) own (begins_at level moment) b in
-        Fits (followed [] (ops.Extra number arguments) t.place t.state t.answer (λ results. run_behind deeds results rest t.place t.state))
-    extra_fits number arguments rest true = failure_fits deeds (ops.Extra number arguments) (begins_at level moment) b (record { gate = gates.Session; status = NFS4ERR_OP_NOT_IN_SESSION })
-    extra_fits number arguments rest false = failure_fits deeds (ops.Extra number arguments) (begins_at level moment) b (record { gate = gates.Outside; status = NFS4ERR_NOTSUPP })
-
     -- one that has to stand behind a SEQUENCE
     behind_sequence : (op : Op) (rest : List Op) → Fits (followed [] op (begins_at level moment) b (failure op (record { gate = gates.Session; status = NFS4ERR_OP_NOT_IN_SESSION })) (λ results. run_behind deeds results rest (begins_at level moment) b))
     behind_sequence op rest = failure_fits deeds op (begins_at level moment) b (record { gate = gates.Session; status = NFS4ERR_OP_NOT_IN_SESSION })
@@ -231,9 +224,13 @@ module _ (c : Compound) (read : IsRead c) where
     from_fits (ops.Remove name ∷ rest) few = behind_sequence (ops.Remove name) rest
     from_fits (ops.Rename old new ∷ rest) few = behind_sequence (ops.Rename old new) rest
     from_fits (ops.SetAttr id given ∷ rest) few = behind_sequence (ops.SetAttr id given) rest
+    from_fits (ops.Open seqid access deny client owner making claim ∷ rest) few = behind_sequence (ops.Open seqid access deny client owner making claim) rest
+    from_fits (ops.Close seqid id ∷ rest) few = behind_sequence (ops.Close seqid id) rest
+    from_fits (ops.Write id offset stable content ∷ rest) few = behind_sequence (ops.Write id offset stable content) rest
+    from_fits (ops.Read id offset count ∷ rest) few = behind_sequence (ops.Read id offset count) rest
+    from_fits (ops.Commit offset count ∷ rest) few = behind_sequence (ops.Commit offset count) rest
     from_fits (ops.Outside number status ∷ rest) few = failure_fits deeds (ops.Outside number status) (begins_at level moment) b (record { gate = gates.Outside; status = status })
-    from_fits (ops.Extra number arguments ∷ rest) few = extra_fits number arguments rest (X.grammar.serves number)
-    from_fits (op ∷ rest) few = failure_fits deeds op (begins_at level moment) b (record { gate = gates.Outside; status = NFS4ERR_NOTSUPP })
+    from_fits (ops.Extra number arguments ∷ rest) few = behind_sequence (ops.Extra number arguments) rest
 
     run_fits : Fits (run_all deeds c (begins_at level moment) b)
     unfolding run_all

@@ -21,7 +21,7 @@ abbrev pub get_attr : Site → (asked : Bitmap) → Act (Answer RawAttrs)
 get_attr site asked p w =
     with_current p w (λ n.
     where_asked (asks_inner asked) site p (Read n.label) (
-    done p (answer_to asked true (shown site p w.entries n 0)) []))
+    done p (answer_to asked true (shown site p w n 0)) []))
 
 -- ---- comparing
 
@@ -36,7 +36,7 @@ compared site given p w same =
     demand (not (has_attr given.mask RDATTR_ERROR)) (refuse p Argument NFS4ERR_INVAL) (
     with_current p w (λ n.
     where_asked (asks_inner given.mask) site p (Read n.label) (
-    same (bytes_eq given.list (list_text given.mask (shown site p w.entries n 0) true))))))
+    same (bytes_eq given.list (list_text given.mask (shown site p w n 0) true))))))
 
 abbrev pub verify : Site → RawAttrs → Act (Answer (Unit {0}))
 verify site given p w = compared site given p w (λ same. demand same (refuse p Namespace NFS4ERR_NOT_SAME) (done p tt []))

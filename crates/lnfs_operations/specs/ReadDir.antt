@@ -40,16 +40,16 @@ abbrev pub error_of : Site → Place → Bitmap → Node → ℕ
 error_of site p asked n = cond (asks_inner asked && not (allows site.dom p.subject (Read n.label))) NFS4ERR_ACCESS NFS4_OK
 
 -- Where the label of a node isn't dominated, inner attributes are left out and rdattr_error tells why, if it is asked.
-abbrev pub entry_of : Site → Place → List Entry → Bitmap → Entry → Node → DirEntry
-entry_of site p entries asked e n = record {
+abbrev pub entry_of : Site → Place → World → Bitmap → Entry → Node → DirEntry
+entry_of site p w asked e n = record {
   cookie = e.cookie;
   name = e.name;
-  attrs = answer_to asked (allows site.dom p.subject (Read n.label)) (shown site p entries n (error_of site p asked n));
+  attrs = answer_to asked (allows site.dom p.subject (Read n.label)) (shown site p w n (error_of site p asked n));
 }
 
 abbrev pub shown_entry : Site → Place → World → Bitmap → Entry → Option Node → Option DirEntry
 shown_entry site p w asked e None = None
-shown_entry site p w asked e (Some n) = cond (may_show site p asked n) (Some (entry_of site p w.entries asked e n)) None
+shown_entry site p w asked e (Some n) = cond (may_show site p asked n) (Some (entry_of site p w asked e n)) None
 
 -- ---- the walk
 

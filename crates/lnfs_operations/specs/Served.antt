@@ -1,7 +1,6 @@
 -- The operations that are served: what each answers in its COMPOUND, and whether the result of the whole
 -- COMPOUND is kept.
-use Rattle.std.specs.Prelude.{ℕ, ◌-◌, Bool, true, false, cond, List, replicate, Option, Some, None}
-use Rattle.lnfs_arguments.specs.Further.{Further}
+use Rattle.std.specs.Prelude.{ℕ, ◌-◌, cond, List, replicate, Option, Some, None}
 use Rattle.lnfs_arguments.specs.declared.types.Op.{Op}
 use Rattle.lnfs_arguments.specs.declared.types.Op.TheVariants as ops
 use Rattle.lnfs_arguments.specs.declared.types.Compound.{Compound}
@@ -35,9 +34,14 @@ use Rattle.lnfs_operations.specs.Link.{link}
 use Rattle.lnfs_operations.specs.Remove.{remove}
 use Rattle.lnfs_operations.specs.Rename.{rename}
 use Rattle.lnfs_operations.specs.SetAttr.{set_attr}
+use Rattle.lnfs_operations.specs.Open.{Opened, open_file}
+use Rattle.lnfs_operations.specs.Close.{closed, close}
+use Rattle.lnfs_operations.specs.Read.{read}
+use Rattle.lnfs_operations.specs.Write.{write, commit}
 use Rattle.lnfs_operations.specs.Extra.{Said, Extra}
 use Rattle.lnfs_operations.specs.Results.{Answered, failed, told_result, said_result}
 use Rattle.lnfs_operations.specs.Admission.{admission}
+use Rattle.lnfs_operations.specs.declared.numbers.TheConstants.{FILE_SYNC4}
 
 -- where the result of a COMPOUND is kept
 pub data Keeper : Type 0 where
@@ -113,6 +117,10 @@ plainly result it = success result Nowhere
 abbrev pub zeros : ℕ → List ℕ
 zeros n = replicate n 0
 
+-- no flags, and no delegation
+abbrev pub opened_reply : Opened → Reply
+opened_reply o = success (results.Open o.id o.info 0 o.set 0) Nowhere
+
 -- what an operation of the table answers
 abbrev pub row : Site → Sent → Op → Act Reply
 row site sent (ops.ExchangeId verifier owner flags implementation) p w =
@@ -140,9 +148,17 @@ row site sent (ops.Create what name given) p w = replied (ops.Create what name g
 row site sent (ops.Link name) p w = replied (ops.Link name) (λ info. success (results.Link info) Nowhere) (link site name p w)
 row site sent (ops.Remove name) p w = replied (ops.Remove name) (λ info. success (results.Remove info) Nowhere) (remove site name p w)
 row site sent (ops.Rename old new) p w = replied (ops.Rename old new) (λ renamed. success (results.Rename renamed.source renamed.target) Nowhere) (rename site old new p w)
-row site sent (ops.SetAttr id given) p w = replied (ops.SetAttr id given) (λ set. success (results.SetAttr 0 set) Nowhere) (set_attr site given p w)
+row site sent (ops.SetAttr id given) p w = replied (ops.SetAttr id given) (λ set. success (results.SetAttr 0 set) Nowhere) (set_attr site id given p w)
+row site sent (ops.Open seqid access deny client owner making claim) p w =
+    replied (ops.Open seqid access deny client owner making claim) opened_reply (open_file site (record { access = access; deny = deny; owner = owner; making = making; claim = claim }) p w)
+row site sent (ops.Close seqid id) p w = replied (ops.Close seqid id) (plainly (results.Close closed)) (close id p w)
+row site sent (ops.Read id offset count) p w = replied (ops.Read id offset count) (λ found. success (results.Read found.eof found.content) Nowhere) (read site (record { id = id; offset = offset; count = count }) p w)
+row site sent (ops.Write id offset stable content) p w =
+    replied (ops.Write id offset stable content) (λ many. success (results.Write many FILE_SYNC4 (zeros 8)) Nowhere) (write site (record { id = id; offset = offset; stable = stable; content = content }) p w)
+row site sent (ops.Commit offset count) p w = replied (ops.Commit offset count) (plainly (results.Commit (zeros 8))) (commit site p w)
 row site sent (ops.Outside number status) p w = replied (ops.Outside number status) (told_reply p.subject) (refuse p Outside status)
-row site sent op p w = replied op (told_reply p.subject) (refuse p Outside NFS4ERR_NOTSUPP)
+-- one that no further operation serves
+row site sent (ops.Extra number arguments) p w = replied (ops.Extra number arguments) (told_reply p.subject) (refuse p Outside NFS4ERR_NOTSUPP)
 
 -- ---- with further operations
 
@@ -163,39 +179,9 @@ abbrev pub admitted : {S : Type 0} → Op → Place → S → Option Refusal →
 admitted op p a None t = t
 admitted op p a (Some why) t = record { answer = failure op why; place = p; state = a }
 
-abbrev pub is_served : Further → Op → Bool
-is_served x (ops.ExchangeId verifier owner flags implementation) = true
-is_served x (ops.CreateSession args) = true
-is_served x (ops.DestroySession session) = true
-is_served x (ops.Sequence args) = true
-is_served x (ops.DestroyClientId client) = true
-is_served x (ops.ReclaimComplete one_fs) = true
-is_served x (ops.PutFh handle) = true
-is_served x ops.PutRootFh = true
-is_served x ops.GetFh = true
-is_served x ops.SaveFh = true
-is_served x ops.RestoreFh = true
-is_served x (ops.Lookup name) = true
-is_served x ops.LookupP = true
-is_served x (ops.GetAttr asked) = true
-is_served x (ops.Verify given) = true
-is_served x (ops.NVerify given) = true
-is_served x (ops.Access bits) = true
-is_served x (ops.ReadDir cookie verifier dircount maxcount asked) = true
-is_served x ops.ReadLink = true
-is_served x (ops.Create what name given) = true
-is_served x (ops.Link name) = true
-is_served x (ops.Remove name) = true
-is_served x (ops.Rename old new) = true
-is_served x (ops.SetAttr id given) = true
-is_served x (ops.Outside number status) = true
-is_served x (ops.Extra number arguments) = x.serves number
-is_served x op = false
-
 abbrev pub where_admitted : (X : Extra) → Compound → (so_far : List OpResult) → Op → Deed Reply (Both X.Row) → Deed Reply (Both X.Row)
 where_admitted X c so_far op deed p b = admitted op p b (admission X.grammar c so_far op p b.world) (deed p b)
 
--- An operation behind the results so far: the tests of place and of room, and then its own. One that isn't
--- served fails before all of them.
+-- An operation behind the results so far: the tests of place and of room, and then its own.
 abbrev pub operation : (X : Extra) → Site → Sent → Compound → (so_far : List OpResult) → Op → Deed Reply (Both X.Row)
-operation X site sent c so_far op = cond (is_served X.grammar op) (where_admitted X c so_far op (row_in X site sent op)) (row_in X site sent op)
+operation X site sent c so_far op = where_admitted X c so_far op (row_in X site sent op)

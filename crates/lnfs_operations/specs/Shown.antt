@@ -1,5 +1,5 @@
 -- The attributes of a node as it shows them to a subject (RFC 8881 section 5, RFC 7862 section 12.2).
-use Rattle.std.specs.Prelude.{ℕ, ◌+◌, ◌*◌, ◌^◌, ◌&&◌, Bool, cond, List, map, Option, Some, None}
+use Rattle.std.specs.Prelude.{ℕ, ◌+◌, ◌-◌, ◌*◌, ◌^◌, ◌&&◌, Bool, cond, map, Option, Some, None}
 use Rattle.std.specs.List.{list_any, range_with_len, fold}
 use Rattle.lnfs_outside.specs.declared.event.Moment as outside
 use Rattle.lnfs_attrs.specs.declared.bitmap.Bitmap.{Bitmap}
@@ -9,8 +9,9 @@ use Rattle.lnfs_attrs.specs.declared.view.LabelValue.{LabelValue}
 use Rattle.lnfs_attrs.specs.declared.view.View.{View}
 use Rattle.lnfs_attrs.specs.Bitmaps.{has_attr}
 use Rattle.lnfs_attrs.specs.Attributes.{table, inner_in, is_listed, is_answered, list_text}
-use Rattle.lnfs_world.specs.World.{Kind, File, Directory, SymbolicLink, Stored, Node, Entry}
+use Rattle.lnfs_world.specs.World.{Kind, File, Directory, SymbolicLink, Stored, Node, World}
 use Rattle.lnfs_world.specs.Names.{size_of, links_of}
+use Rattle.lnfs_world.specs.Usage.{bytes_used}
 use Rattle.lnfs_world.specs.Outcome.{Site, Place}
 use Rattle.lnfs_monitor.specs.Rules.{Read, allows}
 use Rattle.lnfs_operations.specs.Handles.{handle_of, file_id}
@@ -39,17 +40,17 @@ abbrev pub label_value : Stored → LabelValue
 label_value s = record { lfs = s.lfs; pi = s.pi; bytes = s.bytes }
 
 -- with the status of an entry whose attributes can't be read, which is 0 elsewhere
-abbrev pub shown : Site → Place → List Entry → Node → (error : ℕ) → View
-shown site p entries n error = record {
+abbrev pub shown : Site → Place → World → Node → (error : ℕ) → View
+shown site p w n error = record {
   kind = type_of n.kind;
   change = n.inner.change;
-  size = size_of entries n n.kind;
+  size = size_of w.entries n n.kind;
   handle = handle_of n.id;
   fileid = file_id n.id;
   mode = n.inner.mode;
-  links = links_of entries n n.kind;
-  avail = site.bytes p.subject;
-  used = 0;
+  links = links_of w.entries n n.kind;
+  avail = site.bytes p.subject - bytes_used w.nodes p.subject;
+  used = bytes_used w.nodes p.subject;
   access = time_of n.inner.accessed;
   metadata = time_of n.inner.metadata;
   modify = time_of n.inner.modified;

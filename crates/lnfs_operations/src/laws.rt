@@ -120,8 +120,8 @@ pub fn reading_is_lawful()
 pub fn making_is_lawful()
     ensures create_view { (site : Site) → IsPreorderWithBottom site.dom → (what : What) (name : List ℕ) (given : RawAttrs) → View site.dom (create site what name given) }
     ensures create_footprint { (site : Site) → IsPreorderWithBottom site.dom → (what : What) (name : List ℕ) (given : RawAttrs) → Footprint site.dom (create site what name given) }
-    ensures set_attr_view { (site : Site) → IsPreorderWithBottom site.dom → (given : RawAttrs) → View site.dom (set_attr site given) }
-    ensures set_attr_footprint { (site : Site) → IsPreorderWithBottom site.dom → (given : RawAttrs) → Footprint site.dom (set_attr site given) }
+    ensures set_attr_view { (site : Site) → IsPreorderWithBottom site.dom → (id : StateId) (given : RawAttrs) → View site.dom (set_attr site id given) }
+    ensures set_attr_footprint { (site : Site) → IsPreorderWithBottom site.dom → (id : StateId) (given : RawAttrs) → Footprint site.dom (set_attr site id given) }
 {}
 
 /// Each operation that gives, takes out and moves names looks only at what its subject sees and changes only what is of

@@ -32,7 +32,7 @@ use Rattle.lnfs_operations.specs.Identifiers.{client_named, session_named, sessi
 use Rattle.lnfs_operations.specs.Keeping.{next_sequence, with_slot, kept_in, kept_under, kept_of}
 use Rattle.lnfs_operations.specs.ReclaimComplete.{client_under, reclaimed}
 use Rattle.lnfs_operations.specs.Sequence.{Again, Sent, sequence}
-use Rattle.lnfs_operations.specs.Served.{Keeper, Nowhere, Slot, Record, Reply, row, row_in, further_reply, is_served, where_admitted, operation}
+use Rattle.lnfs_operations.specs.Served.{Keeper, Nowhere, Slot, Record, Reply, row, row_in, further_reply, operation}
 use Rattle.lnfs_operations.specs.SlotRule.{run_behind, run_all, result_of, keep_in, served}
 use Rattle.lnfs_operations.proofs.Chains.{demand_any, where_any, in_order_any}
 use Rattle.lnfs_operations.proofs.CreateSessionLaws.{created_any}
@@ -191,8 +191,13 @@ module _ (Q : ℕ → Kept → Type 0) where
     row_left site sent (ops.Remove name) = changed_left site sent (ops.Remove name) refl
     row_left site sent (ops.Rename old new) = changed_left site sent (ops.Rename old new) refl
     row_left site sent (ops.SetAttr id given) = changed_left site sent (ops.SetAttr id given) refl
+    row_left site sent (ops.Open seqid access deny client owner making claim) = changed_left site sent (ops.Open seqid access deny client owner making claim) refl
+    row_left site sent (ops.Close seqid id) = changed_left site sent (ops.Close seqid id) refl
+    row_left site sent (ops.Read id offset count) = read_left site sent (ops.Read id offset count) refl
+    row_left site sent (ops.Write id offset stable content) = changed_left site sent (ops.Write id offset stable content) refl
+    row_left site sent (ops.Commit offset count) = read_left site sent (ops.Commit offset count) refl
     row_left site sent (ops.Outside number status) = keeps
-    row_left site sent op = keeps
+    row_left site sent (ops.Extra number arguments) = keeps
 
   -- ---- the keeping of a result
 
@@ -245,9 +250,7 @@ module _ (Q : ℕ → Kept → Type 0) where
 
     operation_left : (so_far : List OpResult) (op : Op) (p : Place) (b : Both X.Row) → BothStand X.Fact site.dom p b → Keeps Q b.world → Keeps Q (operation X site sent c so_far op p b).state.world
     operation_left so_far op p b stands keeps =
-        let after = row_in_left op p b stands keeps in
-        chosen_left (is_served X.grammar op) (where_admitted X c so_far op (row_in X site sent op)) (row_in X site sent op) p b
-        (admitted_any (λ q (v : Both X.Row). Keeps Q v.world) op (admission X.grammar c so_far op p b.world) p b (row_in X site sent op p b) keeps after) after
+        admitted_any (λ q (v : Both X.Row). Keeps Q v.world) op (admission X.grammar c so_far op p b.world) p b (row_in X site sent op p b) keeps (row_in_left op p b stands keeps)
 
     behind_left : (os : List Op) (so_far : List OpResult) (p : Place) (b : Both X.Row) → BothStand X.Fact site.dom p b → Keeps Q b.world → Keeps Q (run_behind (operation X site sent c) so_far os p b).state.world
     unfolding run_behind
