@@ -43,6 +43,6 @@ module _ (site : Site) (given : RawAttrs) (p : Place) (w : World) (same : Bool �
 
   -- it is taken, and then
   pub given_taken : (o : Outcome (Answer (Unit {0}))) → None ≡ given_refusal given
-      → with_current p w (λ n. where_asked (asks_inner given.mask) site p (Read n.label) (same (bytes_eq given.list (list_text given.mask (shown site p w.entries n 0) true)))) ≡ o
+      → with_current p w (λ n. where_asked (asks_inner given.mask) site p (Read n.label) (same (bytes_eq given.list (list_text given.mask (shown site p w n 0) true)))) ≡ o
       → compared site given p w same ≡ o
   given_taken o e is = no_tests p (is_supported given.mask) (has_attr given.mask RDATTR_ERROR) NFS4ERR_ATTRNOTSUPP NFS4ERR_INVAL _ e ∙ is

@@ -99,20 +99,20 @@ module _ (site : Site) (p : Place) (w : World) (asked : Bitmap) (e : Entry) (n :
   hides_so : hidden ≡ (asks_inner asked && not (allows site.dom p.subject (Read n.label)))
   hides_so = hides ∙ ap (λ (b : Bool). asks_inner asked && not b) readable
 
-  pub seen_as : (error : ℕ) (view : View) → (hidden && not (has_attr asked RDATTR_ERROR)) ≡ false → error ≡ cond hidden NFS4ERR_ACCESS NFS4_OK → view ≡ shown site p w.entries n error
+  pub seen_as : (error : ℕ) (view : View) → (hidden && not (has_attr asked RDATTR_ERROR)) ≡ false → error ≡ cond hidden NFS4ERR_ACCESS NFS4_OK → view ≡ shown site p w n error
       → shown_entry site p w asked e (Some n) ≡ Some (entry_as asked e.cookie e.name inner view)
   seen_as error view no_bar status is =
       let shows : may_show site p asked n ≡ true = may (asks_inner asked) (has_attr asked RDATTR_ERROR) (allows site.dom p.subject (Read n.label)) hidden hides_so no_bar in
-      ap (λ (b : Bool). cond b (Some (entry_as asked e.cookie e.name (allows site.dom p.subject (Read n.label)) (shown site p w.entries n (error_of site p asked n)))) None) shows
-      ∙ ap (λ (b : Bool). Some (entry_as asked e.cookie e.name b (shown site p w.entries n (error_of site p asked n)))) (sym readable)
-      ∙ ap (λ (b : Bool). Some (entry_as asked e.cookie e.name inner (shown site p w.entries n (cond b NFS4ERR_ACCESS NFS4_OK)))) (sym hides_so)
-      ∙ ap (λ (status : ℕ). Some (entry_as asked e.cookie e.name inner (shown site p w.entries n status))) (sym status)
+      ap (λ (b : Bool). cond b (Some (entry_as asked e.cookie e.name (allows site.dom p.subject (Read n.label)) (shown site p w n (error_of site p asked n)))) None) shows
+      ∙ ap (λ (b : Bool). Some (entry_as asked e.cookie e.name b (shown site p w n (error_of site p asked n)))) (sym readable)
+      ∙ ap (λ (b : Bool). Some (entry_as asked e.cookie e.name inner (shown site p w n (cond b NFS4ERR_ACCESS NFS4_OK)))) (sym hides_so)
+      ∙ ap (λ (status : ℕ). Some (entry_as asked e.cookie e.name inner (shown site p w n status))) (sym status)
       ∙ ap (λ (v : View). Some (entry_as asked e.cookie e.name inner v)) (sym is)
 
   pub seen_not : hidden ≡ true → has_attr asked RDATTR_ERROR ≡ false → shown_entry site p w asked e (Some n) ≡ None
   seen_not is none =
       let shows : may_show site p asked n ≡ false = may_not (asks_inner asked) (has_attr asked RDATTR_ERROR) (allows site.dom p.subject (Read n.label)) hidden hides_so is none in
-      ap (λ (b : Bool). cond b (Some (entry_as asked e.cookie e.name (allows site.dom p.subject (Read n.label)) (shown site p w.entries n (error_of site p asked n)))) None) shows
+      ap (λ (b : Bool). cond b (Some (entry_as asked e.cookie e.name (allows site.dom p.subject (Read n.label)) (shown site p w n (error_of site p asked n)))) None) shows
 
 -- ---- the next entry
 

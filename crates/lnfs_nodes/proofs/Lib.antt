@@ -2,7 +2,7 @@ pub mod Tests
 pub mod Found
 mod ReadLinks
 mod Views
-mod Answering
+pub mod Answering
 mod Supported
 pub mod Written
 pub mod Refusing
@@ -10,21 +10,18 @@ mod Asking
 mod Comparisons
 mod Walking
 mod Entering
-mod Extended
+pub mod Extended
 mod ReadDirs
 pub mod NamedHeld
 pub mod Stages
-pub mod Labelling
-pub mod Creates
+mod Creates
 pub mod Inserts
-mod SetAttrs
 pub mod Done
-pub mod ValuesTold
-mod Raising
-mod RaiseAsked
+mod ValuesTold
 pub mod TreeSteps
 pub mod Acting
-pub mod OfNodes
+pub mod Leaving
+mod OfNodes
 pub mod Peeling
 mod LinkChecked
 pub mod Going

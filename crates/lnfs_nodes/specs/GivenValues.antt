@@ -76,12 +76,12 @@ with_status (Some status) next = Err (argument status)
 -- ---- what SETATTR sets
 
 pub record Wanted : Type 0 where
-  pub sized : Bool
+  pub size : Option ℕ
   pub mode : Option ℕ
   pub label : Option GivenLabel
 
 abbrev pub wanted_of : code_wanted.Wanted → Wanted
-wanted_of x = record { sized = x.sized; mode = x.mode; label = option_map given_of x.label }
+wanted_of x = record { size = x.size; mode = x.mode; label = option_map given_of x.label }
 
 -- a label is set alone
 abbrev pub wanted_in : Site → RawAttrs → Result Wanted chain.Refusal
@@ -90,7 +90,7 @@ wanted_in site given =
     tested (is_mode values.mode) NFS4ERR_INVAL (
     and_then (label_in site values.label) (λ label.
     tested (not (is_company values)) NFS4ERR_INVAL (
-    Ok (record { sized = is_some values.size; mode = values.mode; label = label })))))
+    Ok (record { size = values.size; mode = values.mode; label = label })))))
 
 -- ---- what CREATE makes
 

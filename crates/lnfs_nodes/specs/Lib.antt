@@ -7,6 +7,5 @@ pub mod Writes
 pub mod Acts
 pub mod Told
 pub mod GivenValues
-pub mod Setting
 pub mod Creating
 pub mod Renames

@@ -3,7 +3,7 @@ use Rattle.std.specs.Prelude.{ℕ, if◌then◌else◌, List, Option, Some, None
 use Rattle.std.specs.Option.{option_and_then}
 use Rattle.lnfs_arguments.specs.declared.stateid.Cinfo.{Cinfo}
 use Rattle.lnfs_arguments.specs.declared.statuses.TheConstants.{NFS4ERR_STALE, NFS4ERR_NOTDIR, NFS4ERR_NOENT, NFS4ERR_ISDIR, NFS4ERR_EXIST, NFS4ERR_NOTEMPTY, NFS4ERR_INVAL, NFS4ERR_MLINK, NFS4ERR_FBIG, NFS4ERR_NOSPC}
-use Rattle.lnfs_world.specs.World.{Id, Node, Entry, node_at, is_directory}
+use Rattle.lnfs_world.specs.World.{Id, Kind, File, Directory, SymbolicLink, Node, Entry, node_at, is_directory}
 use Rattle.lnfs_world.specs.Names.{entry_at}
 use Rattle.lnfs_world.specs.Outcome.{Place, Outcome}
 use Rattle.lnfs_operations.specs.declared.Gate.{Gate}
@@ -76,3 +76,12 @@ gone_at t (Some e) = option_and_then (gone t.entries e) (node_at t.nodes e.node)
 abbrev pub gone_from : Rows → Option Id → (name : List ℕ) → Option Gone
 gone_from t None name = None
 gone_from t (Some i) name = gone_at t (entry_at t.entries i name)
+
+-- the bytes that a node which goes leaves free at the level of its label: those of a file
+abbrev pub bytes_in : Kind → (size : ℕ) → ℕ
+bytes_in File size = size
+bytes_in Directory size = 0
+bytes_in SymbolicLink size = 0
+
+abbrev pub gone_bytes : Gone → ℕ
+gone_bytes g = bytes_in g.kind g.size

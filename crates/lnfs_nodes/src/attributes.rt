@@ -4,6 +4,7 @@ ghost use Rattle.std.specs.Option.{option_map};
 ghost use Rattle.lnfs_results.specs.declared.types.OpResult.TheVariants as results;
 ghost use Rattle.lnfs_monitor.specs.Rules.{Read};
 ghost use Rattle.lnfs_world.specs.World.{World};
+ghost use Rattle.lnfs_world.specs.Usage.{bytes_used};
 ghost use Rattle.lnfs_world.specs.Outcome.{Place};
 ghost use Rattle.lnfs_site.specs.Site.{site_of};
 ghost use Rattle.lnfs_operations.specs.Shown.{asks_inner};
@@ -13,7 +14,7 @@ ghost use Rattle.lnfs_nodes.specs.Trees.{with_tree, refusal_of, denial};
 ghost use Rattle.lnfs_nodes.specs.Writes.{Writes};
 
 use crate::held::{denied, node_held};
-use crate::showing::{put_answer, shown};
+use crate::showing::{Viewer, put_answer, shown};
 use lnfs_arguments::numbers::OP_GETATTR;
 use lnfs_arguments::statuses::NFS4_OK;
 use lnfs_attrs::{Bitmap, asks_inner};
@@ -50,13 +51,14 @@ pub fn get_attr(
     alloc: Global,
     site: &Site<'_>,
     tree: &Tree,
-    subject: Level,
+    viewer: Viewer,
     current: Option<NodeId>,
     asked: &Bitmap,
     out: &mut XdrWriter,
 ) -> Result<Result<(), Refusal>, AllocError>
+    requires used { viewer.used ≡ bytes_used tree.now.nodes viewer.subject.0 }
     ensures { IfOk result (λ answer. (p : Place) (rest : World) →
-        let at = record p { subject = subject.0; current = option_map id_of current } in
+        let at = record p { subject = viewer.subject.0; current = option_map id_of current } in
         let w = with_tree rest tree.now in
         Writes out.old out.new results.GetAttr at w w (get_attr (site_of site.now) asked.now at w) answer) }
 {
@@ -64,10 +66,10 @@ pub fn get_attr(
         Ok(held) => held,
         Err(why) => return Ok(Err(why)),
     };
-    if let Some(why) = inner_denied(site, subject, held.facts.label, asked) {
+    if let Some(why) = inner_denied(site, viewer.subject, held.facts.label, asked) {
         return Ok(Err(why));
     }
-    let view = shown(alloc, site, tree, subject, &held, NFS4_OK)?;
+    let view = shown(alloc, site, tree, viewer, &held, NFS4_OK)?;
     out.u32(OP_GETATTR)?;
     out.u32(NFS4_OK)?;
     put_answer(alloc, asked, true, &view, out)?;

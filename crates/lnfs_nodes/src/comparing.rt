@@ -2,6 +2,7 @@
 ghost use Rattle.std.specs.Prelude.{◌≡◌, Bool, IfOk};
 ghost use Rattle.std.specs.Option.{option_map};
 ghost use Rattle.lnfs_world.specs.World.{World};
+ghost use Rattle.lnfs_world.specs.Usage.{bytes_used};
 ghost use Rattle.lnfs_world.specs.Outcome.{Place, Outcome};
 ghost use Rattle.lnfs_site.specs.Site.{site_of};
 ghost use Rattle.lnfs_operations.specs.Chain.{Answer};
@@ -12,13 +13,12 @@ ghost use Rattle.lnfs_nodes.specs.Comparing.{given_refusal, where_compared};
 
 use crate::attributes::inner_denied;
 use crate::held::{namespace, node_held};
-use crate::showing::{is_whole, shown};
+use crate::showing::{Viewer, is_whole, shown};
 use lnfs_arguments::statuses::{
     NFS4_OK, NFS4ERR_ATTRNOTSUPP, NFS4ERR_INVAL, NFS4ERR_NOT_SAME, NFS4ERR_SAME,
 };
 use lnfs_attrs::numbers::RDATTR_ERROR;
 use lnfs_attrs::{Bitmap, RawAttrs, supported, write_attrs};
-use lnfs_calipso::Level;
 use lnfs_operations::{Gate, Refusal};
 use lnfs_site::Site;
 use lnfs_tree::{NodeId, Tree};
@@ -58,12 +58,13 @@ fn is_same(
     alloc: Global,
     site: &Site<'_>,
     tree: &Tree,
-    subject: Level,
+    viewer: Viewer,
     current: Option<NodeId>,
     given: &RawAttrs,
 ) -> Result<Result<bool, Refusal>, AllocError>
+    requires used { viewer.used ≡ bytes_used tree.now.nodes viewer.subject.0 }
     ensures { IfOk result (λ answer. (p : Place) (rest : World) (same : Bool → Outcome (Answer (Unit {0}))) →
-        let at = record p { subject = subject.0; current = option_map id_of current } in
+        let at = record p { subject = viewer.subject.0; current = option_map id_of current } in
         compared (site_of site.now) given.now at (with_tree rest tree.now) same ≡ where_compared at same answer) }
 {
     if let Some(why) = given_refused(given) {
@@ -73,10 +74,10 @@ fn is_same(
         Ok(held) => held,
         Err(why) => return Ok(Err(why)),
     };
-    if let Some(why) = inner_denied(site, subject, held.facts.label, &given.mask) {
+    if let Some(why) = inner_denied(site, viewer.subject, held.facts.label, &given.mask) {
         return Ok(Err(why));
     }
-    let view = shown(alloc, site, tree, subject, &held, NFS4_OK)?;
+    let view = shown(alloc, site, tree, viewer, &held, NFS4_OK)?;
     let mut list = XdrWriter::new(alloc);
     write_attrs(&given.mask, &view, true, &mut list)?;
     let list = list.into_bytes();
@@ -92,15 +93,16 @@ pub fn verify(
     alloc: Global,
     site: &Site<'_>,
     tree: &Tree,
-    subject: Level,
+    viewer: Viewer,
     current: Option<NodeId>,
     given: &RawAttrs,
 ) -> Result<Result<(), Refusal>, AllocError>
+    requires used { viewer.used ≡ bytes_used tree.now.nodes viewer.subject.0 }
     ensures { IfOk result (λ answer. (p : Place) (rest : World) →
-        let at = record p { subject = subject.0; current = option_map id_of current } in
+        let at = record p { subject = viewer.subject.0; current = option_map id_of current } in
         verify (site_of site.now) given.now at (with_tree rest tree.now) ≡ stays at (answered (λ it. it) answer)) }
 {
-    match is_same(alloc, site, tree, subject, current, given)? {
+    match is_same(alloc, site, tree, viewer, current, given)? {
         Ok(true) => Ok(Ok(())),
         Ok(false) => Ok(Err(namespace(NFS4ERR_NOT_SAME))),
         Err(why) => Ok(Err(why)),
@@ -116,15 +118,16 @@ pub fn nverify(
     alloc: Global,
     site: &Site<'_>,
     tree: &Tree,
-    subject: Level,
+    viewer: Viewer,
     current: Option<NodeId>,
     given: &RawAttrs,
 ) -> Result<Result<(), Refusal>, AllocError>
+    requires used { viewer.used ≡ bytes_used tree.now.nodes viewer.subject.0 }
     ensures { IfOk result (λ answer. (p : Place) (rest : World) →
-        let at = record p { subject = subject.0; current = option_map id_of current } in
+        let at = record p { subject = viewer.subject.0; current = option_map id_of current } in
         nverify (site_of site.now) given.now at (with_tree rest tree.now) ≡ stays at (answered (λ it. it) answer)) }
 {
-    match is_same(alloc, site, tree, subject, current, given)? {
+    match is_same(alloc, site, tree, viewer, current, given)? {
         Ok(true) => Ok(Err(namespace(NFS4ERR_SAME))),
         Ok(false) => Ok(Ok(())),
         Err(why) => Ok(Err(why)),

@@ -47,7 +47,7 @@ pub struct Created {
 }
 
 /// A refusal where a level has no room.
-fn no_space() -> Refusal
+pub fn no_space() -> Refusal
     ensures { refusal_of result ≡ record { gate = Quota; status = NFS4ERR_NOSPC } }
 {
     Refusal {
@@ -67,7 +67,7 @@ pub fn level_or(level: Level, given: &Option<GivenLabel>) -> Level
 }
 
 /// A label once more.
-fn copied(alloc: Global, label: &Stored) -> Result<Stored, AllocError>
+pub fn copied(alloc: Global, label: &Stored) -> Result<Stored, AllocError>
     ensures { IfOk result (λ copy. stored_of copy ≡ stored_of label.now) }
 {
     Ok(Stored {
@@ -78,7 +78,7 @@ fn copied(alloc: Global, label: &Stored) -> Result<Stored, AllocError>
 }
 
 /// The label of a directory once more, as it shows it.
-fn copied_of(
+pub fn copied_of(
     alloc: Global,
     site: &Site<'_>,
     tree: &Tree,
@@ -142,7 +142,7 @@ fn text_of(alloc: Global, what: &What) -> Result<Octets, AllocError>
 }
 
 /// What refuses a new name in a directory, of a node with a label.
-fn name_refused(
+pub fn name_refused(
     site: &Site<'_>,
     tree: &Tree,
     subject: Level,

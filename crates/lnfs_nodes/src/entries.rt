@@ -5,6 +5,7 @@ ghost use Rattle.lnfs_xdr.specs.Written.{Extends};
 ghost use Rattle.lnfs_attrs.specs.Sizes.{ViewFits};
 ghost use Rattle.lnfs_world.specs.World as world;
 ghost use Rattle.lnfs_world.specs.World.{Id, World, node_at};
+ghost use Rattle.lnfs_world.specs.Usage.{bytes_used};
 ghost use Rattle.lnfs_world.specs.Names.{entry_above, entries_above};
 ghost use Rattle.lnfs_world.specs.Outcome.{Place};
 ghost use Rattle.lnfs_monitor.specs.Rules.{Read, allows};
@@ -16,7 +17,7 @@ ghost use Rattle.lnfs_nodes.specs.Trees.{with_tree};
 ghost use Rattle.lnfs_nodes.specs.Walks.{entry_as, entry_written, Enters, Grows, Walks, IsListable, listed_in};
 
 use crate::held::Held;
-use crate::showing::{put_answer, shown};
+use crate::showing::{Viewer, put_answer, shown};
 use lnfs_arguments::statuses::{NFS4_OK, NFS4ERR_ACCESS};
 use lnfs_attrs::numbers::RDATTR_ERROR;
 use lnfs_attrs::{Bitmap, View, asks_inner};
@@ -32,7 +33,7 @@ use std::alloc::{AllocError, Global};
 pub struct Lister<'a> {
     pub alloc: Global,
     pub site: &'a Site<'a>,
-    pub subject: Level,
+    pub viewer: Viewer,
     pub asked: &'a Bitmap,
 }
 
@@ -90,29 +91,23 @@ fn error_of(is_hidden: bool) -> u32
 /// What a node in a directory shows. Where its label isn't dominated, inner attributes are left out and rdattr_error
 /// tells why, if it is asked; if it isn't and they are, the node may not be shown.
 fn node_seen(lister: &Lister<'_>, tree: &Tree, node: NodeId) -> Result<Option<Seen>, AllocError>
+    requires used { lister.now.viewer.used ≡ bytes_used tree.now.nodes lister.now.viewer.subject.0 }
     ensures shown { IfOk result (λ seen. (p : Place) (rest : World) (e : world.Entry) →
-        shown_entry (site_of lister.now.site.now) (record p { subject = lister.now.subject.0 }) (with_tree rest tree.now) lister.now.asked.now e (node_at tree.now.nodes (id_of node))
+        shown_entry (site_of lister.now.site.now) (record p { subject = lister.now.viewer.subject.0 }) (with_tree rest tree.now) lister.now.asked.now e (node_at tree.now.nodes (id_of node))
         ≡ option_map (λ s. entry_as lister.now.asked.now e.cookie e.name s.inner s.view) seen) }
     ensures fits { IfOk result (λ seen. IfSome seen (λ s. ViewFits s.view)) }
 {
     let Some(facts) = tree.node(node) else {
         return Ok(None);
     };
-    let inner = may_read(lister.site, lister.subject, facts.label);
+    let inner = may_read(lister.site, lister.viewer.subject, facts.label);
     let hidden = is_hidden(lister.asked, inner);
     if hidden && !lister.asked.has(RDATTR_ERROR) {
         return Ok(None);
     }
     let held = Held { id: node, facts };
     let error = error_of(hidden);
-    let view = shown(
-        lister.alloc,
-        lister.site,
-        tree,
-        lister.subject,
-        &held,
-        error,
-    )?;
+    let view = shown(lister.alloc, lister.site, tree, lister.viewer, &held, error)?;
     Ok(Some(Seen { inner, view }))
 }
 
@@ -145,9 +140,10 @@ fn put_entry(
     room: usize,
     out: &mut XdrWriter,
 ) -> Result<Entered, AllocError>
+    requires used { lister.now.viewer.used ≡ bytes_used tree.now.nodes lister.now.viewer.subject.0 }
     ensures entered { IfOk result (λ entered. (p : Place) (rest : World) (directory : Id) →
         let e = row_of_entry directory entry.now in
-        Enters out.old out.new room (shown_entry (site_of lister.now.site.now) (record p { subject = lister.now.subject.0 }) (with_tree rest tree.now) lister.now.asked.now e (node_at tree.now.nodes e.node)) entered) }
+        Enters out.old out.new room (shown_entry (site_of lister.now.site.now) (record p { subject = lister.now.viewer.subject.0 }) (with_tree rest tree.now) lister.now.asked.now e (node_at tree.now.nodes e.node)) entered) }
     ensures grows { IfOk result (λ entered. Grows out.old out.new room entered) }
     ensures extends { IfOk result (λ entered. Extends out.old out.new) }
 {
@@ -188,8 +184,9 @@ pub fn put_entries(
     room: usize,
     out: &mut XdrWriter,
 ) -> Result<Walked, AllocError>
+    requires used { lister.now.viewer.used ≡ bytes_used tree.now.nodes lister.now.viewer.subject.0 }
     ensures walked { IfOk result (λ walked. (p : Place) (rest : World) → IsListable tree.now (id_of dir) →
-        Walks out.old out.new (listed_in (site_of lister.now.site.now) (record p { subject = lister.now.subject.0 }) (with_tree rest tree.now) lister.now.asked.now (id_of dir) cookie room) walked) }
+        Walks out.old out.new (listed_in (site_of lister.now.site.now) (record p { subject = lister.now.viewer.subject.0 }) (with_tree rest tree.now) lister.now.asked.now (id_of dir) cookie room) walked) }
     ensures extends { IfOk result (λ walked. Extends out.old out.new) }
 {
     let begin = out.mark();

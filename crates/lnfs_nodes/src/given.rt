@@ -34,8 +34,7 @@ pub struct GivenLabel {
 /// What SETATTR is to set.
 #[derive(Debug, Drop)]
 pub struct Wanted {
-    /// Whether a size is given.
-    pub sized: bool,
+    pub size: Option<u64>,
     pub mode: Option<u32>,
     pub label: Option<GivenLabel>,
 }
@@ -151,11 +150,10 @@ pub fn read_wanted(
         Ok(label) => label,
         Err(why) => return Ok(Err(why)),
     };
-    let sized = size.is_some();
-    if is_label && (sized || mode.is_some()) {
+    if is_label && (size.is_some() || mode.is_some()) {
         return Ok(Err(argument(NFS4ERR_INVAL)));
     }
-    Ok(Ok(Wanted { sized, mode, label }))
+    Ok(Ok(Wanted { size, mode, label }))
 }
 
 /// The status that refuses what is to be made: NFS4ERR_INVAL of a link without a text, NFS4ERR_NAMETOOLONG of one whose

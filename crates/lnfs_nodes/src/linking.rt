@@ -1,5 +1,5 @@
 //! LINK (RFC 8881 section 18.9).
-ghost use Rattle.std.specs.Prelude.{◌≡◌, [], IfOk, OnErr};
+ghost use Rattle.std.specs.Prelude.{◌≡◌, IfOk, OnErr};
 ghost use Rattle.lnfs_world.specs.World.{World};
 ghost use Rattle.lnfs_world.specs.Facts.{NodeFacts};
 ghost use Rattle.lnfs_world.specs.Outcome.{Place};
@@ -70,7 +70,7 @@ pub fn link(
     name: &[u8],
 ) -> Result<Result<Info, Refusal>, AllocError>
     requires facts { NodeFacts (site_of site.now).dom tree.old.nodes tree.old.entries tree.old.lasts }
-    ensures acts { IfOk result (λ answer. (p : Place) (rest : World) → rest.opens ≡ [] →
+    ensures acts { IfOk result (λ answer. (p : Place) (rest : World) →
         let at = placed p caller.now in
         Acts (λ r. cinfo_of r) at rest tree.old tree.new (operation.link (site_of site.now) name.now at (with_tree rest tree.old)) answer) }
     ensures memory { OnErr result (tree.new ≡ tree.old) }

@@ -5,6 +5,7 @@ ghost use Rattle.lnfs_xdr.specs.Canon.{flag};
 ghost use Rattle.lnfs_xdr.specs.Written.{Extends};
 ghost use Rattle.lnfs_monitor.specs.declared.rule.Rule.TheVariants.{M1};
 ghost use Rattle.lnfs_world.specs.World.{Node, World, entry_order};
+ghost use Rattle.lnfs_world.specs.Usage.{bytes_used};
 ghost use Rattle.lnfs_world.specs.Outcome.{Place};
 ghost use Rattle.lnfs_world.specs.Rows.{Rising};
 ghost use Rattle.lnfs_site.specs.Site.{site_of};
@@ -19,10 +20,10 @@ ghost use Rattle.lnfs_nodes.specs.Writes.{Writes};
 use crate::accessed::set_accessed;
 use crate::entries::{Lister, Walked, put_entries};
 use crate::held::{denied, namespace, node_held};
+use crate::showing::Viewer;
 use lnfs_arguments::numbers::OP_READDIR;
 use lnfs_arguments::statuses::{NFS4_OK, NFS4ERR_ACCESS, NFS4ERR_NOTDIR, NFS4ERR_TOOSMALL};
 use lnfs_attrs::Bitmap;
-use lnfs_calipso::Level;
 use lnfs_monitor::{Question, Rule};
 use lnfs_operations::numbers::EMPTY_LISTING;
 use lnfs_operations::{Gate, Refusal};
@@ -86,8 +87,9 @@ fn put_listing(
     size: u32,
     out: &mut XdrWriter,
 ) -> Result<Result<(), Refusal>, AllocError>
+    requires used { lister.now.viewer.used ≡ bytes_used tree.now.nodes lister.now.viewer.subject.0 }
     ensures lists { IfOk result (λ answer. (p : Place) (rest : World) (d : Node) → IsListable tree.now (id_of dir) →
-        let at = record p { subject = lister.now.subject.0 } in
+        let at = record p { subject = lister.now.viewer.subject.0 } in
         let found = listed_in (site_of lister.now.site.now) at (with_tree rest tree.now) lister.now.asked.now (id_of dir) cookie (size - EMPTY_LISTING) in
         Lists out.old out.new (finished (site_of lister.now.site.now) at d size found).answer answer) }
     ensures extends { IfOk result (λ answer. Extends out.old out.new) }
@@ -119,14 +121,15 @@ pub fn read_dir(
     alloc: Global,
     site: &Site<'_>,
     tree: &mut Tree,
-    subject: Level,
+    viewer: Viewer,
     moment: Moment,
     current: Option<NodeId>,
     args: &Listing<'_>,
     out: &mut XdrWriter,
 ) -> Result<Result<(), Refusal>, AllocError>
+    requires used { viewer.used ≡ bytes_used tree.old.nodes viewer.subject.0 }
     ensures writes { IfOk result (λ answer. (p : Place) (rest : World) → Rising entry_order tree.old.entries →
-        let at = record p { subject = subject.0; moment = moment; current = option_map id_of current } in
+        let at = record p { subject = viewer.subject.0; moment = moment; current = option_map id_of current } in
         let arguments : operation.Arguments = record { cookie = args.now.cookie; maxcount = args.now.maxcount; asked = args.now.asked.now } in
         Writes out.old out.new listing_result at (with_tree rest tree.old) (with_tree rest tree.new) (operation.read_dir (site_of site.now) arguments at (with_tree rest tree.old)) answer) }
     ensures kept { OnErr result (tree.new ≡ tree.old) }
@@ -139,13 +142,13 @@ pub fn read_dir(
         return Ok(Err(namespace(NFS4ERR_NOTDIR)));
     }
     let label = dir.facts.label;
-    if let Some(why) = denied(site, subject, &Question::Read { label }) {
+    if let Some(why) = denied(site, viewer.subject, &Question::Read { label }) {
         return Ok(Err(why));
     }
     let lister = Lister {
         alloc,
         site,
-        subject,
+        viewer,
         asked: args.asked,
     };
     let begin = out.mark();
@@ -158,7 +161,7 @@ pub fn read_dir(
         out,
     )? {
         Ok(()) => {
-            set_accessed(tree, subject, moment, &dir);
+            set_accessed(tree, viewer.subject, moment, &dir);
             Ok(Ok(()))
         }
         Err(why) => {

@@ -1,5 +1,5 @@
 //! REMOVE (RFC 8881 section 18.25).
-ghost use Rattle.std.specs.Prelude.{◌≡◌, [], Some, IfOk};
+ghost use Rattle.std.specs.Prelude.{◌≡◌, Some, IfOk};
 ghost use Rattle.std.specs.Option.{option_map};
 ghost use Rattle.lnfs_world.specs.World.{World};
 ghost use Rattle.lnfs_world.specs.Facts.{NodeFacts};
@@ -9,15 +9,15 @@ ghost use Rattle.lnfs_operations.specs.Remove as operation;
 ghost use Rattle.lnfs_tree.specs.Rows.{id_of};
 ghost use Rattle.lnfs_tree.specs.Changed.{gone_of, remove_of};
 ghost use Rattle.lnfs_nodes.specs.Trees.{with_tree};
-ghost use Rattle.lnfs_nodes.specs.Acts.{placed, checked, Acts};
-ghost use Rattle.lnfs_nodes.specs.Told.{follows, cinfo_of, gone_from};
+ghost use Rattle.lnfs_nodes.specs.Acts.{placed, checked, ActsLeaving, without_opens};
+ghost use Rattle.lnfs_nodes.specs.Told.{follows, cinfo_of, gone_from, gone_bytes};
 
 use crate::calls::{Caller, check_allowed, check_directory, check_name, node_named, refused_by};
 use crate::held::node_held;
 use lnfs_monitor::Question;
 use lnfs_operations::Refusal;
 use lnfs_site::Site;
-use lnfs_tree::{Dropped, Info, NodeId, Tree};
+use lnfs_tree::{Dropped, Info, NodeId, NodeKind, Tree};
 
 /// The tests that come before the tree's own, and the directory of the name.
 fn check_remove(
@@ -43,7 +43,7 @@ fn check_remove(
 }
 
 /// Takes a name out of the current directory, and its node with the last one. Answers the change numbers of the
-/// directory, and the node that went.
+/// directory, and the node that went: its opens go with it.
 ///
 /// # Errors
 ///
@@ -58,14 +58,24 @@ pub fn remove(
     name: &[u8],
 ) -> Result<(Info, Option<Dropped>), Refusal>
     requires facts { NodeFacts (site_of site.now).dom tree.old.nodes tree.old.entries tree.old.lasts }
-    ensures acts { (p : Place) (rest : World) → rest.opens ≡ [] →
+    ensures acts { (p : Place) (rest : World) →
         let at = placed p caller.now in
-        Acts (λ r. cinfo_of r.0) at rest tree.old tree.new (operation.remove (site_of site.now) name.now at (with_tree rest tree.old)) result }
+        ActsLeaving (λ r. cinfo_of r.0) (λ r. at) (λ r. without_opens (option_map gone_of r.1)) at rest tree.old tree.new (operation.remove (site_of site.now) name.now at (with_tree rest tree.old)) result }
     ensures gone { IfOk result (λ r. option_map gone_of r.1 ≡ gone_from tree.old (option_map id_of caller.now.current) name.now) }
 {
     let dir = check_remove(site, tree, caller, name)?;
     match tree.remove(dir, name, caller.moment) {
         Ok(done) => Ok(done),
         Err(error) => Err(refused_by(error)),
+    }
+}
+
+/// The bytes that a node which went leaves free at the level of its label: those of a file.
+pub fn gone_bytes(gone: &Dropped) -> u64
+    ensures { result ≡ gone_bytes (gone_of gone.now) }
+{
+    match gone.kind {
+        NodeKind::File => gone.size,
+        NodeKind::Dir | NodeKind::Link => 0,
     }
 }

@@ -1,5 +1,5 @@
 //! RENAME (RFC 8881 section 18.26).
-ghost use Rattle.std.specs.Prelude.{◌≡◌, true, [], Some, IfOk, IfErr, OnErr};
+ghost use Rattle.std.specs.Prelude.{◌≡◌, true, Some, IfOk, IfErr, OnErr};
 ghost use Rattle.std.specs.Option.{option_map};
 ghost use Rattle.lnfs_world.specs.World.{Node, World, is_directory};
 ghost use Rattle.lnfs_world.specs.Names.{entry_at};
@@ -11,7 +11,7 @@ ghost use Rattle.lnfs_operations.specs.Rename as operation;
 ghost use Rattle.lnfs_tree.specs.Rows.{id_of};
 ghost use Rattle.lnfs_tree.specs.Changed.{gone_of, rename_of};
 ghost use Rattle.lnfs_nodes.specs.Trees.{with_tree, Holds};
-ghost use Rattle.lnfs_nodes.specs.Acts.{failed, placed, checked, Acts};
+ghost use Rattle.lnfs_nodes.specs.Acts.{failed, placed, checked, ActsLeaving, without_opens};
 ghost use Rattle.lnfs_nodes.specs.Told.{follows};
 ghost use Rattle.lnfs_nodes.specs.Renames.{with_ends, AreEnds, renamed_of, giving_way, gone_past};
 
@@ -100,7 +100,8 @@ fn check_rename(
 }
 
 /// Moves a name of the saved directory to a name of the current one; what has that name gives way, but where both name
-/// one node, nothing is done. Answers the change numbers of both directories, and the node that went.
+/// one node, nothing is done. Answers the change numbers of both directories, and the node that went: its opens go with
+/// it.
 ///
 /// # Errors
 ///
@@ -120,9 +121,9 @@ pub fn rename(
     new: &[u8],
 ) -> Result<Result<(Info, Info, Option<Dropped>), Refusal>, AllocError>
     requires facts { NodeFacts (site_of site.now).dom tree.old.nodes tree.old.entries tree.old.lasts }
-    ensures acts { IfOk result (λ answer. (p : Place) (rest : World) → rest.opens ≡ [] →
+    ensures acts { IfOk result (λ answer. (p : Place) (rest : World) →
         let at = placed p caller.now in
-        Acts (λ r. renamed_of r.0 r.1) at rest tree.old tree.new (operation.rename (site_of site.now) old.now new.now at (with_tree rest tree.old)) answer) }
+        ActsLeaving (λ r. renamed_of r.0 r.1) (λ r. at) (λ r. without_opens (option_map gone_of r.2)) at rest tree.old tree.new (operation.rename (site_of site.now) old.now new.now at (with_tree rest tree.old)) answer) }
     ensures gone { IfOk result (λ answer. IfOk answer (λ r. option_map gone_of r.2 ≡ gone_past tree.old (option_map id_of caller.now.saved) old.now (option_map id_of caller.now.current) new.now)) }
     ensures memory { OnErr result (tree.new ≡ tree.old) }
 {

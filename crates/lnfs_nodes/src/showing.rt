@@ -5,13 +5,14 @@ ghost use Rattle.lnfs_attrs.specs.Attributes.{is_listed, is_answered};
 ghost use Rattle.lnfs_attrs.specs.Bitmaps.{BitmapFits};
 ghost use Rattle.lnfs_attrs.specs.Sizes.{ViewFits};
 ghost use Rattle.lnfs_arguments.specs.SharedTexts.{attrs_text};
-ghost use Rattle.lnfs_world.specs.World.{Node};
+ghost use Rattle.lnfs_world.specs.World.{Node, World};
+ghost use Rattle.lnfs_world.specs.Usage.{bytes_used};
 ghost use Rattle.lnfs_world.specs.Outcome.{Place};
 ghost use Rattle.lnfs_site.specs.Site.{site_of};
 ghost use Rattle.lnfs_operations.specs.Handles.{file_id};
 ghost use Rattle.lnfs_operations.specs.Shown.{type_of, time_of, label_shown, label_value, shown, bitmap_of, answer_to};
 ghost use Rattle.lnfs_tree.specs.Rows.{id_of, kind_of, stored_of};
-ghost use Rattle.lnfs_nodes.specs.Trees.{Holds};
+ghost use Rattle.lnfs_nodes.specs.Trees.{with_tree, Holds};
 
 use crate::handles::handle_of;
 use crate::held::{Held, denied};
@@ -32,6 +33,13 @@ const NF4REG: u32 = 1;
 const NF4DIR: u32 = 2;
 
 const NF4LNK: u32 = 5;
+
+/// Who looks, and how many bytes the files at the level of who looks have.
+#[derive(Clone, Copy, Debug)]
+pub struct Viewer {
+    pub subject: Level,
+    pub used: u64,
+}
 
 fn type_of(kind: NodeKind) -> u32
     ensures { result ≡ type_of (kind_of kind) }
@@ -90,19 +98,21 @@ fn label_value(alloc: Global, label: &Stored) -> Result<LabelValue, AllocError>
     })
 }
 
-/// What a node shows of itself to a subject, with the status of an entry that can't be read.
+/// What a node shows of itself to who looks, with the status of an entry that can't be read.
 pub fn shown(
     alloc: Global,
     site: &Site<'_>,
     tree: &Tree,
-    subject: Level,
+    viewer: Viewer,
     held: &Held,
     error: u32,
 ) -> Result<View, AllocError>
-    ensures view { IfOk result (λ view. (n : Node) (p : Place) → Holds tree.now n held.now →
-        view ≡ shown (site_of site.now) (record p { subject = subject.0 }) tree.now.entries n error) }
+    requires used { viewer.used ≡ bytes_used tree.now.nodes viewer.subject.0 }
+    ensures view { IfOk result (λ view. (n : Node) (p : Place) (rest : World) → Holds tree.now n held.now →
+        view ≡ shown (site_of site.now) (record p { subject = viewer.subject.0 }) (with_tree rest tree.now) n error) }
     ensures fits { IfOk result ViewFits }
 {
+    let Viewer { subject, used } = viewer;
     let facts = &held.facts;
     let label = label_value(alloc, label_shown(site, tree, subject, held))?;
     Ok(View {
@@ -113,8 +123,8 @@ pub fn shown(
         fileid: file_id(held.id),
         mode: facts.mode,
         links: facts.links,
-        avail: site.bytes_limit(subject),
-        used: 0,
+        avail: site.bytes_limit(subject).saturating_sub(used),
+        used,
         access: time_of(facts.access),
         metadata: time_of(facts.metadata),
         modify: time_of(facts.modify),

@@ -146,6 +146,15 @@ impl Quota {
         row.bytes = row.bytes - old + new;
     }
 
+    /// The bytes of a file of a level go.
+    pub fn credit_bytes(&mut self, level: Level, bytes: u64)
+        requires known { level.0 < length self.old }
+        requires held { bytes ≤ (row_at self.old level.0).bytes }
+        ensures { self.new ≡ resized self.old level.0 bytes 0 }
+    {
+        self.rows[level.0 as usize].bytes -= bytes;
+    }
+
     /// The bytes of a file go from one level to another, which takes them whatever its limit. Both may be the same level.
     pub fn move_up(&mut self, from: Level, to: Level, bytes: u64)
         requires from_known { from.0 < length self.old }

@@ -44,6 +44,9 @@ fn three_levels(rt: HostRuntime) -> Result<(), Fail> {
     for (level, used) in [(0, (1, 0)), (1, (1, 60)), (2, (0, 0))] {
         assert_eq!(rt; quota.used(Level(level)), used);
     }
+    // A file goes.
+    quota.credit_bytes(Level(1), 60);
+    assert_eq!(rt; quota.used(Level(1)), (1, 0));
     Ok(())
 }
 

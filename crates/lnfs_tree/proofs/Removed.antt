@@ -239,7 +239,7 @@ module _ (ns : List Node) (lasts : List (Level × ℕ)) (i : Id) (name : List �
           still j = record { answer = (changed (row_of n), None); changes = Touch i (names_changed at (row_of n).inner) ∷ Touch j (attributes_changed at (row_of m).inner) ∷ Unlink e ∷ [] }
 
           pub told-fewer : remove_of rows i name at ≡ Ok (still (id_of p.node))
-          told-fewer = removes ∙ ap (λ (b : Bool). Ok (record { answer = (changed (row_of n), cond b None (Some (record { node = id_of m.id; label = m.label.0; size = size_of es (row_of m) (kind_of m.kind) }))); changes = Touch i (names_changed at (row_of n).inner) ∷ cond b (Touch (id_of m.id) (attributes_changed at (row_of m).inner) ∷ Unlink e ∷ []) (Drop e ∷ []) })) (other ∙ more) ∙ ap (λ (j : Id). Ok (still j)) (sym own_child)
+          told-fewer = removes ∙ ap (λ (b : Bool). Ok (record { answer = (changed (row_of n), cond b None (Some (record { node = id_of m.id; kind = kind_of m.kind; label = m.label.0; size = size_of es (row_of m) (kind_of m.kind) }))); changes = Touch i (names_changed at (row_of n).inner) ∷ cond b (Touch (id_of m.id) (attributes_changed at (row_of m).inner) ∷ Unlink e ∷ []) (Drop e ∷ []) })) (other ∙ more) ∙ ap (λ (j : Id). Ok (still j)) (sym own_child)
 
           pub ran-fewer : rows_in fewer lasts ≡ ran (still (id_of p.node)).changes rows
           ran-fewer = λ k. record { nodes = rows-fewer k; entries = entries-fewer k; lasts = map last_row lasts }
@@ -282,14 +282,14 @@ module _ (ns : List Node) (lasts : List (Level × ℕ)) (i : Id) (name : List �
               (λ j differs. ap (λ (b : Bool). cond b None (ties ns j)) (id_turned (id_of p.node) j ∙ differs)))
 
           abbrev went : Doing (Info × Option Gone)
-          went = record { answer = (changed (row_of n), Some (record { node = id_of m.id; label = m.label.0; size = size_of es (row_of m) (kind_of m.kind) })); changes = Touch i (names_changed at (row_of n).inner) ∷ Drop e ∷ [] }
+          went = record { answer = (changed (row_of n), Some (record { node = id_of m.id; kind = kind_of m.kind; label = m.label.0; size = size_of es (row_of m) (kind_of m.kind) })); changes = Touch i (names_changed at (row_of n).inner) ∷ Drop e ∷ [] }
 
           pub told-gone : remove_of rows i name at ≡ Ok went
-          told-gone = removes ∙ ap (λ (b : Bool). Ok (record { answer = (changed (row_of n), cond b None (Some (record { node = id_of m.id; label = m.label.0; size = size_of es (row_of m) (kind_of m.kind) }))); changes = Touch i (names_changed at (row_of n).inner) ∷ cond b (Touch (id_of m.id) (attributes_changed at (row_of m).inner) ∷ Unlink e ∷ []) (Drop e ∷ []) })) (other ∙ last)
+          told-gone = removes ∙ ap (λ (b : Bool). Ok (record { answer = (changed (row_of n), cond b None (Some (record { node = id_of m.id; kind = kind_of m.kind; label = m.label.0; size = size_of es (row_of m) (kind_of m.kind) }))); changes = Touch i (names_changed at (row_of n).inner) ∷ cond b (Touch (id_of m.id) (attributes_changed at (row_of m).inner) ∷ Unlink e ∷ []) (Drop e ∷ []) })) (other ∙ last)
 
           pub ran-gone : rows_in gone_out lasts ≡ ran went.changes rows
           ran-gone = λ k. record { nodes = rows-gone k; entries = entries-gone k; lasts = map last_row lasts }
 
           -- what is told of it
-          pub answer-gone : (info : Info) (told : Dropped) → info ≡ info_of n → told ≡ record { node = m.id; label = m.label; size = size_in m (kind_of m.kind) } → (info, option_map gone_of (Some told)) ≡ went.answer
-          answer-gone info told is tells = (λ k. (is k, Some (gone_of (tells k)))) ∙ ap (λ (size : ℕ). (info_of n, Some (record { node = id_of m.id; label = m.label.0; size = size }))) (size_is ns rising tree m (kind_of m.kind) refl (ap (node_at ns) (sym own_child) ∙ sym child))
+          pub answer-gone : (info : Info) (told : Dropped) → info ≡ info_of n → told ≡ record { node = m.id; kind = m.kind; label = m.label; size = size_in m (kind_of m.kind) } → (info, option_map gone_of (Some told)) ≡ went.answer
+          answer-gone info told is tells = (λ k. (is k, Some (gone_of (tells k)))) ∙ ap (λ (size : ℕ). (info_of n, Some (record { node = id_of m.id; kind = kind_of m.kind; label = m.label.0; size = size }))) (size_is ns rising tree m (kind_of m.kind) refl (ap (node_at ns) (sym own_child) ∙ sym child))

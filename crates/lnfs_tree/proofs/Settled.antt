@@ -327,12 +327,12 @@ module _ (ns : List Node) (lasts : List (Level × ℕ)) (rising : Rising node_or
         by_links true is = ran-less is (m.links - 1) (one_less_of is)
         by_links false is = ran-out is
 
-    pub gone-lost : (told : Option Dropped) → told ≡ cond (nat_lt 1 m.links) None (Some (record { node = m.id; label = m.label; size = size_in m (kind_of m.kind) })) → option_map gone_of told ≡ gone es other (row_of m)
+    pub gone-lost : (told : Option Dropped) → told ≡ cond (nat_lt 1 m.links) None (Some (record { node = m.id; kind = m.kind; label = m.label; size = size_in m (kind_of m.kind) })) → option_map gone_of told ≡ gone es other (row_of m)
     gone-lost told is =
         ap (option_map gone_of) is
         ∙ by_links (nat_lt 1 m.links)
-        ∙ (λ k. cond (sym has_other k) None (Some (record { node = id_of m.id; label = m.label.0; size = size_is ns rising tree m (kind_of m.kind) refl (ap (node_at ns) (sym (found_id i ns m (sym replaced))) ∙ sym replaced) k })))
+        ∙ (λ k. cond (sym has_other k) None (Some (record { node = id_of m.id; kind = kind_of m.kind; label = m.label.0; size = size_is ns rising tree m (kind_of m.kind) refl (ap (node_at ns) (sym (found_id i ns m (sym replaced))) ∙ sym replaced) k })))
       where
-        by_links : (l : Bool) → option_map gone_of (cond l None (Some (record { node = m.id; label = m.label; size = size_in m (kind_of m.kind) }))) ≡ cond l None (Some (record { node = id_of m.id; label = m.label.0; size = size_in m (kind_of m.kind) }))
+        by_links : (l : Bool) → option_map gone_of (cond l None (Some (record { node = m.id; kind = m.kind; label = m.label; size = size_in m (kind_of m.kind) }))) ≡ cond l None (Some (record { node = id_of m.id; kind = kind_of m.kind; label = m.label.0; size = size_in m (kind_of m.kind) }))
         by_links true = refl
         by_links false = refl

@@ -4,7 +4,7 @@ use Rattle.lnfs_words.specs.Words.{is_empty}
 use Rattle.lnfs_calipso.specs.Label.{IsPreorderWithBottom}
 use Rattle.lnfs_outside.specs.declared.event.Moment.{Moment}
 use Rattle.lnfs_world.specs.declared.numbers.TheConstants.{FIRST_COOKIE, MOST_NAMES}
-use Rattle.lnfs_world.specs.World.{Id, Stored as StoredLabel, Inner, Node, Entry as NameRow, same_id, node_at, is_directory}
+use Rattle.lnfs_world.specs.World.{Id, Kind, Stored as StoredLabel, Inner, Node, Entry as NameRow, same_id, node_at, is_directory}
 use Rattle.lnfs_world.specs.Names.{entry_at, names_of, size_of}
 use Rattle.lnfs_world.specs.Tree.{parent_of, holds_names, has_other_name, is_above}
 use Rattle.lnfs_world.specs.Change.{Change, Make, Touch, Relabel, Link, Move, apply_all}
@@ -58,14 +58,15 @@ info_of n = record { before = n.change; after = stepped n.change }
 -- a node that goes with its last name
 pub record Gone : Type 0 where
   pub node : Id
+  pub kind : Kind
   pub label : ℕ
   pub size : ℕ
 
 abbrev pub gone_of : Dropped → Gone
-gone_of d = record { node = id_of d.node; label = d.label.0; size = d.size }
+gone_of d = record { node = id_of d.node; kind = kind_of d.kind; label = d.label.0; size = d.size }
 
 abbrev pub gone : List NameRow → NameRow → Node → Option Gone
-gone entries e n = cond (has_other_name entries e) None (Some (record { node = n.id; label = n.label; size = size_of entries n n.kind }))
+gone entries e n = cond (has_other_name entries e) None (Some (record { node = n.id; kind = n.kind; label = n.label; size = size_of entries n n.kind }))
 
 -- ---- look-ups
 

@@ -14,16 +14,16 @@ use Rattle.lnfs_nodes.proofs.attributes.get_attr.Goals as goal
 
 pub returns-in-Some : goal.returns-in-Some
 returns-in-Some c = λ p rest.
-    let at : Place = record p { subject = c.args.subject.0; current = option_map id_of c.args.current } in
+    let at : Place = record p { subject = c.args.viewer.subject.0; current = option_map id_of c.args.current } in
     refused_writes _ _ _ at (with_tree rest c.args.tree.now) _ c.in-Some.why
     (inner_refused (site_of c.args.site.now) at rest c.args.tree.now c.args.asked.now c.in-Ok.held c.in-Ok.ensures _ c.in-Some.why c.in-Some.ensures) refl
 
 pub returns : goal.returns
 returns c = λ p rest.
-    let at : Place = record p { subject = c.args.subject.0; current = option_map id_of c.args.current } in
+    let at : Place = record p { subject = c.args.viewer.subject.0; current = option_map id_of c.args.current } in
     done_writes _ _ _ at (with_tree rest c.args.tree.now) (with_tree rest c.args.tree.now) _ (answer_to c.args.asked.now true c.in_ok-view.view) []
     (inner_shown (site_of c.args.site.now) at rest c.args.tree.now c.args.asked.now c.in-Ok.held c.in-Ok.ensures _ _ c.in_default.ensures
-    (λ n holds. ap (λ (v : View). done at (answer_to c.args.asked.now true v) []) (sym (c.in_ok-view.ensures.view n at holds))))
+    (λ n holds. ap (λ (v : View). done at (answer_to c.args.asked.now true v) []) (sym (c.in_ok-view.ensures.view n at rest holds))))
     refl
     (result_written (results.GetAttr (answer_to c.args.asked.now true c.in_ok-view.view)) c.args.out.now c.u32.new.self c.u32-2.new.self c.put_answer.new.out
     c.in_ok-u32.ensures.ok c.in_ok-u32-2.ensures.ok (attrs_fields _ _ _ c.in_ok-put_answer.ensures.ok) refl)

@@ -14,30 +14,30 @@ use Rattle.lnfs_nodes.proofs.comparing.is_same.Goals as goal
 
 pub returns-in-Some : goal.returns-in-Some
 returns-in-Some c = λ p rest same.
-    let at : Place = record p { subject = c.args.subject.0; current = option_map id_of c.args.current } in
+    let at : Place = record p { subject = c.args.viewer.subject.0; current = option_map id_of c.args.current } in
     given_refused (site_of c.args.site.now) c.args.given.now at (with_tree rest c.args.tree.now) same c.in-Some.why c.in-Some.ensures
 
 pub returns-in-Err : goal.returns-in-Err
 returns-in-Err c = λ p rest same.
-    let at : Place = record p { subject = c.args.subject.0; current = option_map id_of c.args.current } in
+    let at : Place = record p { subject = c.args.viewer.subject.0; current = option_map id_of c.args.current } in
     given_taken (site_of c.args.site.now) c.args.given.now at (with_tree rest c.args.tree.now) same _ c.in_default.ensures
     (not_held at rest c.args.tree.now _ c.in-Err.why c.in-Err.ensures)
 
 pub returns-in-Some-inner_denied : goal.returns-in-Some-inner_denied
 returns-in-Some-inner_denied c = λ p rest same.
-    let at : Place = record p { subject = c.args.subject.0; current = option_map id_of c.args.current } in
+    let at : Place = record p { subject = c.args.viewer.subject.0; current = option_map id_of c.args.current } in
     given_taken (site_of c.args.site.now) c.args.given.now at (with_tree rest c.args.tree.now) same _ c.in_default.ensures
     (inner_refused (site_of c.args.site.now) at rest c.args.tree.now c.args.given.now.mask c.in-Ok.held c.in-Ok.ensures _ c.in-Some-inner_denied.why c.in-Some-inner_denied.ensures)
 
 pub returns : goal.returns
 returns c = λ p rest same.
-    let at : Place = record p { subject = c.args.subject.0; current = option_map id_of c.args.current } in
+    let at : Place = record p { subject = c.args.viewer.subject.0; current = option_map id_of c.args.current } in
     let mask = c.args.given.now.mask in
     let list : c.as_slice-2.result.now ≡ list_text mask c.in_ok-view.view true =
     c.as_slice-2.ensures.value ∙ c.into_bytes-list.ensures ∙ c.in_ok-write_attrs.ensures.ok ∙ ap (λ (b : List ℕ). b ++ list_text mask c.in_ok-view.view true) c.new-list.ensures in
     given_taken (site_of c.args.site.now) c.args.given.now at (with_tree rest c.args.tree.now) same _ c.in_default.ensures
     (inner_shown (site_of c.args.site.now) at rest c.args.tree.now mask c.in-Ok.held c.in-Ok.ensures _ _ c.in_default-inner_denied.ensures
     (λ n holds. ap same (
-    ap (λ (v : View). bytes_eq c.args.given.now.list (list_text mask v true)) (sym (c.in_ok-view.ensures.view n at holds))
+    ap (λ (v : View). bytes_eq c.args.given.now.list (list_text mask v true)) (sym (c.in_ok-view.ensures.view n at rest holds))
     ∙ ap (λ (l : List ℕ). bytes_eq c.args.given.now.list l) (sym list)
     ∙ ap (λ (l : List ℕ). bytes_eq l c.as_slice-2.result.now) (sym c.as_slice.ensures) ∙ sym c.eq.ensures)))

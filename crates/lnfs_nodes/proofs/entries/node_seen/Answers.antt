@@ -23,11 +23,11 @@ open_to c =
 pub returns-clause-shown : goal.returns-clause-shown
 returns-clause-shown c = λ p rest e.
     let site : Site = site_of c.args.lister.now.site.now in
-    let at : Place = record p { subject = c.args.lister.now.subject.0 } in
+    let at : Place = record p { subject = c.args.lister.now.viewer.subject.0 } in
     let w : World = with_tree rest c.args.tree.now in
     let asked = c.args.lister.now.asked.now in
     about_told (λ (o : Option Node). shown_entry site at w asked e o ≡ Some (entry_as asked e.cookie e.name c.may_read-inner.result c.in_ok-view.view))
     c.args.tree.now c.args.node c.in-Some.facts c.in-Some.ensures (λ n holds.
     seen_as site at w asked e n c.may_read-inner.result c.is_hidden-hidden.result
-    (c.may_read-inner.ensures ∙ ap (λ (l : ℕ). allows site.dom c.args.lister.now.subject.0 (Read l)) holds.tells.label) c.is_hidden-hidden.ensures
-    c.error_of-error.result c.in_ok-view.view (open_to c) c.error_of-error.ensures (c.in_ok-view.ensures.view n at holds))
+    (c.may_read-inner.ensures ∙ ap (λ (l : ℕ). allows site.dom c.args.lister.now.viewer.subject.0 (Read l)) holds.tells.label) c.is_hidden-hidden.ensures
+    c.error_of-error.result c.in_ok-view.view (open_to c) c.error_of-error.ensures (c.in_ok-view.ensures.view n at rest holds))

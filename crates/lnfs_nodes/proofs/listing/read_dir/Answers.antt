@@ -14,7 +14,7 @@ use Rattle.lnfs_nodes.proofs.listing.read_dir.Goals as goal
 pub returns-in-Ok-2-clause-writes : goal.returns-in-Ok-2-clause-writes
 returns-in-Ok-2-clause-writes c = λ p rest rise.
     let site : Site = site_of c.args.site.now in
-    let at : Place = record p { subject = c.args.subject.0; moment = c.args.moment; current = option_map id_of c.args.current } in
+    let at : Place = record p { subject = c.args.viewer.subject.0; moment = c.args.moment; current = option_map id_of c.args.current } in
     let args : Arguments = record { cookie = c.args.args.now.cookie; maxcount = c.args.args.now.maxcount; asked = c.args.args.now.asked.now } in
     about_directory (λ (o : Outcome (Answer Listed)). Writes c.args.out.now c.put_listing.new.out listing_result at (with_tree rest c.args.tree.now) (with_tree rest c.set_accessed.new.tree) o (Ok tt))
     site at rest c.args.tree.now c.in-Ok.dir args c.min.result c.in-Ok.ensures (search rules) c.in_default.ensures rise c.min.ensures (λ n holds listable.
@@ -25,7 +25,7 @@ returns-in-Ok-2-clause-writes c = λ p rest rise.
 pub returns-in-Err-2-clause-writes : goal.returns-in-Err-2-clause-writes
 returns-in-Err-2-clause-writes c = λ p rest rise.
     let site : Site = site_of c.args.site.now in
-    let at : Place = record p { subject = c.args.subject.0; moment = c.args.moment; current = option_map id_of c.args.current } in
+    let at : Place = record p { subject = c.args.viewer.subject.0; moment = c.args.moment; current = option_map id_of c.args.current } in
     let args : Arguments = record { cookie = c.args.args.now.cookie; maxcount = c.args.args.now.maxcount; asked = c.args.args.now.asked.now } in
     about_directory (λ (o : Outcome (Answer Listed)). Writes c.args.out.now c.truncate.new.self listing_result at (with_tree rest c.args.tree.now) (with_tree rest c.args.tree.now) o (Err c.in-Err-2.why))
     site at rest c.args.tree.now c.in-Ok.dir args c.min.result c.in-Ok.ensures (search rules) c.in_default.ensures rise c.min.ensures (λ n holds listable.
