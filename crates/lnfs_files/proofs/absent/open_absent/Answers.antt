@@ -1,0 +1,194 @@
+use Rattle.std.proofs.Common.{◌≡◌, refl, ap, sym, subst, ◌∙◌, ℕ, true, false, List, Some, None, Ok}
+use Rattle.lnfs_calipso.specs.declared.Level.{Level}
+use Rattle.lnfs_arguments.specs.declared.types.Making.{Making}
+use Rattle.lnfs_world.specs.World.{Id, Node, World, node_at, label_at, is_directory}
+use Rattle.lnfs_world.specs.Names.{entry_at}
+use Rattle.std.specs.Prelude.{◌&&◌, is_some}
+use Rattle.lnfs_world.specs.Effects.{name_added, next_entry, has_number, has_cookie, next_id}
+use Rattle.lnfs_world.specs.Change.{Change}
+use Rattle.lnfs_world.specs.Outcome.{Place, Outcome}
+use Rattle.lnfs_site.specs.Site.{site_of}
+use Rattle.lnfs_operations.specs.Given.{level_or}
+use Rattle.lnfs_operations.specs.Open as operation
+use Rattle.lnfs_operations.specs.Open.{Arguments, Opened, Wanted, access_of}
+use Rattle.lnfs_tree.specs.Rows.{Rows, id_of}
+use Rattle.lnfs_tree.specs.Changed.{ran, new_node}
+use Rattle.lnfs_open.specs.Opening.{Wish, Does, opened_of, own_open, new_open}
+use Rattle.lnfs_open.specs.Listed.{node_id}
+use Rattle.lnfs_nodes.specs.Acts.{placed}
+use Rattle.lnfs_nodes.proofs.Done.{kept}
+use Rattle.lnfs_nodes.proofs.Inserts.{seen, inserted, spent}
+use Rattle.lnfs_quota.specs.declared.quota.Row.{Row}
+use Rattle.lnfs_quota.specs.Totals.{AreTotals}
+use Rattle.lnfs_files.specs.Worlds.{with_files}
+use Rattle.lnfs_files.specs.Acts.{Succeeds}
+use Rattle.lnfs_files.specs.Openings.{args_of, wanted_of}
+use Rattle.lnfs_files.specs.Openings as files
+use Rattle.lnfs_files.specs.declared.opened.Opened as code_opened
+use Rattle.lnfs_files.proofs.Makes.{makes, none_of, not_there}
+use Rattle.lnfs_files.proofs.Absents.{behind, by_label, is_full, is_spent, is_made, absent_in, made_counts, same_changes, no_label}
+use Rattle.lnfs_files.proofs.absent.open_absent.Goals as goal
+
+abbrev wished : (level number : ℕ) (args : Arguments) (node : Id) (access : ℕ) → Wish
+wished level number args node access = record { client = record { level = level; number = number }; owner = args.owner; node = node; access = access; deny = args.deny }
+
+same_wish : (level level' number : ℕ) (args : Arguments) (node node' : Id) (access access' : ℕ) → level ≡ level' → node ≡ node' → access ≡ access' → wished level number args node access ≡ wished level' number args node' access'
+same_wish level level' number args node node' access access' a b d =
+    ap (λ (x : ℕ). wished x number args node access) a
+    ∙ ap (λ (x : Id). wished level' number args x access) b
+    ∙ ap (λ (x : ℕ). wished level' number args node' x) d
+
+pub returns-in-Err-clause-acts : goal.returns-in-Err-clause-acts
+returns-in-Err-clause-acts c = λ p rest d holds.
+    let at : Place = placed p c.args.opener.now.caller.now in
+    let t = c.args.tree.now in
+    let s = c.args.opens.now in
+    let w : World = with_files rest t s in
+    let site = site_of c.args.opener.now.site.now in
+    let args : Arguments = args_of c.args.opener.now.args.now in
+    let number = c.args.opener.now.client.number in
+    let name = c.args.name.now in
+    let wanted : Wanted = wanted_of c.args.wanted in
+    let making : Making = c.in-Some.making in
+    record {
+      outcome =
+          ap (operation.open_absent site args at w number d name wanted) c.in-Some.is
+          ∙ by_label site args at rest t s number d name wanted making c.level_or-label.result.0 (c.level_or-label.ensures ∙ ap (λ (l : ℕ). level_or l wanted.label) holds.tells.label) _
+          (c.in-Err.ensures at t d (behind site args at rest t s number d name wanted making) holds);
+      tree = refl;
+      opens = refl;
+    }
+
+pub returns-then-not-branch-clause-acts : goal.returns-then-not-branch-clause-acts
+returns-then-not-branch-clause-acts c = λ p rest d holds.
+    let at : Place = placed p c.args.opener.now.caller.now in
+    let t = c.args.tree.now in
+    let s = c.args.opens.now in
+    let w : World = with_files rest t s in
+    let site = site_of c.args.opener.now.site.now in
+    let args : Arguments = args_of c.args.opener.now.args.now in
+    let number = c.args.opener.now.client.number in
+    let name = c.args.name.now in
+    let wanted : Wanted = wanted_of c.args.wanted in
+    let making : Making = c.in-Some.making in
+    record {
+      outcome =
+          ap (operation.open_absent site args at w number d name wanted) c.in-Some.is
+          ∙ by_label site args at rest t s number d name wanted making c.level_or-label.result.0 (c.level_or-label.ensures ∙ ap (λ (l : ℕ). level_or l wanted.label) holds.tells.label) _
+          (c.in_default-check_makable.ensures at t d (behind site args at rest t s number d name wanted making) holds
+          ∙ is_full site args at rest t s number d name wanted making c.args.dir.now.facts.label.0 c.args.opener.now.client.level.0 holds.tells.label (ap (λ (l : Level). l.0) c.requires.level) c.no_space.result c.no_space.ensures
+          (sym c.if-not-branch.true ∙ c.in_ok-has_room.ensures.room t.nodes c.requires.counts));
+      tree = refl;
+      opens = refl;
+    }
+
+pub returns-in-Err-Spent-clause-acts : goal.returns-in-Err-Spent-clause-acts
+returns-in-Err-Spent-clause-acts c = λ p rest d holds.
+    let at : Place = placed p c.args.opener.now.caller.now in
+    let t = c.args.tree.now in
+    let s = c.args.opens.now in
+    let w : World = with_files rest t s in
+    let site = site_of c.args.opener.now.site.now in
+    let args : Arguments = args_of c.args.opener.now.args.now in
+    let number = c.args.opener.now.client.number in
+    let name = c.args.name.now in
+    let wanted : Wanted = wanted_of c.args.wanted in
+    let making : Making = c.in-Some.making in
+    let fresh = c.in_ok-fresh.fresh in
+    let home : fresh.home.0 ≡ d.label = ap (λ (l : Level). l.0) c.in_ok-fresh.ensures.home ∙ holds.tells.label in
+    let x = absent_in t c.args.dir.now name c.requires.there d holds in
+    let there = spent t c.insert.new.self (id_of c.args.dir.now.id) d name fresh at.moment (ap (λ (i : Id). node_at t.nodes i) holds.id ∙ holds.at) x.0 x.1 (rw c.in-Err-Spent.field-0-is at c.in-Err-Spent.ensures) in
+    record {
+      outcome =
+          ap (operation.open_absent site args at w number d name wanted) c.in-Some.is
+          ∙ by_label site args at rest t s number d name wanted making c.level_or-label.result.0 (c.level_or-label.ensures ∙ ap (λ (l : ℕ). level_or l wanted.label) holds.tells.label) _
+          (c.in_default-check_makable.ensures at t d (behind site args at rest t s number d name wanted making) holds
+          ∙ is_spent site args at rest t s number d name wanted making fresh.home.0 c.args.opener.now.client.level.0 home (ap (λ (l : Level). l.0) c.requires.level) c.no_space-in-Err-Spent.result c.no_space-in-Err-Spent.ensures there.0);
+      tree = there.1;
+      opens = refl;
+    }
+
+pub returns-in-Err-insert : goal.returns-in-Err-insert
+returns-in-Err-insert c =
+    let same = kept seen _ c.args.tree.now c.insert.new.self c.in-Err-insert.field-0 c.in-Err-insert.ensures in
+    record { acts = tt; tree = (None, same); opens = refl; counts = subst (λ (x : Rows). AreTotals c.args.quota.now x.nodes) (sym same) c.requires.counts }
+
+pub returns-in-Ok-open-clause-acts : goal.returns-in-Ok-open-clause-acts
+returns-in-Ok-open-clause-acts c = λ p rest d holds.
+    let at : Place = placed p c.args.opener.now.caller.now in
+    let t = c.args.tree.now in
+    let u = c.insert.new.self in
+    let s = c.args.opens.now in
+    let v = c.open.new.self in
+    let w : World = with_files rest t s in
+    let site = site_of c.args.opener.now.site.now in
+    let args : Arguments = args_of c.args.opener.now.args.now in
+    let number = c.args.opener.now.client.number in
+    let name = c.args.name.now in
+    let wanted : Wanted = wanted_of c.args.wanted in
+    let making : Making = c.in-Some.making in
+    let fresh = c.in_ok-fresh.fresh in
+    let home : fresh.home.0 ≡ d.label = ap (λ (l : Level). l.0) c.in_ok-fresh.ensures.home ∙ holds.tells.label in
+    let level : c.args.opener.now.client.level.0 ≡ at.subject = ap (λ (l : Level). l.0) c.requires.level in
+    let label : c.level_or-label.result.0 ≡ level_or d.label wanted.label = c.level_or-label.ensures ∙ ap (λ (l : ℕ). level_or l wanted.label) holds.tells.label in
+    let x = absent_in t c.args.dir.now name c.requires.there d holds in
+    let there = inserted t u (id_of c.args.dir.now.id) d name fresh at.moment (ap (λ (i : Id). node_at t.nodes i) holds.id ∙ holds.at) x.0 x.1 c.in-Ok.made c.in-Ok.ensures in
+    let n : Node = operation.new_file site at w making wanted d in
+    let node : new_node at.moment fresh (next_id t.lasts d.label) ≡ n = c.in_ok-fresh.ensures.node d at w holds label in
+    let id : id_of c.in-Ok.made.0 ≡ n.id = ap (λ r. r.0) there.1 ∙ ap (next_id t.lasts) home in
+    let none : own_open s (wished at.subject number args n.id (access_of args)) ≡ None =
+    none_of site.dom (label_at t.nodes) (new_open s (wished at.subject number args n.id (access_of args))) s.opens (no_label t.nodes n.id (not_there site.dom t c.requires.facts d.label)) c.requires.opens in
+    let same = same_wish c.args.opener.now.client.level.0 at.subject number args (node_id c.node_key.result) n.id c.share.result (access_of args) level (c.node_key.ensures ∙ id) c.share.ensures in
+    let r : code_opened.Opened = record { id = c.state_id_of.result; node = c.in-Ok.made.0; info = c.cinfo.result; set = c.args.wanted.set } in
+    subst (λ (o : Outcome _). Succeeds (files.opened_of r) (record at { current = Some (id_of r.node) }) rest t u s v o)
+    (sym (ap (operation.open_absent site args at w number d name wanted) c.in-Some.is
+    ∙ by_label site args at rest t s number d name wanted making c.level_or-label.result.0 label _
+    (c.in_default-check_makable.ensures at t d (behind site args at rest t s number d name wanted making) holds
+    ∙ is_made site args at rest t s number d name wanted making c.args.dir.now.facts.label.0 c.args.opener.now.client.level.0 holds.tells.label level
+    (sym c.if-not-branch.false ∙ c.in_ok-has_room.ensures.room t.nodes c.requires.counts)
+    (ap (λ (l : Level). has_number t.lasts l.0 && has_cookie d) (sym c.in_ok-fresh.ensures.home) ∙ there.0))))
+    (makes args at rest t u s v number d name wanted.set n c.in-Ok-open.id r c.in-Ok.made.1 none
+    (subst (λ (x : Wish). Does (opened_of s x) s v (Ok c.in-Ok-open.id)) same c.in-Ok-open.ensures)
+    (there.2 ∙ ap (λ (cs : List Change). ran cs t) (same_changes at.moment t d name fresh n home node refl))
+    c.state_id_of.ensures id c.cinfo.ensures (ap (λ r. r.1) there.1) refl)
+
+pub returns-in-Ok-open-clause-counts : goal.returns-in-Ok-open-clause-counts
+returns-in-Ok-open-clause-counts c =
+    let t = c.args.tree.now in
+    let u = c.insert.new.self in
+    let d : Node = c.requires.there.0 in
+    let holds = c.requires.there.1.0 in
+    let x : (is_directory d.kind ≡ true) × (is_some (entry_at t.entries d.id c.args.name.now) ≡ false) = (c.requires.there.1.1, c.requires.there.1.2) in
+    let fresh = c.in_ok-fresh.fresh in
+    let moment = c.args.opener.now.caller.now.moment in
+    let there = inserted t u (id_of c.args.dir.now.id) d c.args.name.now fresh moment (ap (λ (i : Id). node_at t.nodes i) holds.id ∙ holds.at) x.0 x.1 c.in-Ok.made c.in-Ok.ensures in
+    subst (λ (rows : List Row). AreTotals rows u.nodes) (sym c.charge_node.ensures)
+    (made_counts c.args.quota.now (site_of c.args.opener.now.site.now).dom t u d c.args.name.now fresh moment c.args.dir.now.facts.label.0 (c.totals.ensures.touched_alike c.args.quota.now) (c.totals.ensures.made c.args.quota.now) c.requires.counts c.requires.facts holds.at x.0
+    (ap (λ (l : Level). l.0) c.in_ok-fresh.ensures.home) there.2)
+
+pub returns-in-Err-open-clause-tree : goal.returns-in-Err-open-clause-tree
+returns-in-Err-open-clause-tree c =
+    let t = c.args.tree.now in
+    let u = c.insert.new.self in
+    let d : Node = c.requires.there.0 in
+    let holds = c.requires.there.1.0 in
+    let x : (is_directory d.kind ≡ true) × (is_some (entry_at t.entries d.id c.args.name.now) ≡ false) = (c.requires.there.1.1, c.requires.there.1.2) in
+    let fresh = c.in_ok-fresh.fresh in
+    let moment = c.args.opener.now.caller.now.moment in
+    let there = inserted t u (id_of c.args.dir.now.id) d c.args.name.now fresh moment (ap (λ (i : Id). node_at t.nodes i) holds.id ∙ holds.at) x.0 x.1 c.in-Ok.made c.in-Ok.ensures in
+    let i : Id = next_id t.lasts fresh.home.0 in
+    (Some (record { directory = d.id; inner = name_added moment d.inner; node = new_node moment fresh i; entry = next_entry d c.args.name.now i }), there.2)
+
+pub returns-in-Err-open-clause-counts : goal.returns-in-Err-open-clause-counts
+returns-in-Err-open-clause-counts c =
+    let t = c.args.tree.now in
+    let u = c.insert.new.self in
+    let d : Node = c.requires.there.0 in
+    let holds = c.requires.there.1.0 in
+    let x : (is_directory d.kind ≡ true) × (is_some (entry_at t.entries d.id c.args.name.now) ≡ false) = (c.requires.there.1.1, c.requires.there.1.2) in
+    let fresh = c.in_ok-fresh.fresh in
+    let moment = c.args.opener.now.caller.now.moment in
+    let there = inserted t u (id_of c.args.dir.now.id) d c.args.name.now fresh moment (ap (λ (i : Id). node_at t.nodes i) holds.id ∙ holds.at) x.0 x.1 c.in-Ok.made c.in-Ok.ensures in
+    subst (λ (rows : List Row). AreTotals rows u.nodes) (sym c.charge_node.ensures)
+    (made_counts c.args.quota.now (site_of c.args.opener.now.site.now).dom t u d c.args.name.now fresh moment c.args.dir.now.facts.label.0 (c.totals.ensures.touched_alike c.args.quota.now) (c.totals.ensures.made c.args.quota.now) c.requires.counts c.requires.facts holds.at x.0
+    (ap (λ (l : Level). l.0) c.in_ok-fresh.ensures.home) there.2)

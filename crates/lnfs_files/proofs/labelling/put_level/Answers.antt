@@ -1,0 +1,82 @@
+use Rattle.std.proofs.Common.{◌≡◌, ◌∙◌, ap, sym, refl, subst, false, ℕ, List, map, [], ◌∷◌}
+use Rattle.std.specs.Prelude.{◌==◌}
+use Rattle.std.specs.Option.{option_map}
+use Rattle.lnfs_attrs.specs.declared.bitmap.Bitmap.{Bitmap}
+use Rattle.lnfs_world.specs.Change.{Relabel}
+use Rattle.lnfs_world.specs.Effects.{attributes_changed}
+use Rattle.lnfs_world.specs.Usage.{bytes_of}
+use Rattle.lnfs_world.specs.Outcome.{Place, Outcome}
+use Rattle.lnfs_operations.specs.declared.Refusal.{Refusal}
+use Rattle.lnfs_operations.specs.Chain.{Answer, refuse}
+use Rattle.lnfs_quota.specs.declared.quota.Row.{Row}
+use Rattle.lnfs_quota.specs.Quota.{limits_of, moved}
+use Rattle.lnfs_quota.specs.Totals.{AreTotals}
+use Rattle.lnfs_tree.specs.Rows.{Rows, id_of}
+use Rattle.lnfs_tree.specs.Places.{world_of}
+use Rattle.lnfs_nodes.specs.Acts.{placed}
+use Rattle.lnfs_files.specs.Worlds.{with_files}
+use Rattle.lnfs_files.specs.Acts.{Succeeds}
+use Rattle.lnfs_files.proofs.Charged.{moved_limits}
+use Rattle.lnfs_files.proofs.WriteOn.{held_node, found, some_place}
+use Rattle.lnfs_files.proofs.Labels.{raised_full, raised_so, full, was_raised, not_raised, succeeds, same_bytes}
+use Rattle.lnfs_files.proofs.labelling.put_level.Goals as goal
+
+pub returns-in-Ok-clause-acts : goal.returns-in-Ok-clause-acts
+returns-in-Ok-clause-acts c = λ n p rest opens set holds.
+    let at : Place = placed p c.args.caller.now in
+    let t = c.args.tree.now in
+    let u = c.raise.new.self in
+    let h = c.args.held.now in
+    let level = c.args.level.0 in
+    let done = was_raised t u (id_of h.id) n at.moment (found t n h holds) level c.in-Ok.field-0 c.in-Ok.ensures.does in
+    let other : (level == n.label) ≡ false = sym (ap (λ (l : ℕ). level == l) holds.tells.label) ∙ c.requires.other in
+    subst (λ (o : Outcome (Answer Bitmap)). Succeeds set at rest t u opens opens o)
+    (sym (raised_so at (with_files rest t opens) n level set other done.0))
+    (succeeds set at rest t u opens (Relabel n.id level (attributes_changed at.moment n.inner) ∷ []) refl done.1)
+
+pub returns-in-Ok-clause-counts : goal.returns-in-Ok-clause-counts
+returns-in-Ok-clause-counts c =
+    let at : Place = placed some_place c.args.caller.now in
+    let rows = c.args.quota.now in
+    let t = c.args.tree.now in
+    let u = c.raise.new.self in
+    let h = c.args.held.now in
+    let level = c.args.level.0 in
+    let x = held_node t (option_map id_of c.args.caller.now.current) h c.requires.held in
+    let n = x.0 in
+    let done = was_raised t u (id_of h.id) n at.moment (found t n h x.1) level c.in-Ok.field-0 c.in-Ok.ensures.does in
+    subst (λ (rows : List Row). AreTotals rows u.nodes) (sym c.move_up.ensures)
+    (subst (λ (label : ℕ). AreTotals (moved rows label level c.args.bytes) u.nodes) (sym x.1.tells.label)
+    (subst (λ (bytes : ℕ). AreTotals (moved rows n.label level bytes) u.nodes) (sym (c.requires.bytes t n x.1))
+    (subst (λ (r : Rows). AreTotals (moved rows n.label level (bytes_of n n.kind)) r.nodes) (sym done.1)
+    (c.totals.ensures.relabelled rows n.id level (attributes_changed at.moment n.inner) n (world_of t) c.requires.counts x.1.at (same_bytes n (attributes_changed at.moment n.inner) refl)))))
+
+pub returns-in-Ok-clause-limits : goal.returns-in-Ok-clause-limits
+returns-in-Ok-clause-limits c = ap (map limits_of) c.move_up.ensures ∙ moved_limits c.args.quota.now c.args.held.now.facts.label.0 c.args.level.0 c.args.bytes
+
+pub returns-in-Err-clause-acts : goal.returns-in-Err-clause-acts
+returns-in-Err-clause-acts c = λ n p rest opens set holds.
+    let at : Place = placed p c.args.caller.now in
+    let t = c.args.tree.now in
+    let u = c.raise.new.self in
+    let h = c.args.held.now in
+    let level = c.args.level.0 in
+    let not = not_raised t u (id_of h.id) n at.moment (found t n h holds) level c.in-Err.field-0 c.in-Err.ensures.calm c.in-Err.ensures.does in
+    let other : (level == n.label) ≡ false = sym (ap (λ (l : ℕ). level == l) holds.tells.label) ∙ c.requires.other in
+    record {
+      outcome =
+          raised_full at (with_files rest t opens) n level set other (full c.requires.facts.0 t c.requires.facts.1 n holds.at not.0)
+          ∙ ap (λ (r : Refusal). refuse {R = Bitmap} at r.gate r.status) (sym c.namespace.ensures);
+      tree = not.1;
+      opens = refl;
+    }
+
+pub returns-in-Err-clause-counts : goal.returns-in-Err-clause-counts
+returns-in-Err-clause-counts c =
+    let at : Place = placed some_place c.args.caller.now in
+    let t = c.args.tree.now in
+    let u = c.raise.new.self in
+    let h = c.args.held.now in
+    let x = held_node t (option_map id_of c.args.caller.now.current) h c.requires.held in
+    let not = not_raised t u (id_of h.id) x.0 at.moment (found t x.0 h x.1) c.args.level.0 c.in-Err.field-0 c.in-Err.ensures.calm c.in-Err.ensures.does in
+    subst (λ (r : Rows). AreTotals c.args.quota.now r.nodes) (sym not.1) c.requires.counts

@@ -1,0 +1,74 @@
+use Rattle.std.proofs.Common.{◌≡◌, refl, ap, sym, ◌∙◌, subst, ℕ, Bool, Ok, Err}
+use Rattle.lnfs_calipso.specs.declared.Level.{Level}
+use Rattle.lnfs_arguments.specs.declared.statuses.TheConstants.{NFS4ERR_NOSPC}
+use Rattle.lnfs_world.specs.World.{Id, Node}
+use Rattle.lnfs_world.specs.Outcome.{Place}
+use Rattle.lnfs_operations.specs.declared.Gate.TheVariants.{Quota}
+use Rattle.lnfs_operations.specs.Open.{Arguments, Wanted, access_of}
+use Rattle.lnfs_open.specs.Opening.{Wish, Does, opened_of}
+use Rattle.lnfs_open.specs.Listed.{node_id}
+use Rattle.lnfs_open.specs.declared.keys.OpenError.TheVariants.{Full}
+use Rattle.lnfs_nodes.specs.Acts.{placed}
+use Rattle.lnfs_nodes.proofs.Refusing.{refused_as}
+use Rattle.lnfs_files.specs.Openings.{args_of, wanted_of}
+use Rattle.lnfs_files.proofs.Cuts.{bytes_held}
+use Rattle.lnfs_files.proofs.Opens.{wish, with_own, refused_so, is_full, after_cut, succeeds}
+use Rattle.lnfs_files.proofs.present.open_present.Goals.{then-sized-2, else-sized-2}
+use Rattle.lnfs_files.proofs.present.open_present.Goals as goal
+
+abbrev wished : (level number : ℕ) (args : Arguments) (node : Id) (access : ℕ) → Wish
+wished level number args node access = record { client = record { level = level; number = number }; owner = args.owner; node = node; access = access; deny = args.deny }
+
+same_wish : (level level' number : ℕ) (args : Arguments) (node node' : Id) (access access' : ℕ) → level ≡ level' → node ≡ node' → access ≡ access' → wished level number args node access ≡ wished level' number args node' access'
+same_wish level level' number args node node' access access' a b d =
+    ap (λ (x : ℕ). wished x number args node access) a
+    ∙ ap (λ (x : Id). wished level' number args x access) b
+    ∙ ap (λ (x : ℕ). wished level' number args node' x) d
+
+pub byte_room-requires : goal.byte_room-requires
+byte_room-requires c =
+    let t = c.args.tree.now in
+    let h = c.args.held.now in
+    let n : Node = c.requires.there.0 in
+    let holds = c.requires.there.1 in
+    record { held = bytes_held c.args.quota.now t n h (λ i at. c.totals.ensures.held_bytes c.args.quota.now t.nodes i n c.requires.counts at) holds (sym holds.tells.kind ∙ c.in_default.ensures.file) }
+
+pub returns-in-Err-Full-clause-acts : goal.returns-in-Err-Full-clause-acts
+returns-in-Err-Full-clause-acts c = λ p rest n holds.
+    let at : Place = placed p c.args.opener.now.caller.now in
+    let args : Arguments = args_of c.args.opener.now.args.now in
+    let t = c.args.tree.now in
+    let s = c.args.opens.now in
+    let v = c.open.new.self in
+    let number = c.args.opener.now.client.number in
+    let w : Wanted = wanted_of c.args.wanted.now in
+    let same = same_wish c.args.opener.now.client.level.0 at.subject number args (node_id c.node_key-node.result) n.id c.share.result (access_of args) (ap (λ (l : Level). l.0) c.requires.level) (c.node_key-node.ensures ∙ holds.id) c.share.ensures in
+    let does = subst (λ (x : Wish). Does (opened_of s x) s v (Err Full)) same (rw c.in-Err-Full.field-0-is at c.in-Err-Full.ensures) in
+    let told : (opened_of s (wish args at rest t s number n) ≡ Err Full) × (v ≡ s) = refused_so s v (opened_of s (wish args at rest t s number n)) Full (λ e. cc) does in
+    record {
+      outcome =
+          c.in_default.ensures.checked p rest t n (with_own args at rest t s number n w c.args.info) holds
+          ∙ (is_full args at rest t s number n w c.args.info Full told.0).1
+          ∙ refused_as at c.no_space.result (record { gate = Quota; status = NFS4ERR_NOSPC }) c.no_space.ensures;
+      tree = refl;
+      opens = told.1;
+    }
+
+pub returns-clause-acts : goal.returns-clause-acts
+returns-clause-acts c = λ p rest n holds.
+    let at : Place = placed p c.args.opener.now.caller.now in
+    let args : Arguments = args_of c.args.opener.now.args.now in
+    let t = c.args.tree.now in
+    let s = c.args.opens.now in
+    let v = c.open.new.self in
+    let number = c.args.opener.now.client.number in
+    let w : Wanted = wanted_of c.args.wanted.now in
+    let same = same_wish c.args.opener.now.client.level.0 at.subject number args (node_id c.node_key-node.result) n.id c.share.result (access_of args) (ap (λ (l : Level). l.0) c.requires.level) (c.node_key-node.ensures ∙ holds.id) c.share.ensures in
+    succeeds args at rest t s number n c.if-sized-2.tree v w c.args.info c.in-Ok.id _ _
+    (c.in_default.ensures.checked p rest t n (with_own args at rest t s number n w c.args.info) holds)
+    (subst (λ (x : Wish). Does (opened_of s x) s v (Ok c.in-Ok.id)) same c.in-Ok.ensures)
+    (elim c.if-sized-2.branch [
+      | then-sized-2 b ↦ b.tree-is ∙ b.cut.ensures.cut n holds ∙ ap (λ (x : Bool). after_cut args at rest t s number n (record w { sized = x })) (sym b.if-sized-2.true)
+      | else-sized-2 b ↦ b.tree-is ∙ ap (λ (x : Bool). after_cut args at rest t s number n (record w { sized = x })) (sym b.if-sized-2.false)
+    ])
+    c.state_id_of.ensures holds.id refl c.cut_set.ensures

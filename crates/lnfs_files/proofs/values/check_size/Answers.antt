@@ -1,0 +1,71 @@
+use Rattle.std.proofs.Common.{◌≡◌, ◌∙◌, ◌<◌, ◌≤◌, ap, sym, subst, true, false, ℕ, length, None, Some}
+use Rattle.std.specs.Prelude.{nat_le}
+use Rattle.std.specs.Option.{option_map}
+use Rattle.lnfs_world.specs.World.{World}
+use Rattle.lnfs_world.specs.Usage.{bytes_of}
+use Rattle.lnfs_world.specs.Outcome.{Place}
+use Rattle.lnfs_site.specs.Site.{site_of}
+use Rattle.lnfs_operations.specs.declared.Refusal.{Refusal}
+use Rattle.lnfs_operations.specs.declared.numbers.TheConstants.{MOST_FILE}
+use Rattle.lnfs_operations.specs.Files.{passes_quota}
+use Rattle.lnfs_quota.specs.Quota.{row_at}
+use Rattle.lnfs_tree.specs.Rows.{id_of}
+use Rattle.lnfs_nodes.specs.Trees.{with_tree, refusal_of}
+use Rattle.lnfs_nodes.specs.Acts.{placed}
+use Rattle.lnfs_files.specs.Worlds.{with_files}
+use Rattle.lnfs_files.proofs.WriteOn.{held_node, within, past}
+use Rattle.lnfs_files.proofs.Writes.{up_to}
+use Rattle.lnfs_files.proofs.Sizes.{too_many, too_big, past_limit, has_room, not_usable, by_size, held_bytes, held_size}
+use Rattle.lnfs_files.proofs.values.check_size.Goals as goal
+
+pub byte_room-requires : goal.byte_room-requires
+byte_room-requires c =
+    let rows = c.args.quota.now in
+    let t = c.args.tree.now in
+    let h = c.args.held.now in
+    let x = held_node t (option_map id_of c.args.caller.now.current) h c.requires.held in
+    record {
+      held =
+          subst (λ (bytes : ℕ). h.facts.label.0 < length rows → bytes ≤ (row_at rows h.facts.label.0).bytes) (held_bytes t x.0 h x.1 c.requires.file)
+          (subst (λ (l : ℕ). l < length rows → bytes_of x.0 x.0.kind ≤ (row_at rows l).bytes) (sym x.1.tells.label) (c.totals.ensures.held_bytes rows t.nodes x.0.id x.0 c.requires.counts x.1.at));
+    }
+
+pub returns-in-Err-clause-refused : goal.returns-in-Err-clause-refused
+returns-in-Err-clause-refused c = λ n p rest client holds.
+    let at : Place = placed p c.args.caller.now in
+    let t = c.args.tree.now in
+    not_usable (site_of c.args.site.now) at (with_files rest t c.args.opens.now) n c.args.size c.args.id.now (refusal_of c.in-Err.why) (c.in-Err.ensures p (with_tree rest t) n client holds.id)
+
+pub returns-then-size-gt-MOST_BYTES-clause-refused : goal.returns-then-size-gt-MOST_BYTES-clause-refused
+returns-then-size-gt-MOST_BYTES-clause-refused c = λ n p rest client holds.
+    let site = site_of c.args.site.now in
+    let at : Place = placed p c.args.caller.now in
+    let t = c.args.tree.now in
+    let w : World = with_files rest t c.args.opens.now in
+    by_size site at w n c.args.size c.args.id.now (Some (refusal_of c.namespace.result)) (c.in_default.ensures p (with_tree rest t) n client holds.id)
+    (ap (λ (r : Refusal). Some (refusal_of r)) c.namespace.ensures ∙ too_big site at w n c.args.size (too_many c.args.size MOST_FILE c.if-size-gt-MOST_BYTES.true))
+
+pub returns-then-not-branch-clause-refused : goal.returns-then-not-branch-clause-refused
+returns-then-not-branch-clause-refused c = λ n p rest client holds.
+    let site = site_of c.args.site.now in
+    let at : Place = placed p c.args.caller.now in
+    let t = c.args.tree.now in
+    let h = c.args.held.now in
+    let w : World = with_files rest t c.args.opens.now in
+    let fits : nat_le c.args.size MOST_FILE ≡ true = up_to c.args.size MOST_FILE c.if-size-gt-MOST_BYTES.false in
+    let room = c.in_ok-byte_room.ensures.room w n c.requires.counts (sym holds.tells.label) (sym (held_size t n h holds c.requires.file)) in
+    let passes : passes_quota site w n c.args.size ≡ true = past _ _ c.if-not-branch.true room in
+    by_size site at w n c.args.size c.args.id.now (Some (refusal_of c.past_quota.result)) (c.in_default.ensures p (with_tree rest t) n client holds.id)
+    (ap (λ (r : Refusal). Some (refusal_of r)) c.past_quota.ensures ∙ past_limit site at w n c.args.size fits passes)
+
+pub returns-clause-refused : goal.returns-clause-refused
+returns-clause-refused c = λ n p rest client holds.
+    let site = site_of c.args.site.now in
+    let at : Place = placed p c.args.caller.now in
+    let t = c.args.tree.now in
+    let h = c.args.held.now in
+    let w : World = with_files rest t c.args.opens.now in
+    let fits : nat_le c.args.size MOST_FILE ≡ true = up_to c.args.size MOST_FILE c.if-size-gt-MOST_BYTES.false in
+    let room = c.in_ok-byte_room.ensures.room w n c.requires.counts (sym holds.tells.label) (sym (held_size t n h holds c.requires.file)) in
+    let stays : passes_quota site w n c.args.size ≡ false = within _ _ c.if-not-branch.false room in
+    by_size site at w n c.args.size c.args.id.now None (c.in_default.ensures p (with_tree rest t) n client holds.id) (has_room site at w n c.args.size fits stays)

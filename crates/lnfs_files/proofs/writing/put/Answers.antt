@@ -1,0 +1,91 @@
+use Rattle.std.proofs.Common.{◌≡◌, ◌∙◌, sym, subst, ap, ℕ, List, map, length, refl, true, false}
+use Rattle.std.specs.Prelude.{◌≤◌}
+use Rattle.std.specs.Option.{option_map}
+use Rattle.lnfs_world.specs.World.{World}
+use Rattle.lnfs_world.specs.Effects.{size_written}
+use Rattle.lnfs_world.specs.Outcome.{Place, Outcome}
+use Rattle.lnfs_site.specs.Site.{site_of}
+use Rattle.lnfs_operations.specs.declared.Refusal.{Refusal}
+use Rattle.lnfs_operations.specs.Chain.{Answer, refuse}
+use Rattle.lnfs_operations.specs.Files.{passes_quota}
+use Rattle.lnfs_operations.specs.Write.{Arguments, data_written}
+use Rattle.lnfs_quota.specs.Quota.{limits_of, row_at, resized}
+use Rattle.lnfs_quota.specs.declared.quota.Row.{Row}
+use Rattle.lnfs_quota.specs.Totals.{AreTotals}
+use Rattle.lnfs_tree.specs.Rows.{id_of}
+use Rattle.lnfs_tree.specs.Changed.{ran}
+use Rattle.lnfs_tree.specs.Places.{world_of}
+use Rattle.lnfs_nodes.specs.Acts.{placed}
+use Rattle.lnfs_files.specs.Worlds.{with_files}
+use Rattle.lnfs_files.specs.Acts.{Succeeds}
+use Rattle.lnfs_files.proofs.Charged.{resized_limits}
+use Rattle.lnfs_files.proofs.WriteOn.{held_node, file_is, held_room, fits_so, within, past, goes_on, is_past, written_so, succeeds, written_totals}
+use Rattle.lnfs_files.proofs.WriteOn.{some_place, some_id}
+use Rattle.lnfs_files.proofs.writing.put.Goals as goal
+
+pub byte_room-requires : goal.byte_room-requires
+byte_room-requires c =
+    let t = c.args.tree.now in
+    let h = c.args.held.now in
+    let x = held_node t (option_map id_of c.args.caller.now.current) h c.requires.held in
+    record {
+      held = λ known.
+          subst (λ (old : ℕ). old ≤ (row_at c.args.quota.now h.facts.label.0).bytes) (sym c.len-old.ensures.value)
+          (held_room c.args.quota.now t x.0 h c.in-Ok.file.now x.1 (file_is t x.0 h c.in-Ok.file.now x.1 c.in-Ok.ensures) (c.totals.ensures.held_bytes c.args.quota.now t.nodes x.0.id x.0 c.requires.counts x.1.at) known);
+    }
+
+pub returns-then-not-branch-clause-acts : goal.returns-then-not-branch-clause-acts
+returns-then-not-branch-clause-acts c = λ n p rest opens id stable holds.
+    let site = site_of c.args.site.now in
+    let at : Place = placed p c.args.caller.now in
+    let t = c.args.tree.now in
+    let h = c.args.held.now in
+    let w : World = with_files rest t opens in
+    let args : Arguments = record { id = id; offset = c.args.offset; stable = stable; content = c.args.content.now } in
+    let is = file_is t n h c.in-Ok.file.now holds c.in-Ok.ensures in
+    let f = fits_so args.offset args.content c.in-Ok.file.now n.inner.content c.in-Some.size is.same c.in-Some.ensures in
+    let room = c.in_ok-byte_room.ensures.room w n c.requires.counts (sym holds.tells.label) (sym (c.len-old.ensures.value ∙ ap length is.same)) in
+    let passes : passes_quota site w n (size_written args.offset args.content n.inner.content) ≡ true = ap (passes_quota site w n) (sym f.1) ∙ past _ _ c.if-not-branch.true room in
+    record {
+      outcome = is_past site args at w n f.0 passes ∙ ap (λ (r : Refusal). refuse {R = ℕ} at r.gate r.status) (sym c.past_quota.ensures);
+      tree = refl;
+      opens = refl;
+    }
+
+pub returns-in-Ok-write-clause-acts : goal.returns-in-Ok-write-clause-acts
+returns-in-Ok-write-clause-acts c = λ n p rest opens id stable holds.
+    let site = site_of c.args.site.now in
+    let at : Place = placed p c.args.caller.now in
+    let t = c.args.tree.now in
+    let u = c.write.new.self in
+    let h = c.args.held.now in
+    let w : World = with_files rest t opens in
+    let args : Arguments = record { id = id; offset = c.args.offset; stable = stable; content = c.args.content.now } in
+    let is = file_is t n h c.in-Ok.file.now holds c.in-Ok.ensures in
+    let f = fits_so args.offset args.content c.in-Ok.file.now n.inner.content c.in-Some.size is.same c.in-Some.ensures in
+    let room = c.in_ok-byte_room.ensures.room w n c.requires.counts (sym holds.tells.label) (sym (c.len-old.ensures.value ∙ ap length is.same)) in
+    let stays : passes_quota site w n (size_written args.offset args.content n.inner.content) ≡ false = ap (passes_quota site w n) (sym f.1) ∙ within _ _ c.if-not-branch.false room in
+    subst (λ (o : Outcome (Answer ℕ)). Succeeds (length args.content) at rest t u opens opens o) (sym (goes_on site args at w n f.0 stays))
+    (succeeds at t u n h args holds rest opens (written_so at t u n h args holds c.in-Ok-write.field-0 is.kind f.0 c.in-Ok-write.ensures))
+
+pub returns-in-Ok-write-clause-limits : goal.returns-in-Ok-write-clause-limits
+returns-in-Ok-write-clause-limits c = ap (map limits_of) c.resize.ensures ∙ resized_limits c.args.quota.now c.args.held.now.facts.label.0 c.len-old.result c.in-Some.size
+
+pub returns-in-Ok-write-clause-counts : goal.returns-in-Ok-write-clause-counts
+returns-in-Ok-write-clause-counts c =
+    let at : Place = placed some_place c.args.caller.now in
+    let t = c.args.tree.now in
+    let u = c.write.new.self in
+    let h = c.args.held.now in
+    let x = held_node t (option_map id_of c.args.caller.now.current) h c.requires.held in
+    let n = x.0 in
+    let args : Arguments = record { id = some_id; offset = c.args.offset; stable = 0; content = c.args.content.now } in
+    let is = file_is t n h c.in-Ok.file.now x.1 c.in-Ok.ensures in
+    let f = fits_so args.offset args.content c.in-Ok.file.now n.inner.content c.in-Some.size is.same c.in-Some.ensures in
+    let done : u ≡ ran (data_written at n args) t = written_so at t u n h args x.1 c.in-Ok-write.field-0 is.kind f.0 c.in-Ok-write.ensures in
+    let old : c.len-old.result ≡ length n.inner.content = c.len-old.ensures.value ∙ ap length is.same in
+    subst (λ (rows : List Row). AreTotals rows u.nodes) (sym c.resize.ensures)
+    (subst (λ (label : ℕ). AreTotals (resized c.args.quota.now label c.len-old.result c.in-Some.size) u.nodes) (sym x.1.tells.label)
+    (subst (λ (size : ℕ). AreTotals (resized c.args.quota.now n.label size c.in-Some.size) u.nodes) (sym old)
+    (subst (λ (size : ℕ). AreTotals (resized c.args.quota.now n.label (length n.inner.content) size) u.nodes) (sym f.1)
+    (written_totals c.args.quota.now t u n c.requires.counts x.1.at is.kind at args (λ inner. c.totals.ensures.touched c.args.quota.now n.id inner n (world_of t) c.requires.counts x.1.at) done))))

@@ -1,0 +1,35 @@
+//! The operations on files and their opens: OPEN, CLOSE, READ, WRITE, COMMIT and SETATTR (RFC 8881 section 18). Each answers
+//! what its definition says of a world with the rows of the tree and those of the opens.
+//!
+//! `specs/Worlds.antt` says which world that is, `specs/Acts.antt` what a success and a refusal do to it, `specs/Tests.antt`
+//! how tests are told of.
+#![tactic(auto)]
+
+mod absent;
+mod asked;
+mod charging;
+mod closing;
+mod committing;
+mod files;
+mod labelling;
+mod opened;
+mod opening;
+mod present;
+mod reading;
+mod references;
+mod setting;
+mod sharing;
+mod state_ids;
+mod values;
+mod wanted;
+mod writing;
+
+pub use asked::Opening;
+pub use charging::{byte_room, check_move, credit, room_for};
+pub use closing::close;
+pub use committing::commit;
+pub use opened::Opened;
+pub use opening::open;
+pub use reading::read;
+pub use setting::set_attr;
+pub use writing::write;
