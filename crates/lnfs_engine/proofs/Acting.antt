@@ -4,7 +4,7 @@ use Rattle.std.specs.Prelude.{Result}
 use Rattle.lnfs_arguments.specs.declared.types.Op.{Op}
 use Rattle.lnfs_outside.specs.declared.event.Moment.{Moment}
 use Rattle.lnfs_results.specs.declared.types.OpResult.{OpResult}
-use Rattle.lnfs_world.specs.World.{Session, World}
+use Rattle.lnfs_world.specs.World.{Open, Session, World}
 use Rattle.lnfs_world.specs.Outcome.{Site, Place, Outcome, begins_at, done_to}
 use Rattle.lnfs_operations.specs.Chain.{Answer}
 use Rattle.lnfs_operations.specs.Sequence.{Sent}
@@ -20,7 +20,7 @@ use Rattle.lnfs_engine.specs.Places.{keeper_of, Stands, Starts}
 use Rattle.lnfs_nodes.specs.Trees.{refusal_of}
 use Rattle.lnfs_engine.specs.Replies.{IsRefusal, own_of, Acts, Says}
 use Rattle.lnfs_engine.specs.Performs.{turn, first_kept, kept_behind, Performs}
-use Rattle.lnfs_engine.proofs.Own.{around, IsOwn}
+use Rattle.lnfs_engine.proofs.Own.{IsOwn, whole}
 
 -- what holds unless memory was wanting holds where a test refused
 pub not_memory : (S : Type 0) {P : Type 0} (e : SessionError) (why : Refusal) → IsRefusal e why → UnlessMemory {S = S} (Err e) P → P
@@ -32,12 +32,12 @@ pub refused_as : {S R : Type 0} (f : S → R) (op : Op) (reply : R → Reply) (a
 refused_as f op reply a (Status code foreign) why is answers = ap (reply_of op reply) (sym answers) ∙ ap (failure op) (sym is)
 refused_as f op reply a Memory why is answers = absurd is
 
-pub acts : {R : Type 0} (rest : World) → rest.opens ≡ [] → (before after : Lists) (o : Outcome (Answer R)) (answer : Reply) (next : Place) (r : Reply) → IsOwn next o → answer ≡ r → after ≡ lists_of (done_to (standing rest before) o) →
-    Acts (record { answer = answer; place = o.place; changes = o.changes }) r next (standing rest before) (standing rest after)
-acts rest none before after o answer next r own same lists = record {
+pub acts : {R : Type 0} (rest : World) (opens : List Open) (before after : Lists) (o : Outcome (Answer R)) (answer : Reply) (next : Place) (r : Reply) → IsOwn next (standing rest before) opens o → answer ≡ r → after ≡ lists_of (done_to (standing rest before) o) →
+    Acts (record { answer = answer; place = o.place; changes = o.changes }) r next (standing rest before) (standing (record rest { opens = opens }) after)
+acts rest opens before after o answer next r own same lists = record {
   answer = same;
   place = own.place;
-  world = ap (standing rest) lists ∙ around rest none o.changes before own.own;
+  world = ap (standing (record rest { opens = opens })) lists ∙ whole rest opens before next o own;
 }
 
 -- an operation that ran, whose reply was appended

@@ -1,4 +1,5 @@
 pub mod Heads
+pub mod Leaving
 pub mod Own
 pub mod Acting
 pub mod Sequencing

@@ -1,4 +1,4 @@
--- How many nodes each level has after an operation that changes the tree.
+-- How many nodes and bytes each level has after an operation that changes the tree.
 use Rattle.std.proofs.Common.{◌≡◌, ◌==◌, ℕ, Bool, true, false, cond, not, List, [], ◌∷◌, Option, Some, None, refl, sym, ap, ◌∙◌, subst, arith}
 use Rattle.std.specs.Prelude.{◌++◌, if◌then◌else◌}
 use Rattle.std.specs.Option.{option_map, option_and_then}
@@ -12,7 +12,7 @@ use Rattle.lnfs_arguments.specs.declared.types.What.TheVariants.{Dir, Symlink}
 use Rattle.lnfs_world.specs.World.{Id, Node, Entry, World, same_id, node_at, is_directory, is_given}
 use Rattle.lnfs_world.specs.Names.{entry_at, size_of}
 use Rattle.lnfs_world.specs.Tree.{has_other_name, holds_names, goes_under}
-use Rattle.lnfs_world.specs.Usage.{bytes_used, bytes_of}
+use Rattle.lnfs_world.specs.Usage.{bytes_of}
 use Rattle.lnfs_world.specs.Change.{Change, Touch, Unlink, Drop, Move, apply, apply_all, touched}
 use Rattle.lnfs_world.specs.Effects.{attributes_changed, names_changed, name_added, next_id, next_entry, has_cookie, taken_out, may_give_way, directories_changed}
 use Rattle.lnfs_world.specs.Facts.{NodeFacts}
@@ -33,24 +33,25 @@ use Rattle.lnfs_monitor.specs.Rules.{Change as ChangeNames, Drop as DropNode}
 use Rattle.lnfs_operations.proofs.Chains.{demand_any, where_any}
 use Rattle.lnfs_operations.proofs.Ends.{allowed_any, named_any}
 use Rattle.lnfs_operations.specs.Link.{link}
-use Rattle.lnfs_operations.specs.SetAttr.{set_attr}
 use Rattle.lnfs_operations.specs.Accessed.{accessed}
 use Rattle.lnfs_operations.specs.ReadDir.{Arguments, read_dir}
 use Rattle.lnfs_operations.specs.ReadLink.{read_link}
+use Rattle.lnfs_operations.specs.Read as read
+use Rattle.lnfs_operations.proofs.FileLaws.{read_any}
 use Rattle.lnfs_operations.proofs.Readings.{read_link_any}
 use Rattle.lnfs_operations.proofs.ReadDirLaws.{read_dir_any}
 use Rattle.lnfs_operations.proofs.CreateLaws.{create_any}
 use Rattle.lnfs_operations.proofs.Namings.{removed, link_any}
-use Rattle.lnfs_operations.proofs.SetAttrLaws.{set_attr_any}
 use Rattle.lnfs_tree.specs.Rows.{Rows}
 use Rattle.lnfs_tree.specs.Changed.{Gone, gone}
 use Rattle.lnfs_nodes.specs.Trees.{with_tree}
-use Rattle.lnfs_nodes.specs.Told.{gone_at, gone_from}
+use Rattle.lnfs_nodes.specs.Told.{bytes_in, gone_at, gone_from}
 use Rattle.lnfs_nodes.specs.Renames.{gone_between, gone_past}
-use Rattle.lnfs_engine.specs.Counts.{AreAsMany, IsLess, IsMore, WentFrom}
-use Rattle.lnfs_engine.proofs.Counting.{Touched, as_many, untouched, touch, relabel, dropped, made}
+use Rattle.lnfs_files.specs.Charges.{IsLess}
+use Rattle.lnfs_engine.specs.Counts.{AreAsMany, IsMore, WentFrom}
+use Rattle.lnfs_engine.proofs.Counting.{Touched, as_many, untouched, touch, dropped, made}
 
-module _ (site : Site) (p : Place) (rest : World) (t : Rows) (facts : NodeFacts site.dom t.nodes t.entries t.lasts) (empty : (level : ℕ) → bytes_used t.nodes level ≡ 0) where
+module _ (site : Site) (p : Place) (rest : World) (t : Rows) (facts : NodeFacts site.dom t.nodes t.entries t.lasts) where
   abbrev pub w : World
   w = with_tree rest t
 
@@ -58,28 +59,22 @@ module _ (site : Site) (p : Place) (rest : World) (t : Rows) (facts : NodeFacts 
   Many o = AreAsMany t.nodes (done_to w o).nodes
 
   all : AreAsMany t.nodes t.nodes
-  all = as_many t.nodes empty
+  all = as_many t.nodes
 
   none : Touched t.nodes t.nodes
-  none = untouched t.nodes empty facts.rise
+  none = untouched t.nodes facts.rise
 
   pub link_many : (name : List ℕ) → Many (link site name p w)
   link_many name = link_any site p w Many name (λ gate status. all) (λ n d own links free.
-      (touch t.nodes empty (touched d.id (name_added p.moment d.inner) t.nodes) n (attributes_changed p.moment n.inner) links.there refl
-      (touch t.nodes empty t.nodes d (name_added p.moment d.inner) own.there refl none)).many)
-
-  pub set_many : (given : RawAttrs) → Many (set_attr site given p w)
-  set_many given = set_attr_any Many site given p w (λ gate status. all) all
-      (λ values label n limited parsed as_given may. (touch t.nodes empty t.nodes n (attributes_changed p.moment (record n.inner { stored = Some label.spelled })) may.found refl none).many)
-      (λ n level may. relabel t.nodes empty n level (attributes_changed p.moment n.inner) may.set.found refl)
-      (λ n mode may. (touch t.nodes empty t.nodes n (attributes_changed p.moment (record n.inner { mode = mode })) may.found refl none).many)
+      (touch t.nodes (touched d.id (name_added p.moment d.inner) t.nodes) n (attributes_changed p.moment n.inner) links.there refl
+      (touch t.nodes t.nodes d (name_added p.moment d.inner) own.there refl none)).many)
 
   -- what is read
   accessed_many : {R : Type 0} (result : R) (n : Node) → node_at t.nodes n.id ≡ Some n → Many (done p result (accessed p n))
   accessed_many result n there = at (p.subject == n.label)
     where
       at : (own : Bool) → AreAsMany t.nodes (apply_all (cond own (Touch n.id (record n.inner { accessed = p.moment }) ∷ []) []) w).nodes
-      at true = (touch t.nodes empty t.nodes n (record n.inner { accessed = p.moment }) there refl none).many
+      at true = (touch t.nodes t.nodes n (record n.inner { accessed = p.moment }) there refl none).many
       at false = all
 
   pub read_link_many : Many (read_link site p w)
@@ -87,6 +82,9 @@ module _ (site : Site) (p : Place) (rest : World) (t : Rows) (facts : NodeFacts 
 
   pub read_dir_many : (args : Arguments) → Many (read_dir site args p w)
   read_dir_many args = read_dir_any Many site args p w (λ gate status. all) (λ i d found there size is. accessed_many found d (ap (node_at t.nodes) (node_at-id i t.nodes d there) ∙ there))
+
+  pub read_many : (args : read.Arguments) → Many (read.read site args p w)
+  read_many args = read_any Many site args p w (λ gate status. all) (λ n file. accessed_many (read.read_from args n) n file.found)
 
   -- ---- a new node
 
@@ -110,9 +108,9 @@ module _ (site : Site) (p : Place) (rest : World) (t : Rows) (facts : NodeFacts 
   create_more what name given = create_any MadeOne site what name given p w (λ gate status r is. absurd cc) (λ values label d parsed as_given may r is.
       let n : Node = new_node site p w what values.mode label d in
       let own : d.label ≡ p.subject = let same = may.own in grind (arith, nat_tests, same) in
-      let touched_one = touch t.nodes empty t.nodes d (name_added p.moment d.inner) may.found refl none in
+      let touched_one = touch t.nodes t.nodes d (name_added p.moment d.inner) may.found refl none in
       subst (λ home. IsMore home t.nodes (done_to w (made_at p d name (set_of given) n)).nodes) own
-      (made t.nodes empty (touched d.id (name_added p.moment d.inner) t.nodes) n (absent d.label) (no_file n what) touched_one))
+      (made t.nodes (touched d.id (name_added p.moment d.inner) t.nodes) n (absent d.label) (no_file n what) touched_one))
 
   -- ---- a name that is taken out
 
@@ -123,11 +121,11 @@ module _ (site : Site) (p : Place) (rest : World) (t : Rows) (facts : NodeFacts 
       same : n.id ≡ e.node
       same = node_at-id e.node t.nodes n there
 
-      at : (b : Bool) → WentFrom (cond b None (Some (record { node = n.id; label = n.label; size = size_of t.entries n n.kind }))) t.nodes (apply_all (cond b (Touch n.id (attributes_changed moment n.inner) ∷ Unlink e ∷ []) (Drop e ∷ []) ++ more) v).nodes
+      at : (b : Bool) → WentFrom (cond b None (Some (record { node = n.id; kind = n.kind; label = n.label; size = size_of t.entries n n.kind }))) t.nodes (apply_all (cond b (Touch n.id (attributes_changed moment n.inner) ∷ Unlink e ∷ []) (Drop e ∷ []) ++ more) v).nodes
       at true = subst (AreAsMany t.nodes) (sym (quiet (apply (Unlink e) (apply (Touch n.id (attributes_changed moment n.inner)) v))))
-          (touch t.nodes empty v.nodes n (attributes_changed moment n.inner) (ap (node_at t.nodes) same ∙ there) refl touched_v).many
-      at false = subst (IsLess n.id.level t.nodes) (sym (quiet (apply (Drop e) v)))
-          (subst (λ (i : Id). IsLess i.level t.nodes (apply (Drop e) v).nodes) (sym same) (dropped t.nodes empty v.nodes e.node n there touched_v))
+          (touch t.nodes v.nodes n (attributes_changed moment n.inner) (ap (node_at t.nodes) same ∙ there) refl touched_v).many
+      at false = subst (IsLess n.id.level n.label (bytes_in n.kind (size_of t.entries n n.kind)) t.nodes) (sym (quiet (apply (Drop e) v)))
+          (subst (λ (i : Id). IsLess i.level n.label (bytes_in n.kind (size_of t.entries n n.kind)) t.nodes (apply (Drop e) v).nodes) (sym same) (dropped t.nodes v.nodes t.entries e.node n there touched_v))
 
   module _ (name : List ℕ) where
     abbrev pub Taken : Option Id → Outcome (Answer Cinfo) → Type 0
@@ -155,7 +153,7 @@ module _ (site : Site) (p : Place) (rest : World) (t : Rows) (facts : NodeFacts 
         let entry : entry_at t.entries i name ≡ Some e = ap (λ (j : Id). entry_at t.entries j name) (sym id) ∙ named in
         let goes : gone_from t (Some i) name ≡ gone t.entries e n = ap (gone_at t) entry ∙ ap (option_and_then (gone t.entries e)) held in
         let v : World = apply (Touch d.id (names_changed p.moment d.inner)) w in
-        let touched_v = touch t.nodes empty t.nodes d (names_changed p.moment d.inner) (ap (node_at t.nodes) id ∙ there) refl none in
+        let touched_v = touch t.nodes t.nodes d (names_changed p.moment d.inner) (ap (node_at t.nodes) id ∙ there) refl none in
         subst (λ g. WentFrom g t.nodes (done_to w (removed p w d e n)).nodes) (sym goes)
         (subst (λ (cs : List Change). WentFrom (gone t.entries e n) t.nodes (apply_all cs v).nodes) (append-nil (taken_out p.moment t.entries e n)) (went v touched_v p.moment e n held [] (λ x. refl)))
         )))
@@ -173,9 +171,9 @@ module _ (site : Site) (p : Place) (rest : World) (t : Rows) (facts : NodeFacts 
   touched_both Q moment from to there_from there_to room more next = at (same_id from.id to.id)
     where
       at : (b : Bool) → Q (apply_all (cond b (Touch to.id (name_added moment to.inner) ∷ []) (Touch from.id (names_changed moment from.inner) ∷ Touch to.id (name_added moment to.inner) ∷ []) ++ room ++ more) w)
-      at true = next (apply (Touch to.id (name_added moment to.inner)) w) (touch t.nodes empty t.nodes to (name_added moment to.inner) there_to refl none)
+      at true = next (apply (Touch to.id (name_added moment to.inner)) w) (touch t.nodes t.nodes to (name_added moment to.inner) there_to refl none)
       at false = next (apply (Touch to.id (name_added moment to.inner)) (apply (Touch from.id (names_changed moment from.inner)) w))
-          (touch t.nodes empty (touched from.id (names_changed moment from.inner) t.nodes) to (name_added moment to.inner) there_to refl (touch t.nodes empty t.nodes from (names_changed moment from.inner) there_from refl none))
+          (touch t.nodes (touched from.id (names_changed moment from.inner) t.nodes) to (name_added moment to.inner) there_to refl (touch t.nodes t.nodes from (names_changed moment from.inner) there_from refl none))
 
   module _ (old new : List ℕ) where
     -- what went, as it is told

@@ -2,11 +2,7 @@
 use Rattle.std.proofs.Common.{◌≡◌, ℕ, List, Some, None, Ok, Err, refl, sym, ◌∙◌, subst}
 use Rattle.std.specs.Prelude.{Result, IfOk}
 use Rattle.std.proofs.lemmas.Result.{IfOk-weaker}
-use Rattle.lnfs_attrs.specs.declared.bitmap.Bitmap.{Bitmap}
-use Rattle.lnfs_attrs.specs.declared.raw.RawAttrs.{RawAttrs}
 use Rattle.lnfs_arguments.specs.declared.types.Op.{Op}
-use Rattle.lnfs_arguments.specs.declared.types.Op.TheVariants as ops
-use Rattle.lnfs_arguments.specs.declared.statuses.TheConstants.{NFS4ERR_NOTSUPP}
 use Rattle.lnfs_results.specs.declared.types.OpResult.{OpResult}
 use Rattle.lnfs_results.specs.Numbered.{status_of}
 use Rattle.lnfs_world.specs.World.{World}
@@ -14,11 +10,10 @@ use Rattle.lnfs_world.specs.Outcome.{Site, Place, Outcome}
 use Rattle.lnfs_world.specs.Lawful.{turn_of}
 use Rattle.lnfs_operations.specs.declared.Refusal.{Refusal}
 use Rattle.lnfs_operations.specs.Chain as chain
-use Rattle.lnfs_operations.specs.Chain.{Answer, Done, Refused, refuse}
-use Rattle.lnfs_operations.specs.declared.Gate.TheVariants as gates
+use Rattle.lnfs_operations.specs.Chain.{Answer, Done, Refused}
 use Rattle.lnfs_operations.specs.Results.{failed}
 use Rattle.lnfs_operations.specs.Sequence.{Sent}
-use Rattle.lnfs_operations.specs.Served.{Keeper, Nowhere, Reply, success, told_reply, reply_of, replied, plainly, row}
+use Rattle.lnfs_operations.specs.Served.{Keeper, Nowhere, Reply, success, reply_of, replied, plainly, row}
 use Rattle.lnfs_tree.specs.Rows.{Rows}
 use Rattle.lnfs_tree.specs.declared.node.NodeId.{NodeId}
 use Rattle.lnfs_nodes.specs.Trees.{with_tree, refusal_of, answered, stays, goes, saves}
@@ -26,7 +21,7 @@ use Rattle.lnfs_nodes.specs.Writes.{Wrote, Writes}
 use Rattle.lnfs_engine.specs.declared.place.Place as code_place
 use Rattle.lnfs_engine.specs.declared.place.Keeper as code
 use Rattle.lnfs_engine.specs.declared.reply.Came.{Came}
-use Rattle.lnfs_engine.specs.Places.{place_of, keeper_of, IsOnNodes}
+use Rattle.lnfs_engine.specs.Places.{place_of, keeper_of}
 use Rattle.lnfs_engine.specs.Replies.{Acts, Says, SaysOwn, SaysWritten, own_of}
 use Rattle.lnfs_engine.specs.Performs.{turn, kept_behind, Performs}
 use Rattle.lnfs_engine.specs.Nodes.{told_as, goes_to, saves_as}
@@ -88,48 +83,3 @@ module _ {R : Type 0} (told : R → OpResult) (ok : (r : R) → status_of (told 
     keeper = own (keeper_of keeper) o.answer;
     says = says_all o.answer answer comes wrote.wrote more;
   }
-
--- ---- an operation that isn't served
-
-pub record IsOther (op : Op) : Type 0 where
-  pub put_fh : (handle : List ℕ) → op ≡ ops.PutFh handle → ⊥
-  pub put_root_fh : op ≡ ops.PutRootFh → ⊥
-  pub get_fh : op ≡ ops.GetFh → ⊥
-  pub save_fh : op ≡ ops.SaveFh → ⊥
-  pub restore_fh : op ≡ ops.RestoreFh → ⊥
-  pub lookup : (name : List ℕ) → op ≡ ops.Lookup name → ⊥
-  pub lookup_parent : op ≡ ops.LookupP → ⊥
-  pub get_attr : (asked : Bitmap) → op ≡ ops.GetAttr asked → ⊥
-  pub verify : (given : RawAttrs) → op ≡ ops.Verify given → ⊥
-  pub nverify : (given : RawAttrs) → op ≡ ops.NVerify given → ⊥
-  pub access : (bits : ℕ) → op ≡ ops.Access bits → ⊥
-  pub read_dir : (cookie : ℕ) (verifier : List ℕ) (dircount maxcount : ℕ) (asked : Bitmap) → op ≡ ops.ReadDir cookie verifier dircount maxcount asked → ⊥
-  pub read_link : op ≡ ops.ReadLink → ⊥
-
-pub other_row : (site : Site) (sent : Sent) (op : Op) (p : Place) (w : World) → IsOnNodes op → IsOther op → row site sent op p w ≡ replied op (told_reply p.subject) (refuse p gates.Outside NFS4ERR_NOTSUPP)
-other_row site sent (ops.ExchangeId verifier owner flags implementation) p w own other = absurd own
-other_row site sent (ops.CreateSession args) p w own other = absurd own
-other_row site sent (ops.DestroySession session) p w own other = absurd own
-other_row site sent (ops.Sequence args) p w own other = absurd own
-other_row site sent (ops.DestroyClientId client) p w own other = absurd own
-other_row site sent (ops.ReclaimComplete one_fs) p w own other = absurd own
-other_row site sent (ops.Create what name given) p w own other = absurd own
-other_row site sent (ops.Link name) p w own other = absurd own
-other_row site sent (ops.Remove name) p w own other = absurd own
-other_row site sent (ops.Rename old new) p w own other = absurd own
-other_row site sent (ops.SetAttr id given) p w own other = absurd own
-other_row site sent (ops.Outside number status) p w own other = absurd own
-other_row site sent (ops.PutFh handle) p w own other = absurd (other.put_fh handle refl)
-other_row site sent ops.PutRootFh p w own other = absurd (other.put_root_fh refl)
-other_row site sent ops.GetFh p w own other = absurd (other.get_fh refl)
-other_row site sent ops.SaveFh p w own other = absurd (other.save_fh refl)
-other_row site sent ops.RestoreFh p w own other = absurd (other.restore_fh refl)
-other_row site sent (ops.Lookup name) p w own other = absurd (other.lookup name refl)
-other_row site sent ops.LookupP p w own other = absurd (other.lookup_parent refl)
-other_row site sent (ops.GetAttr asked) p w own other = absurd (other.get_attr asked refl)
-other_row site sent (ops.Verify given) p w own other = absurd (other.verify given refl)
-other_row site sent (ops.NVerify given) p w own other = absurd (other.nverify given refl)
-other_row site sent (ops.Access bits) p w own other = absurd (other.access bits refl)
-other_row site sent (ops.ReadDir cookie verifier dircount maxcount asked) p w own other = absurd (other.read_dir cookie verifier dircount maxcount asked refl)
-other_row site sent ops.ReadLink p w own other = absurd (other.read_link refl)
-other_row site sent op p w own other = refl

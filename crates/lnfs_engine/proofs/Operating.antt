@@ -6,26 +6,17 @@ use Rattle.lnfs_arguments.specs.declared.types.Compound.{Compound}
 use Rattle.lnfs_results.specs.declared.types.OpResult.{OpResult}
 use Rattle.lnfs_world.specs.World.{World}
 use Rattle.lnfs_world.specs.Outcome.{Site, Place}
-use Rattle.lnfs_world.specs.Lawful.{Deed, deed_of}
+use Rattle.lnfs_world.specs.Lawful.{Turn, Deed, deed_of}
 use Rattle.lnfs_world.specs.Both.{Both, both, on_world}
 use Rattle.lnfs_operations.specs.Chain.{Refusal}
 use Rattle.lnfs_operations.specs.Extra.{Extra}
 use Rattle.lnfs_operations.specs.Sequence.{Sent}
 use Rattle.lnfs_operations.specs.Admission.{admission}
-use Rattle.lnfs_operations.specs.Served.{Reply, failure, row, further_reply, row_in, admitted, is_served, operation}
+use Rattle.lnfs_operations.specs.Served.{Reply, failure, row, further_reply, row_in, admitted, operation}
 use Rattle.lnfs_engine.specs.declared.place.Keeper as code
 use Rattle.lnfs_engine.specs.declared.reply.Came.{Came}
 use Rattle.lnfs_engine.specs.Places.{further_in}
 use Rattle.lnfs_engine.specs.Performs.{turn, Performs}
-
--- over any tests
-passed : {S : Type 0} (b : Bool) (op : Op) (p : Place) (a : S) (test : Place → S → Option Refusal) (deed : Deed Reply S) → None ≡ cond b (test p a) None → cond b (λ q x. admitted op q x (test q x) (deed q x)) deed p a ≡ deed p a
-passed true op p a test deed is = ap (λ o. admitted op p a o (deed p a)) (sym is)
-passed false op p a test deed is = refl
-
-stopped : {S : Type 0} (b : Bool) (op : Op) (p : Place) (a : S) (test : Place → S → Option Refusal) (deed : Deed Reply S) (why : Refusal) → Some why ≡ cond b (test p a) None → cond b (λ q x. admitted op q x (test q x) (deed q x)) deed p a ≡ record { answer = failure op why; place = p; state = a }
-stopped true op p a test deed why is = ap (λ o. admitted op p a o (deed p a)) (sym is)
-stopped false op p a test deed why is = absurd (cc)
 
 -- of two, the one that is told by what a test tells
 is_first : {A : Type 0} (b : Bool) (x y : A) (f told : ℕ × List ℕ) → Some told ≡ cond b (Some f) None → (cond b x y ≡ x) × (f ≡ told)
@@ -50,14 +41,14 @@ module _ (X : Extra) (site : Site) (sent : Sent) where
   further_row o n args p b is = absurd (cc)
 
   module _ (c : Compound) (so_far : List OpResult) (op : Op) (p : Place) (b : Both X.Row) where
-    abbrev test : Place → Both X.Row → Option Refusal
-    test q v = admission X.grammar c so_far op q v.world
+    abbrev after : Option Refusal → Turn Reply (Both X.Row)
+    after refused = admitted op p b refused (row_in X site sent op p b)
 
-    pub runs : None ≡ cond (is_served X.grammar op) (admission X.grammar c so_far op p b.world) None → operation X site sent c so_far op p b ≡ row_in X site sent op p b
-    runs is = passed (is_served X.grammar op) op p b test (row_in X site sent op) is
+    pub runs : None ≡ admission X.grammar c so_far op p b.world → operation X site sent c so_far op p b ≡ row_in X site sent op p b
+    runs is = ap after (sym is)
 
-    pub fails : (why : Refusal) → Some why ≡ cond (is_served X.grammar op) (admission X.grammar c so_far op p b.world) None → operation X site sent c so_far op p b ≡ record { answer = failure op why; place = p; state = b }
-    fails why is = stopped (is_served X.grammar op) op p b test (row_in X site sent op) why is
+    pub fails : (why : Refusal) → Some why ≡ admission X.grammar c so_far op p b.world → operation X site sent c so_far op p b ≡ record { answer = failure op why; place = p; state = b }
+    fails why is = ap after (sym is)
 
 -- an operation of the table leaves the rows beside
 pub lifted : {Row : Type 0} (begin : ℕ) (old new : List ℕ) (here next : code.Keeper) (at : Place) (site : Site) (sent : Sent) (op : Op) (p : Place) (w v : World) (rows : List Row) (came : Came) →

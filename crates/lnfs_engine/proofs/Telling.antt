@@ -1,5 +1,5 @@
 -- An operation on the clients of a store, whose answer is appended.
-use Rattle.std.proofs.Common.{◌≡◌, ℕ, List, [], Err, refl, sym, ap, subst}
+use Rattle.std.proofs.Common.{◌≡◌, ℕ, List, Err, sym, ap, subst}
 use Rattle.std.specs.Prelude.{Result, IfOk}
 use Rattle.std.proofs.lemmas.Result.{IfOk-weaker}
 use Rattle.lnfs_arguments.specs.declared.types.Op.{Op}
@@ -9,15 +9,16 @@ use Rattle.lnfs_world.specs.Outcome.{Site, Place, Outcome, begins_at, done_to}
 use Rattle.lnfs_operations.specs.Chain.{refuse}
 use Rattle.lnfs_operations.specs.Sequence.{Sent}
 use Rattle.lnfs_operations.specs.Served.{Keeper, Nowhere, Reply, told_reply, replied, row}
-use Rattle.lnfs_session.specs.Standing.{Lists, standing}
+use Rattle.lnfs_session.specs.Standing.{Lists}
 use Rattle.lnfs_tree.specs.Rows.{Rows}
+use Rattle.lnfs_open.specs.Lists as opens
 use Rattle.lnfs_operations.specs.declared.Refusal.{Refusal}
 use Rattle.lnfs_engine.specs.declared.place.Keeper as code
 use Rattle.lnfs_engine.specs.declared.reply.Came.{Came}
 use Rattle.lnfs_engine.specs.Places.{Starts}
 use Rattle.lnfs_engine.specs.Replies.{Acts, Says, own_of}
 use Rattle.lnfs_engine.specs.Performs.{turn, Performs}
-use Rattle.lnfs_engine.specs.Stores.{only_tree, stored}
+use Rattle.lnfs_engine.specs.Stores.{stored}
 use Rattle.lnfs_engine.proofs.Acting.{performs_at, performs_first}
 
 -- what is said of every answer that is appended
@@ -25,19 +26,25 @@ abbrev pub Said : (old new : List ℕ) → Op → Result OpResult Refusal → Ca
 Said old new op answer came = (begin : ℕ) (keeper : Keeper) → Says begin old new (own_of op keeper answer) came
 
 module _ (begin : ℕ) (old new : List ℕ) (here : code.Keeper) (site : Site) (sent : Sent) (op same : Op) (p : Place) (answer : Result OpResult Refusal) (is : op ≡ same) {E : Type 0} (result : Result Came E) (said : IfOk result (Said old new op answer)) where
-  module _ (store : World) (clients after : Lists) (tree : Rows) (view_is : stored clients tree ≡ store) where
+  module _ (store : World) (clients after : Lists) (tree : Rows) (held : opens.Lists) (view_is : stored clients tree held ≡ store) where
+    abbrev before : World
+    before = stored clients tree held
+
+    abbrev later : World
+    later = stored after tree held
+
     abbrev Told : Came → Type 0
-    Told came = Performs begin old new here here p (stored after tree) (turn site sent op p store) came
+    Told came = Performs begin old new here here p later (turn site sent op p store) came
 
-    from_store : (came : Came) → Performs begin old new here here p (stored after tree) (turn site sent op p (stored clients tree)) came → Told came
-    from_store came = subst (λ w. Performs begin old new here here p (stored after tree) (turn site sent op p w) came) view_is
+    from_store : (came : Came) → Performs begin old new here here p later (turn site sent op p before) came → Told came
+    from_store came = subst (λ w. Performs begin old new here here p later (turn site sent op p w) came) view_is
 
-    pub told : ((rest : World) → rest.opens ≡ [] → Acts (row site sent same p (standing rest clients)) (own_of same Nowhere answer) p (standing rest clients) (standing rest after)) → IfOk result Told
-    told did = IfOk-weaker result (Said old new op answer) Told (λ came says. from_store came (performs_at begin old new here site sent op same p (stored clients tree) (stored after tree) answer came is (did (only_tree tree) refl) (says begin Nowhere))) said
+    pub told : Acts (row site sent same p before) (own_of same Nowhere answer) p before later → IfOk result Told
+    told did = IfOk-weaker result (Said old new op answer) Told (λ came says. from_store came (performs_at begin old new here site sent op same p before later answer came is did (says begin Nowhere))) said
 
     -- of the first operation of its COMPOUND
-    pub told_first : Starts p here → ((rest : World) → rest.opens ≡ [] → Acts (row site sent same (begins_at p.subject p.moment) (standing rest clients)) (own_of same Nowhere answer) (begins_at p.subject p.moment) (standing rest clients) (standing rest after)) → IfOk result Told
-    told_first starts did = IfOk-weaker result (Said old new op answer) Told (λ came says. from_store came (performs_first begin old new here site sent op same p (stored clients tree) (stored after tree) answer came is starts (did (only_tree tree) refl) (says begin Nowhere))) said
+    pub told_first : Starts p here → Acts (row site sent same (begins_at p.subject p.moment) before) (own_of same Nowhere answer) (begins_at p.subject p.moment) before later → IfOk result Told
+    told_first starts did = IfOk-weaker result (Said old new op answer) Told (λ came says. from_store came (performs_first begin old new here site sent op same p before later answer came is starts did (says begin Nowhere))) said
 
 -- one that is refused with no test
 pub refused : (site : Site) (sent : Sent) (op : Op) (p : Place) (w : World) (why : Refusal) → row site sent op p w ≡ replied op (told_reply p.subject) (refuse p why.gate why.status) → Acts (row site sent op p w) (own_of op Nowhere (Err why)) p w w

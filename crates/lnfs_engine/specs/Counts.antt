@@ -1,48 +1,35 @@
--- What a quota counts of a tree's nodes.
-use Rattle.std.specs.Prelude.{◌≡◌, ◌+◌, ◌<◌, ◌^◌, ◌==◌, ℕ, cond, List, length, Option, Some, None, Result, Ok, Err}
+-- What operations do to how many nodes and bytes the levels have, and to their totals.
+use Rattle.std.specs.Prelude.{◌≡◌, ◌+◌, ◌==◌, ℕ, cond, List, Option, Some, None, Result, Ok, Err}
 use Rattle.lnfs_world.specs.World.{Node}
 use Rattle.lnfs_world.specs.Usage.{nodes_used, bytes_used}
 use Rattle.lnfs_operations.specs.declared.Refusal.{Refusal}
 use Rattle.lnfs_quota.specs.declared.quota.Row.{Row}
-use Rattle.lnfs_quota.specs.Quota.{row_at, node_charged}
-use Rattle.lnfs_quota.specs.Totals.{AreTotals}
+use Rattle.lnfs_quota.specs.Quota.{node_charged}
 use Rattle.lnfs_tree.specs.Changed.{Gone}
+use Rattle.lnfs_nodes.specs.Told.{gone_bytes}
+use Rattle.lnfs_files.specs.Charges.{IsLess, IsNodeHeld, AreBytesHeld}
 
--- The totals of nodes, none of which has bytes: no operation makes a file yet.
-pub record Counts (rows : List Row) (nodes : List Node) : Type 0 where
-  pub totals : AreTotals rows nodes
-  pub empty : (level : ℕ) → bytes_used nodes level ≡ 0
-
--- a level that is counted, whose total may still rise
-pub record MayRise (rows : List Row) (level : ℕ) : Type 0 where
-  pub known : level < length rows
-  pub fits : (row_at rows level).nodes + 1 < 2 ^ 63
-
--- a node that is counted in its home, if that is counted at all
+-- a node that is counted in its home, and its bytes in its label, if those are counted at all
 abbrev pub IsHeld : List Row → Option Gone → Type 0
 IsHeld rows None = Unit {0}
-IsHeld rows (Some g) = g.node.level < length rows → (0 < (row_at rows g.node.level).nodes)
+IsHeld rows (Some g) = IsNodeHeld rows g.node.level × AreBytesHeld rows g.label (gone_bytes g)
 
 -- ---- what becomes of the nodes
 
--- as many in each home, without bytes
+-- as many in each home, and as many bytes in each label
 pub record AreAsMany (before after : List Node) : Type 0 where
   pub nodes : (level : ℕ) → nodes_used after level ≡ nodes_used before level
-  pub bytes : (level : ℕ) → bytes_used after level ≡ 0
+  pub bytes : (level : ℕ) → bytes_used after level ≡ bytes_used before level
 
--- one less, or one more, in a home
-pub record IsLess (home : ℕ) (before after : List Node) : Type 0 where
-  pub nodes : (level : ℕ) → nodes_used after level + cond (home == level) 1 0 ≡ nodes_used before level
-  pub bytes : (level : ℕ) → bytes_used after level ≡ 0
-
+-- one more in a home, without bytes
 pub record IsMore (home : ℕ) (before after : List Node) : Type 0 where
   pub nodes : (level : ℕ) → nodes_used after level ≡ nodes_used before level + cond (home == level) 1 0
-  pub bytes : (level : ℕ) → bytes_used after level ≡ 0
+  pub bytes : (level : ℕ) → bytes_used after level ≡ bytes_used before level
 
--- by the node that went, if one did
+-- less the node that went, if one did
 abbrev pub WentFrom : Option Gone → (before after : List Node) → Type 0
 WentFrom None before after = AreAsMany before after
-WentFrom (Some g) before after = IsLess g.node.level before after
+WentFrom (Some g) before after = IsLess g.node.level g.label (gone_bytes g) before after
 
 abbrev pub TakenFrom : {A : Type 0} → (A → Option Gone) → Result A Refusal → (before after : List Node) → Type 0
 TakenFrom gone (Ok a) before after = WentFrom (gone a) before after

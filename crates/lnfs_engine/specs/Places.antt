@@ -67,30 +67,40 @@ HasToBeFirst (ops.Sequence args) = Unit {0}
 HasToBeFirst (ops.DestroyClientId client) = Unit {0}
 HasToBeFirst _ = ⊥
 
--- an operation that makes, names, moves, takes out or sets
+-- an operation that makes, names, moves or takes out
 abbrev pub IsOnNames : Op → Type 0
 IsOnNames (ops.Create what name given) = Unit {0}
 IsOnNames (ops.Link name) = Unit {0}
 IsOnNames (ops.Remove name) = Unit {0}
 IsOnNames (ops.Rename old new) = Unit {0}
-IsOnNames (ops.SetAttr id given) = Unit {0}
 IsOnNames _ = ⊥
 
--- another operation on nodes, or one that isn't served
+-- an operation on a file and its opens, or one that sets attributes
+abbrev pub IsOnFiles : Op → Type 0
+IsOnFiles (ops.Open seqid access deny client owner making claim) = Unit {0}
+IsOnFiles (ops.Close seqid id) = Unit {0}
+IsOnFiles (ops.Read id offset count) = Unit {0}
+IsOnFiles (ops.Write id offset stable content) = Unit {0}
+IsOnFiles (ops.Commit offset count) = Unit {0}
+IsOnFiles (ops.SetAttr id given) = Unit {0}
+IsOnFiles _ = ⊥
+
+-- another operation on nodes
 abbrev pub IsOnNodes : Op → Type 0
-IsOnNodes (ops.ExchangeId verifier owner flags implementation) = ⊥
-IsOnNodes (ops.CreateSession args) = ⊥
-IsOnNodes (ops.DestroySession session) = ⊥
-IsOnNodes (ops.Sequence args) = ⊥
-IsOnNodes (ops.DestroyClientId client) = ⊥
-IsOnNodes (ops.ReclaimComplete one_fs) = ⊥
-IsOnNodes (ops.Create what name given) = ⊥
-IsOnNodes (ops.Link name) = ⊥
-IsOnNodes (ops.Remove name) = ⊥
-IsOnNodes (ops.Rename old new) = ⊥
-IsOnNodes (ops.SetAttr id given) = ⊥
-IsOnNodes (ops.Outside number status) = ⊥
-IsOnNodes _ = Unit {0}
+IsOnNodes (ops.PutFh handle) = Unit {0}
+IsOnNodes ops.PutRootFh = Unit {0}
+IsOnNodes ops.GetFh = Unit {0}
+IsOnNodes ops.SaveFh = Unit {0}
+IsOnNodes ops.RestoreFh = Unit {0}
+IsOnNodes (ops.Lookup name) = Unit {0}
+IsOnNodes ops.LookupP = Unit {0}
+IsOnNodes (ops.GetAttr asked) = Unit {0}
+IsOnNodes (ops.Verify given) = Unit {0}
+IsOnNodes (ops.NVerify given) = Unit {0}
+IsOnNodes (ops.Access bits) = Unit {0}
+IsOnNodes (ops.ReadDir cookie verifier dircount maxcount asked) = Unit {0}
+IsOnNodes ops.ReadLink = Unit {0}
+IsOnNodes _ = ⊥
 
 -- a place with other file handles
 abbrev pub IsMoved : world.Place → world.Place → Type 0

@@ -1,10 +1,15 @@
 -- The world whose rows are kept.
-use Rattle.std.specs.Prelude.{[]}
-use Rattle.lnfs_world.specs.World.{World}
+use Rattle.std.specs.Prelude.{[], not, List, filter, Option, Some, None, Result, Ok, Err}
+use Rattle.lnfs_world.specs.World.{Id, Open, World, same_id}
+use Rattle.lnfs_world.specs.Change.{is_open_of}
+use Rattle.lnfs_operations.specs.declared.Refusal.{Refusal}
 use Rattle.lnfs_session.specs.Standing.{Lists, standing}
 use Rattle.lnfs_tree.specs.Rows.{Rows}
+use Rattle.lnfs_tree.specs.Changed.{Gone}
+use Rattle.lnfs_open.specs.Lists as opens
+use Rattle.lnfs_files.specs.Worlds.{with_opens}
 
--- the nodes and names of a tree, without clients: no client has a context or an open yet
+-- the nodes and names of a tree, without clients and opens: no client has a context yet
 abbrev pub only_tree : Rows → World
 only_tree rows = record {
   clients = [];
@@ -16,6 +21,23 @@ only_tree rows = record {
   lasts = record { clients = []; sessions = []; contexts = []; nodes = rows.lasts; opens = [] };
 }
 
--- clients and sessions, and nodes and names
-abbrev pub stored : Lists → Rows → World
-stored lists rows = standing (only_tree rows) lists
+-- clients and sessions, nodes and names, and opens
+abbrev pub stored : Lists → Rows → opens.Lists → World
+stored lists rows s = standing (with_opens (only_tree rows) s) lists
+
+-- ---- opens that stay
+
+-- where a client goes
+abbrev pub opens_left : Option Id → List Open → List Open
+opens_left None opens = opens
+opens_left (Some client) opens = filter (λ o. not (is_open_of client o)) opens
+
+-- where a node goes
+abbrev pub opens_without : Option Gone → opens.Lists → opens.Lists
+opens_without None s = s
+opens_without (Some g) s = record s { opens = filter (λ o. not (same_id g.node o.node)) s.opens }
+
+-- where a node may have gone
+abbrev pub opens_past : {A : Type 0} → (A → Option Gone) → Result A Refusal → opens.Lists → opens.Lists
+opens_past gone (Ok a) s = opens_without (gone a) s
+opens_past gone (Err why) s = s

@@ -1,11 +1,10 @@
 //! Whether an operation may run where it stands in its COMPOUND (RFC 8881 section 2.10.6).
-ghost use Rattle.std.specs.Prelude.{◌≡◌, ℕ, List, length, cond, None};
+ghost use Rattle.std.specs.Prelude.{◌≡◌, ℕ, List, length, None};
 ghost use Rattle.std.specs.Option.{option_map};
 ghost use Rattle.lnfs_results.specs.declared.types.OpResult.{OpResult};
 ghost use Rattle.lnfs_world.specs.World.{World};
 ghost use Rattle.lnfs_world.specs.Outcome as world;
 ghost use Rattle.lnfs_operations.specs.Admission.{unless, place_refusal, room_refusal, admission, used};
-ghost use Rattle.lnfs_operations.specs.Served.{is_served};
 ghost use Rattle.lnfs_operations.specs.declared.Gate.TheVariants as gates;
 ghost use Rattle.lnfs_engine.specs.Places.{Stands, HasToBeFirst};
 ghost use Rattle.lnfs_nodes.specs.Trees.{refusal_of};
@@ -18,41 +17,6 @@ use lnfs_arguments::{Compound, ExtraGrammar, Op};
 use lnfs_compound::reply_bound;
 use lnfs_operations::numbers::RESERVED_ROOM;
 use lnfs_operations::{Gate, Refusal};
-
-/// Whether an operation is served.
-fn is_served<E: ExtraGrammar>(op: &Op, extra: &E) -> bool
-    ensures { result ≡ is_served E.grammar op.now }
-{
-    match op {
-        Op::ExchangeId { .. }
-        | Op::CreateSession(_)
-        | Op::DestroySession { .. }
-        | Op::Sequence(_)
-        | Op::DestroyClientId { .. }
-        | Op::ReclaimComplete { .. }
-        | Op::PutFh { .. }
-        | Op::PutRootFh
-        | Op::GetFh
-        | Op::SaveFh
-        | Op::RestoreFh
-        | Op::Lookup { .. }
-        | Op::LookupP
-        | Op::GetAttr { .. }
-        | Op::Verify { .. }
-        | Op::NVerify { .. }
-        | Op::Access { .. }
-        | Op::ReadDir { .. }
-        | Op::ReadLink
-        | Op::Create { .. }
-        | Op::Link { .. }
-        | Op::Remove { .. }
-        | Op::Rename { .. }
-        | Op::SetAttr { .. }
-        | Op::Outside { .. } => true,
-        Op::Extra { number, .. } => extra.serves(*number),
-        _ => false,
-    }
-}
 
 /// A refusal by the rules of sessions, where a test fails.
 fn unless(test: bool, status: u32) -> Option<Refusal>
@@ -112,8 +76,7 @@ fn room_refusal<E: ExtraGrammar>(
     })
 }
 
-/// What refuses an operation before its own tests: its place, and then the room. One that isn't served fails
-/// without a test.
+/// What refuses an operation before its own tests: its place, and then the room.
 pub fn admission<E: ExtraGrammar>(
     compound: &Compound,
     extra: &E,
@@ -123,12 +86,9 @@ pub fn admission<E: ExtraGrammar>(
     op: &Op,
 ) -> Option<Refusal>
     ensures refusal { (p : world.Place) (w : World) (so_far : List OpResult) → Stands p w.sessions keeper.now → length so_far ≡ done → used compound.now so_far ≡ written
-        → option_map refusal_of result ≡ cond (is_served E.grammar op.now) (admission E.grammar compound.now so_far op.now p w) None }
+        → option_map refusal_of result ≡ admission E.grammar compound.now so_far op.now p w }
     ensures first { result ≡ None → HasToBeFirst op.now → done ≡ 0 }
 {
-    if !is_served(op, extra) {
-        return None;
-    }
     place_refusal(compound, done, op).or_else(|| room_refusal(keeper, written, op, extra))
 }
 

@@ -4,7 +4,7 @@ ghost use Rattle.std.specs.List.{AllByRecursion};
 ghost use Rattle.lnfs_world.specs.Usage.{bytes_of};
 ghost use Rattle.lnfs_site.specs.Site.{site_of};
 ghost use Rattle.lnfs_quota.specs.Quota.{limits_of, site_limits};
-ghost use Rattle.lnfs_engine.specs.Counts.{Counts};
+ghost use Rattle.lnfs_quota.specs.Totals.{AreTotals};
 
 use lnfs_calipso::Level;
 use lnfs_quota::Quota;
@@ -27,7 +27,7 @@ fn limits(alloc: Global, site: &Site<'_>) -> Result<Vec<(u64, u64)>, AllocError>
 /// What each level uses where the nodes are those of a tree without bytes, against the limits of a site.
 pub fn counted(alloc: Global, site: &Site<'_>, tree: &Tree) -> Result<Quota, AllocError>
     requires empty { AllByRecursion (λ n. bytes_of n n.kind ≡ 0) tree.now.nodes }
-    ensures counts { IfOk result (λ quota. Counts quota tree.now.nodes) }
+    ensures counts { IfOk result (λ quota. AreTotals quota tree.now.nodes) }
     ensures limits { IfOk result (λ quota. map limits_of quota ≡ site_limits (site_of site.now)) }
 {
     let limits = limits(alloc, site)?;

@@ -8,11 +8,10 @@ ghost use Rattle.lnfs_world.specs.Both.{both, BothStand};
 ghost use Rattle.lnfs_site.specs.Site.{site_of};
 ghost use Rattle.lnfs_operations.specs.Sequence.{Sent};
 ghost use Rattle.lnfs_operations.specs.SlotRule.{served};
-ghost use Rattle.lnfs_session.specs.Standing.{no_lists};
 ghost use Rattle.lnfs_engine.specs.Places.{place_of};
 ghost use Rattle.lnfs_engine.specs.Performs.{site_in, sent_of};
 ghost use Rattle.lnfs_engine.specs.Served.{IsServed};
-ghost use Rattle.lnfs_engine.specs.Stores.{stored};
+ghost use Rattle.lnfs_engine.specs.Stores.{only_tree};
 ghost use Rattle.lnfs_engine.specs.Runs.{denial_of, denied_by};
 
 use crate::extra::Extra;
@@ -101,7 +100,7 @@ fn serve<X: Extra>(
 }
 
 impl<X: Extra> Engine<X> {
-    /// The nodes of a tree without bytes, and no client. What each level uses is counted against the limits of a site.
+    /// The nodes of a tree without bytes, no client and no open. What each level uses is counted against the limits of a site.
     ///
     /// # Errors
     ///
@@ -113,7 +112,7 @@ impl<X: Extra> Engine<X> {
         extra: X,
     ) -> Result<Engine<X>, AllocError>
         requires empty { AllByRecursion (λ n. bytes_of n n.kind ≡ 0) tree.nodes }
-        ensures store { IfOk result (λ engine. engine.store ≡ stored no_lists tree) }
+        ensures store { IfOk result (λ engine. engine.store ≡ only_tree tree) }
         ensures extra { IfOk result (λ engine. engine.extra ≡ extra) }
     {
         Ok(Engine {

@@ -1,5 +1,5 @@
 //! The keeping of a COMPOUND's result for when it comes again (RFC 8881 sections 2.10.6 and 18.36.4).
-ghost use Rattle.std.specs.Prelude.{◌≡◌, [], IfOk};
+ghost use Rattle.std.specs.Prelude.{◌≡◌, IfOk};
 ghost use Rattle.lnfs_world.specs.World.{World};
 ghost use Rattle.lnfs_world.specs.Outcome.{Place, done_to};
 ghost use Rattle.lnfs_operations.specs.SlotRule.{keep_in};
@@ -18,7 +18,7 @@ pub fn keep(
     bytes: &[u8],
     reply: &[u8],
 ) -> Result<(), AllocError>
-    ensures { IfOk result (λ _. (p : Place) (rest : World) → rest.opens ≡ [] → Stands p clients.old.sessions keeper.now →
+    ensures { IfOk result (λ _. (p : Place) (rest : World) → Stands p clients.old.sessions keeper.now →
         standing rest clients.new ≡ done_to (standing rest clients.old) (keep_in (keeper_of keeper.now) (record { arguments = bytes.now; reply = reply.now }) p (standing rest clients.old))) }
 {
     match keeper {

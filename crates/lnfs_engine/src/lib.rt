@@ -1,15 +1,16 @@
-//! One COMPOUND on clients with their sessions and on nodes with their names: its operations in order, up to the first
-//! that fails, under the slot rule (RFC 8881 sections 2.10.6 and 16.2.3). Operations beside those of the table are
-//! served by an `Extra`.
+//! One COMPOUND on clients with their sessions, on nodes with their names and on files with their opens: its operations in
+//! order, up to the first that fails, under the slot rule (RFC 8881 sections 2.10.6 and 16.2.3). Operations beside those of
+//! the table are served by an `Extra`.
 #![tactic(auto)]
 
 mod admission;
-mod charging;
 mod clients;
 mod counted;
 mod engine;
 mod extra;
+mod files;
 mod further;
+mod going;
 mod head;
 mod keep;
 mod names;

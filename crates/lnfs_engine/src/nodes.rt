@@ -1,29 +1,30 @@
 //! The operations on nodes: file handles, names, attributes and listings (RFC 8881 section 18).
 ghost use Rattle.std.specs.Prelude.{◌≡◌, List, IfOk};
-ghost use Rattle.lnfs_world.specs.World.{World};
+ghost use Rattle.lnfs_world.specs.World.{Node, World};
+ghost use Rattle.lnfs_world.specs.Usage.{bytes_used};
 ghost use Rattle.lnfs_world.specs.Facts.{NodeFacts};
 ghost use Rattle.lnfs_results.specs.declared.types.OpResult.TheVariants as results;
 ghost use Rattle.lnfs_results.specs.Numbered.{status_of};
 ghost use Rattle.lnfs_results.specs.Fits.{ResultSized};
 ghost use Rattle.lnfs_nodes.specs.Trees.{with_tree};
-ghost use Rattle.lnfs_quota.specs.declared.quota.Row.{Row};
+ghost use Rattle.lnfs_quota.specs.Totals.{AreTotals};
 ghost use Rattle.lnfs_engine.specs.declared.place.Keeper as code;
 ghost use Rattle.lnfs_engine.specs.Places.{place_of, IsOnNodes, IsMoved};
 ghost use Rattle.lnfs_engine.specs.Replies.{IsPlain, SaysWritten};
 ghost use Rattle.lnfs_engine.specs.Nodes.{told_as, goes_to, saves_as};
-ghost use Rattle.lnfs_engine.specs.Counts.{Counts};
 ghost use Rattle.lnfs_engine.specs.Performs.{site_in, sent_of, turn, Performs};
 
 use crate::place::{Place, Request};
 use crate::reply::{Answer, Came, say};
 use lnfs_arguments::Op;
-use lnfs_arguments::statuses::NFS4ERR_NOTSUPP;
+use lnfs_calipso::Level;
 use lnfs_lists::Octets;
 use lnfs_nodes::{
-    AccessBits, Listing, access, get_attr, get_fh, lookup, lookup_parent, nverify, put_fh,
+    AccessBits, Listing, Viewer, access, get_attr, get_fh, lookup, lookup_parent, nverify, put_fh,
     put_root_fh, read_dir, read_link, restore_fh, save_fh, verify,
 };
-use lnfs_operations::{Gate, Refusal};
+use lnfs_operations::Refusal;
+use lnfs_quota::Quota;
 use lnfs_results::OpResult;
 use lnfs_tree::{NodeId, Tree};
 use lnfs_xdr::XdrWriter;
@@ -85,8 +86,19 @@ fn tell_access(bits: Result<AccessBits, Refusal>) -> Answer
     }
 }
 
+/// How many bytes the files of a level have. There is no answer for a level that isn't counted.
+fn used_by(quota: &Quota, level: Level) -> Result<u64, AllocError>
+    ensures { IfOk result (λ used. (nodes : List Node) → AreTotals quota.now nodes → used ≡ bytes_used nodes level.0) }
+{
+    if !quota.knows(level) {
+        return Err(AllocError);
+    }
+    let (_, used) = quota.used(level);
+    Ok(used)
+}
+
 /// A result without anything behind its status, or what refused the operation.
-fn plain(ended: Result<(), Refusal>, done: OpResult) -> Answer
+pub fn plain(ended: Result<(), Refusal>, done: OpResult) -> Answer
     requires sized { ResultSized done }
     requires success { status_of done ≡ 0 }
     ensures answer { result ≡ told_as (λ it. done) ended }
@@ -99,7 +111,7 @@ fn plain(ended: Result<(), Refusal>, done: OpResult) -> Answer
 }
 
 /// The end of an operation that wrote its result, or was refused.
-fn wrote(out: &mut XdrWriter, op: &Op, answer: Result<(), Refusal>) -> Result<Came, AllocError>
+pub fn wrote(out: &mut XdrWriter, op: &Op, answer: Result<(), Refusal>) -> Result<Came, AllocError>
     ensures { IfOk result (λ came. SaysWritten out.old out.new op.now answer came) }
 {
     match answer {
@@ -108,21 +120,22 @@ fn wrote(out: &mut XdrWriter, op: &Op, answer: Result<(), Refusal>) -> Result<Ca
     }
 }
 
-/// Serves an operation on nodes, and appends its result. What isn't served fails.
+/// Serves an operation on nodes, and appends its result.
 pub fn on_nodes(
     request: &Request<'_>,
     tree: &mut Tree,
+    quota: &Quota,
     place: &mut Place,
     op: &Op,
     out: &mut XdrWriter,
 ) -> Result<Came, AllocError>
     requires own { IsOnNodes op.now }
     requires facts { NodeFacts (site_in request.now).dom tree.old.nodes tree.old.entries tree.old.lasts }
+    requires counts { AreTotals quota.now tree.old.nodes }
     ensures performs { IfOk result (λ came. (keeper : code.Keeper) (rest : World) →
         Performs request.now.begin out.old out.new keeper keeper (place_of place.new) (with_tree rest tree.new) (turn (site_in request.now) (sent_of request.now) op.now (place_of place.old) (with_tree rest tree.old)) came) }
     ensures moved { IfOk result (λ came. IsMoved (place_of place.old) (place_of place.new)) }
-    // Whatever is counted of the nodes stays.
-    ensures counts { (rows : List Row) → Counts rows tree.old.nodes → Counts rows tree.new.nodes }
+    ensures counts { AreTotals quota.now tree.new.nodes }
 {
     let site = request.site;
     let subject = place.subject;
@@ -165,7 +178,9 @@ pub fn on_nodes(
             wrote(out, op, answer)
         }
         Op::GetAttr { asked } => {
-            let answer = get_attr(request.alloc, site, tree, subject, current, asked, out)?;
+            let used = used_by(quota, subject)?;
+            let viewer = Viewer { subject, used };
+            let answer = get_attr(request.alloc, site, tree, viewer, current, asked, out)?;
             wrote(out, op, answer)
         }
         Op::ReadDir {
@@ -179,23 +194,25 @@ pub fn on_nodes(
                 maxcount: *maxcount,
                 asked,
             };
+            let used = used_by(quota, subject)?;
+            let viewer = Viewer { subject, used };
             let alloc = request.alloc;
             let moment = place.moment;
-            let answer = read_dir(alloc, site, tree, subject, moment, current, &listing, out)?;
+            let answer = read_dir(alloc, site, tree, viewer, moment, current, &listing, out)?;
             wrote(out, op, answer)
         }
         Op::Verify { attrs } => {
-            let answer = verify(request.alloc, site, tree, subject, current, attrs)?;
+            let used = used_by(quota, subject)?;
+            let viewer = Viewer { subject, used };
+            let answer = verify(request.alloc, site, tree, viewer, current, attrs)?;
             say(out, op, plain(answer, OpResult::Verify))
         }
         Op::NVerify { attrs } => {
-            let answer = nverify(request.alloc, site, tree, subject, current, attrs)?;
+            let used = used_by(quota, subject)?;
+            let viewer = Viewer { subject, used };
+            let answer = nverify(request.alloc, site, tree, viewer, current, attrs)?;
             say(out, op, plain(answer, OpResult::NVerify))
         }
-        _ => {
-            let gate = Gate::Outside;
-            let status = NFS4ERR_NOTSUPP;
-            say(out, op, Err(Refusal { gate, status }))
-        }
+        _ => Err(AllocError),
     }
 }

@@ -1,15 +1,17 @@
 //! One operation in its COMPOUND.
-ghost use Rattle.std.specs.Prelude.{◌≡◌, ◌-◌, [], List, length, IfOk};
+ghost use Rattle.std.specs.Prelude.{◌≡◌, ◌-◌, true, List, length, IfOk};
+ghost use Rattle.std.specs.List.{AllByRecursion};
 ghost use Rattle.lnfs_arguments.specs.declared.types.Op.TheVariants as ops;
 ghost use Rattle.lnfs_results.specs.declared.types.OpResult.{OpResult};
-ghost use Rattle.lnfs_world.specs.World.{World};
-ghost use Rattle.lnfs_world.specs.Facts.{NodeFacts};
+ghost use Rattle.lnfs_world.specs.World.{World, label_at};
+ghost use Rattle.lnfs_world.specs.Facts.{NodeFacts, is_good_open};
 ghost use Rattle.lnfs_world.specs.Outcome.{Site};
 ghost use Rattle.lnfs_world.specs.Both.{both, BothStand};
 ghost use Rattle.lnfs_operations.specs.Sequence.{Sent};
 ghost use Rattle.lnfs_operations.specs.Admission.{used};
 ghost use Rattle.lnfs_operations.specs.Served.{Nowhere, row, operation};
 ghost use Rattle.lnfs_session.specs.Standing.{standing};
+ghost use Rattle.lnfs_engine.specs.Behind.{OpensBehind};
 ghost use Rattle.lnfs_engine.specs.Places.{place_of, Stands, Starts, HasToBeFirst};
 ghost use Rattle.lnfs_engine.specs.Replies.{Acts, IsPlain, own_of};
 ghost use Rattle.lnfs_engine.specs.Performs.{site_in, sent_of, turn, Performs};
@@ -17,6 +19,7 @@ ghost use Rattle.lnfs_engine.specs.Performs.{site_in, sent_of, turn, Performs};
 use crate::admission::admission;
 use crate::clients::{destroy_clientid, exchange_id, reclaim_complete};
 use crate::extra::Extra;
+use crate::files::on_files;
 use crate::further::{further, further_in};
 use crate::names::on_names;
 use crate::nodes::on_nodes;
@@ -25,7 +28,7 @@ use crate::reply::{Answer, Came, say};
 use crate::sessions::{create_session, destroy_session, sequence};
 use crate::store::Store;
 use lnfs_arguments::Op;
-use lnfs_arguments::statuses::NFS4ERR_OP_NOT_IN_SESSION;
+use lnfs_arguments::statuses::{NFS4ERR_NOTSUPP, NFS4ERR_OP_NOT_IN_SESSION};
 use lnfs_operations::{Gate, Refusal};
 use lnfs_session::{ClientRef, Clients};
 use lnfs_xdr::XdrWriter;
@@ -33,7 +36,7 @@ use std::alloc::AllocError;
 
 /// Serves a RECLAIM_COMPLETE, which has to stand in a session.
 fn reclaim_in(clients: &mut Clients, place: &Place, one_fs: bool) -> Result<Answer, AllocError>
-    ensures acts { IfOk result (λ answer. (site : Site) (sent : Sent) (rest : World) → rest.opens ≡ [] →
+    ensures acts { IfOk result (λ answer. (site : Site) (sent : Sent) (rest : World) →
         let op = ops.ReclaimComplete one_fs in
         Acts (row site sent op (place_of place.now) (standing rest clients.old)) (own_of op Nowhere answer) (place_of place.now) (standing rest clients.old) (standing rest clients.new)) }
     ensures plain { IfOk result (λ answer. IsPlain answer) }
@@ -60,6 +63,8 @@ fn serve(
 ) -> Result<Came, AllocError>
     requires first { HasToBeFirst op.now → Starts (place_of place.old) keeper.old }
     requires facts { NodeFacts (site_in request.now).dom store.old.nodes store.old.entries store.old.lasts.nodes }
+    requires opens { OpensBehind store.old.clients store.old.opens }
+    requires nodes { AllByRecursion (λ o. is_good_open (site_in request.now).dom (label_at store.old.nodes) o ≡ true) store.old.opens }
     requires stands { Stands (place_of place.old) store.old.sessions keeper.old }
     ensures performs { IfOk result (λ came.
         Performs request.now.begin out.old out.new keeper.old keeper.new (place_of place.new) store.new (turn (site_in request.now) (sent_of request.now) op.now (place_of place.old) store.old) came) }
@@ -84,7 +89,8 @@ fn serve(
             say(out, op, answer)
         }
         Op::CreateSession(args) => {
-            create_session(&mut store.clients, request, args, op, place, keeper, out)
+            let (clients, opens) = (&mut store.clients, &mut store.opens);
+            create_session(clients, opens, request, args, op, place, keeper, out)
         }
         Op::DestroySession { session } => {
             let answer = destroy_session(&mut store.clients, level, *session)?;
@@ -92,7 +98,7 @@ fn serve(
         }
         Op::Sequence(args) => sequence(&store.clients, request, args, op, place, keeper, out),
         Op::DestroyClientId { client } => {
-            let answer = destroy_clientid(&mut store.clients, level, *client)?;
+            let answer = destroy_clientid(&mut store.clients, &store.opens, level, *client)?;
             say(out, op, answer)
         }
         Op::ReclaimComplete { one_fs } => {
@@ -104,15 +110,26 @@ fn serve(
             let status = *status;
             say(out, op, Err(Refusal { gate, status }))
         }
-        Op::Create { .. }
-        | Op::Link { .. }
-        | Op::Remove { .. }
-        | Op::Rename { .. }
-        | Op::SetAttr { .. } => {
-            let (tree, quota) = (&mut store.tree, &mut store.quota);
-            on_names(request, tree, quota, place, op, out)
+        // One that no further operation serves.
+        Op::Extra { .. } => {
+            let gate = Gate::Outside;
+            let status = NFS4ERR_NOTSUPP;
+            say(out, op, Err(Refusal { gate, status }))
         }
-        _ => on_nodes(request, &mut store.tree, place, op, out),
+        Op::Create { .. } | Op::Link { .. } | Op::Remove { .. } | Op::Rename { .. } => {
+            let (tree, opens, quota) = (&mut store.tree, &mut store.opens, &mut store.quota);
+            on_names(request, tree, opens, quota, place, op, out)
+        }
+        Op::Open { .. }
+        | Op::Close { .. }
+        | Op::Read { .. }
+        | Op::Write { .. }
+        | Op::Commit { .. }
+        | Op::SetAttr { .. } => {
+            let (tree, opens, quota) = (&mut store.tree, &mut store.opens, &mut store.quota);
+            on_files(request, tree, opens, quota, place, op, out)
+        }
+        _ => on_nodes(request, &mut store.tree, &store.quota, place, op, out),
     }
 }
 

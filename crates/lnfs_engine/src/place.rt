@@ -1,10 +1,12 @@
 //! A COMPOUND as it was sent, and where its operations stand.
 ghost use Rattle.std.specs.Prelude.{◌≡◌};
 ghost use Rattle.lnfs_world.specs.Outcome.{begins_at};
+ghost use Rattle.lnfs_nodes.specs.Acts.{placed};
 ghost use Rattle.lnfs_engine.specs.Places.{place_of};
 
 use lnfs_arguments::Compound;
 use lnfs_calipso::Level;
+use lnfs_nodes::Caller;
 use lnfs_outside::Moment;
 use lnfs_session::{ClientRef, SlotRef};
 use lnfs_site::Site;
@@ -69,5 +71,17 @@ pub fn first_place(subject: Level, moment: Moment) -> Place
         session: None,
         current: None,
         saved: None,
+    }
+}
+
+/// Who calls where an operation stands.
+pub fn caller_of(place: &Place) -> Caller
+    ensures { placed (place_of place.now) result ≡ place_of place.now }
+{
+    Caller {
+        subject: place.subject,
+        moment: place.moment,
+        current: place.current,
+        saved: place.saved,
     }
 }

@@ -1,6 +1,7 @@
 //! The operations on sessions: CREATE_SESSION, DESTROY_SESSION and SEQUENCE (RFC 8881 sections 18.36,
 //! 18.37 and 18.46).
-ghost use Rattle.std.specs.Prelude.{◌≡◌, [], List, ℕ, IfOk, MatchOption};
+ghost use Rattle.std.specs.Prelude.{◌≡◌, List, ℕ, IfOk, MatchOption};
+ghost use Rattle.std.specs.Option.{option_map};
 ghost use Rattle.lnfs_outside.specs.declared.event.Moment.{Moment};
 ghost use Rattle.lnfs_arguments.specs.declared.types.Op.TheVariants as ops;
 ghost use Rattle.lnfs_world.specs.World.{Session, World, client_at};
@@ -9,17 +10,22 @@ ghost use Rattle.lnfs_operations.specs.Sequence.{Sent};
 ghost use Rattle.lnfs_operations.specs.Served.{Nowhere, created_keeper, row};
 ghost use Rattle.lnfs_operations.specs.Identifiers.{client_named};
 ghost use Rattle.lnfs_session.specs.Creates.{kept_reply, or_none};
+ghost use Rattle.lnfs_session.specs.Listed.{id_of};
 ghost use Rattle.lnfs_session.specs.Standing.{standing};
 ghost use Rattle.lnfs_engine.specs.Places.{place_of, keeper_of, Stands, Starts};
 ghost use Rattle.lnfs_engine.specs.Replies.{Acts, IsPlain, own_of};
+ghost use Rattle.lnfs_files.specs.Worlds.{with_opens};
+ghost use Rattle.lnfs_engine.specs.Stores.{opens_left};
 ghost use Rattle.lnfs_engine.specs.Performs.{made_of, site_in, sent_of, turn, Performs};
 
+use crate::clients::key_of;
 use crate::place::{InSession, Keeper, Place, Request};
 use crate::reply::{Answer, Came, refused_by, repeat, say};
 use crate::results::{created_result, sequence_result};
 use lnfs_arguments::{CreateSession, Op, Sequence};
+use lnfs_open::Opens;
 use lnfs_results::OpResult;
-use lnfs_session::{Clients, Created, Seq, client_named};
+use lnfs_session::{ClientRef, Clients, Created, Seq, client_named};
 use lnfs_xdr::XdrWriter;
 use std::alloc::AllocError;
 
@@ -29,7 +35,7 @@ pub fn destroy_session(
     level: u32,
     session: [u8; 16],
 ) -> Result<Answer, AllocError>
-    ensures acts { IfOk result (λ answer. (site : Site) (sent : Sent) (moment : Moment) (rest : World) → rest.opens ≡ [] →
+    ensures acts { IfOk result (λ answer. (site : Site) (sent : Sent) (moment : Moment) (rest : World) →
         let op = ops.DestroySession session in
         Acts (row site sent op (begins_at level moment) (standing rest clients.old)) (own_of op Nowhere answer) (begins_at level moment) (standing rest clients.old) (standing rest clients.new)) }
     ensures plain { IfOk result (λ answer. IsPlain answer) }
@@ -62,18 +68,31 @@ fn kept_created<'a>(clients: &'a Clients, args: &CreateSession) -> &'a [u8]
     }
 }
 
-/// Makes the session of a CREATE_SESSION of a level. Answers None where the last one came again.
+/// The opens of a client go with it, if one went.
+fn drop_opens(opens: &mut Opens, gone: Option<ClientRef>)
+    ensures { opens.new ≡ record opens.old { opens = opens_left (option_map id_of gone) opens.old.opens } }
+{
+    if let Some(client) = gone {
+        opens.drop_client(key_of(client));
+    }
+}
+
+/// Makes the session of a CREATE_SESSION of a level. The client that gives way to its client goes with its opens. Answers
+/// None where the last one came again.
 fn make_session(
     clients: &mut Clients,
+    opens: &mut Opens,
     level: u32,
     args: &CreateSession,
     bytes: &[u8],
 ) -> Result<Option<Answer>, AllocError>
-    ensures acts { IfOk result (λ answer. (site : Site) (size count : ℕ) (moment : Moment) (rest : World) → rest.opens ≡ [] →
+    ensures acts { IfOk result (λ answer. (site : Site) (size count : ℕ) (moment : Moment) (rest : World) →
         let sent : Sent = record { arguments = bytes.now; size = size; count = count } in
         let op = ops.CreateSession args.now in
-        let keeper = created_keeper args.now (begins_at level moment) (standing rest clients.old) in
-        Acts (row site sent op (begins_at level moment) (standing rest clients.old)) (made_of op keeper clients.new args.now answer) (begins_at level moment) (standing rest clients.old) (standing rest clients.new)) }
+        let before = standing (with_opens rest opens.old) clients.old in
+        let after = standing (with_opens rest opens.new) clients.new in
+        let keeper = created_keeper args.now (begins_at level moment) before in
+        Acts (row site sent op (begins_at level moment) before) (made_of op keeper clients.new args.now answer) (begins_at level moment) before after) }
     ensures plain { IfOk result (λ answer. MatchOption answer (Unit {0}) IsPlain) }
 {
     match clients.create_session(level, args, bytes) {
@@ -81,9 +100,12 @@ fn make_session(
             Created::New {
                 session,
                 granted,
-                ..
+                dropped,
             },
-        ) => Ok(Some(Ok(created_result(level, args, session, &granted)))),
+        ) => {
+            drop_opens(opens, dropped);
+            Ok(Some(Ok(created_result(level, args, session, &granted))))
+        }
         Ok(Created::Replay) => Ok(None),
         Err(error) => Ok(Some(Err(refused_by(error)?))),
     }
@@ -92,6 +114,7 @@ fn make_session(
 /// Serves a CREATE_SESSION, the first operation of its COMPOUND.
 pub fn create_session(
     clients: &mut Clients,
+    opens: &mut Opens,
     request: &Request<'_>,
     args: &CreateSession,
     op: &Op,
@@ -101,13 +124,15 @@ pub fn create_session(
 ) -> Result<Came, AllocError>
     requires op { op.now ≡ ops.CreateSession args.now }
     requires first { Starts (place_of place.now) keeper.old }
-    ensures performs { IfOk result (λ came. (rest : World) → rest.opens ≡ [] →
-        Performs request.now.begin out.old out.new keeper.old keeper.new (place_of place.now) (standing rest clients.new) (turn (site_in request.now) (sent_of request.now) op.now (place_of place.now) (standing rest clients.old)) came) }
+    ensures performs { IfOk result (λ came. (rest : World) →
+        let before = standing (with_opens rest opens.old) clients.old in
+        let after = standing (with_opens rest opens.new) clients.new in
+        Performs request.now.begin out.old out.new keeper.old keeper.new (place_of place.now) after (turn (site_in request.now) (sent_of request.now) op.now (place_of place.now) before) came) }
     ensures stands { IfOk result (λ came. Stands (place_of place.now) clients.new.sessions keeper.new) }
 {
     let level = place.subject.0;
     let created = created_keeper(clients, level, args);
-    match make_session(clients, level, args, request.bytes)? {
+    match make_session(clients, opens, level, args, request.bytes)? {
         Some(answer) => {
             *keeper = created;
             say(out, op, answer)

@@ -107,7 +107,7 @@ a name that isn't there | 24 32 29 1 'x' 0x000000 1 'y' 0x000000 | 2 4 24 0 32 0
 into a directory of another level | 24 32 22 12 0 0 2 29 3 'two' 0x00 3 'two' 0x00 | 13 5 24 0 32 0 22 0 29 13 | 5 29 M3 13
 ";
 
-/// SETATTR. Behind its number stands a state id, which isn't looked at.
+/// SETATTR. Behind its number stands a state id, which isn't looked at where no size of a file is set.
 const SET: &str = "
 a mode | 24 6 2 1 'd' 0x000000 0 0 34 0 0 0 0 2 0 2 4 448 9 2 8 2 | \
 0 5 24 0 6 0 1 0 1 0 2 0 34 0 2 0 2 9 0 2 8 2 12 0 2 448

@@ -6,6 +6,12 @@
 
 #[cfg(test)]
 mod changing_tests;
+#[cfg(test)]
+mod file_quota_tests;
+#[cfg(test)]
+mod file_session_tests;
+#[cfg(test)]
+mod file_tests;
 mod laws;
 #[cfg(test)]
 mod policy_tests;
@@ -23,6 +29,8 @@ mod run;
 mod session_tests;
 mod start;
 mod status;
+#[cfg(test)]
+mod stories;
 mod streams;
 #[cfg(test)]
 mod tests;

@@ -31,7 +31,7 @@ EXCHANGE_ID with a flag that isn't one | CALL SYS EXCHANGE 'c1' 0x0000 0x8000000
 minor version 1 | CALL SYS 0 1 1 42 | ACCEPTED 0 10021 0 0 | 1 0 0 X 10021
 an operation of the protocol that isn't served | CALL SYS 0 2 1 68 | ACCEPTED 0 10004 0 1 68 10004 | 1 1 68 X 10004
 an operation that the protocol hasn't | CALL SYS 0 2 1 72 | ACCEPTED 0 10044 0 1 10044 10044 | 1 1 72 X 10044
-COMMIT, which isn't served yet, and GETFH | CALL SYS 3 0x61626300 2 2 5 0 0 0 10 | ACCEPTED 0 10004 3 0x61626300 1 5 10004 | 1 1 5 X 10004
+COMMIT without a session, and GETFH | CALL SYS 3 0x61626300 2 2 5 0 0 0 10 | ACCEPTED 0 10071 3 0x61626300 1 5 10071 | 1 1 5 S 10071
 SETATTR, whose result has a bitmap | CALL SYS 0 2 1 34 0 0 0 0 0 0 | ACCEPTED 0 10071 0 1 34 10071 0 | 1 1 34 S 10071
 a boolean of 2 in SEQUENCE | CALL SYS 0 2 1 53 0 0 0 0 0 0 0 2 | ACCEPTED 4 | 1 0 0 P 4
 a word after the last operation | CALL SYS 0 2 1 24 0 | ACCEPTED 4 | 1 0 0 P 4

@@ -15,11 +15,22 @@ use std::alloc::{AllocError, Global};
 /// two words, and SEQUENCE that operation with the first session of level 0, up to the sequence, and with a number
 /// behind it that of another level. ALL is the bitmap of all attributes, and SETTABLE of those that can be set.
 ///
+/// ONE, TOP and PUT_F are a PUTFH of `one`, of `top`, and of the first node that level 0 makes. Of OPEN (section 18.16),
+/// BY_O and BY_P are a client id and an owner; PLAIN, GUARDED and SOLE make a file without attributes, unchecked,
+/// guarded and by a verifier, and SIZED makes one of the size 0; CALLED_F claims the name `f`; and MAKE_F is all of an
+/// OPEN that makes it, for reading and writing. ANON, BYPASS and CURRENT are the state ids with a meaning of their own
+/// (section 8.2.3), and ID_1 that of the first open of level 0. SIX is a WRITE of six bytes under it. SIZE is an
+/// attribute list of a size up to its low word, and LABEL and a number behind it one of the label of a level.
+///
 /// ACCEPTED is a reply up to its accept_stat, ACCEPTED_2 the one to CALL_2, and DENIED one up to its
 /// auth_stat. EXCHANGED is the reply to EXCHANGE up to the client id, of two words, and SERVER is what
 /// stands after it. CREATED is the reply to CREATE up to the session id, of four words, and CHANNEL a
 /// channel with all that is granted. SEQUENCED is the result of SEQUENCE up to the sequence, and SLOTS
 /// is what stands after the slot where the session has 16.
+///
+/// MADE_F is the result of MAKE_F in the root, and WROTE_6 that of SIX. Of a result of OPEN, KEPT is what stands after the
+/// state id where the root has the change number 2 and nothing is set, and HELD where no name was claimed. CLOSED is
+/// the state id that CLOSE tells, and LABELLED the bitmap of a label.
 const PARTS: &str = "
 CALL 1 0 2 100003 4 1
 CALL_2 2 0 2 100003 4 1
@@ -52,6 +63,33 @@ SEQUENCED_3 53 0 3 0 1 0
 SLOTS 15 15 0
 ALL 3 0x00180fff 0x00b0817a 0x00010800
 SETTABLE 3 0x00000010 0x00000002 0x00010000
+ONE 22 12 0 0 2
+TOP 22 12 0 0 4
+PUT_F 22 12 0 0 5
+BY_O 0 0 1 'o' 0x000000
+BY_P 0 0 1 'p' 0x000000
+PLAIN 1 0 0 0
+GUARDED 1 1 0 0
+SOLE 1 3 7 9 0 0
+SIZED 1 0 1 16 8 0 0
+CALLED_F 0 1 'f' 0x000000
+MAKE_F 18 0 3 0 0 0 1 'o' 0x000000 1 0 0 0 0 1 'f' 0x000000
+MADE_F 18 0 1 0 0 1 1 0 1 0 2 0 0 0
+KEPT 1 0 2 0 2 0 0 0
+HELD 1 0 0 0 0 0 0 0
+ANON 0 0 0 0
+BYPASS 0xffffffffffffffffffffffffffffffff
+CURRENT 1 0 0 0
+ID_1 1 0 0 1
+CLOSED 4294967295 0 0 0
+SIX 38 1 0 0 1 0 0 2 6 'abcdef' 0x0000
+WROTE_6 38 0 6 2 0 0
+SIZE 1 16 8 0
+LABELLED 3 0 0 65536
+LABEL_0 3 0 0 65536 20 101 1 6 0x000000010000 0x0000
+LABEL_1 3 0 0 65536 24 101 1 10 0x00000001010180000000 0x0000
+LABEL_2 3 0 0 65536 24 101 1 10 0x00000001010140000000 0x0000
+LABEL_3 3 0 0 65536 24 101 1 10 0x000000010103e4000000 0x0000
 ";
 
 /// What is due of a run: its status, and what the two streams get.
@@ -131,12 +169,14 @@ fn put_words(alloc: Global, bytes: &mut Vec<u8>, words: &str) -> Result<bool, Al
 fn bytes_in(alloc: Global, words: &str) -> Result<Option<Vec<u8>>, AllocError> {
     let mut bytes = Vec::new(alloc);
     for word in words.split_whitespace() {
-        let is_read = match part(word) {
-            Some(words) => put_words(alloc, &mut bytes, words)?,
-            None => put_word(alloc, &mut bytes, word)?,
-        };
-        if !is_read {
-            return Ok(None);
+        // most words spell bytes, so that few are looked for among the parts
+        if !put_word(alloc, &mut bytes, word)? {
+            let Some(words) = part(word) else {
+                return Ok(None);
+            };
+            if !put_words(alloc, &mut bytes, words)? {
+                return Ok(None);
+            }
         }
     }
     Ok(Some(bytes))
@@ -147,27 +187,34 @@ fn size_of(bytes: &[u8]) -> u32 {
     u32::try_from(bytes.len()).unwrap_or(0)
 }
 
-/// The class of an event, and its words.
-fn class_of(event: &str) -> (&str, &str) {
+/// The class of an event, its seconds, and its words.
+fn class_of(event: &str) -> (&str, &str, &str) {
     match event.strip_prefix('@') {
-        Some(rest) => rest.split_once(' ').unwrap_or((rest, "")),
-        None => ("0", event),
+        Some(rest) => {
+            let (class, words) = rest.split_once(' ').unwrap_or((rest, ""));
+            let (class, seconds) = class.split_once('.').unwrap_or((class, "100"));
+            (class, seconds, words)
+        }
+        None => ("0", "100", event),
     }
 }
 
 /// The recording of the events between slashes, where each can be read. An event is of class 0 where
-/// no `@` and number stands before its words.
+/// no `@` and number stands before its words, and of 100 seconds where behind this no dot and another stand.
 pub fn recording_of(alloc: Global, events: &str) -> Result<Option<Vec<u8>>, AllocError> {
     let mut traffic = Vec::from_slice(alloc, b"LNFSTRC1")?;
     for event in events.split('/') {
-        let (class, words) = class_of(event.trim());
+        let (class, seconds, words) = class_of(event.trim());
         let Some(class) = number(class.as_bytes()) else {
+            return Ok(None);
+        };
+        let Some(seconds) = number(seconds.as_bytes()) else {
             return Ok(None);
         };
         let Some(record) = bytes_in(alloc, words)? else {
             return Ok(None);
         };
-        for value in [class, 0, 0, 100, 0, size_of(&record)] {
+        for value in [class, 0, 0, seconds, 0, size_of(&record)] {
             traffic.extend_from_slice(&value.to_be_bytes())?;
         }
         traffic.extend_from_slice(&record)?;

@@ -7,25 +7,24 @@ use Rattle.lnfs_world.specs.World.{World}
 use Rattle.lnfs_world.specs.Usage.{bytes_of}
 use Rattle.lnfs_world.specs.Both.{Both, both}
 use Rattle.lnfs_operations.specs.Extra.{Extra}
-use Rattle.lnfs_session.specs.Standing.{no_lists}
 use Rattle.lnfs_site.specs.Site.{first_label, first_dir, first_world}
 use Rattle.lnfs_step.specs.Journal.{state_after, state_from}
 use Rattle.lnfs_world.proofs.FirstTrees.{IsBare, first_empty}
 use Rattle.lnfs_site.proofs.FirstWorlds.{first_bare}
 use Rattle.lnfs_step.specs.Step.{step_with}
 use Rattle.lnfs_tree.specs.Rows.{Rows, rows_of}
-use Rattle.lnfs_engine.specs.Stores.{stored}
+use Rattle.lnfs_engine.specs.Stores.{only_tree}
 use Rattle.lnfs_vault.specs.Says.{SaysServed}
 use Rattle.lnfs_vault.specs.declared.vault.Served.{Served}
 
 -- a world with nothing but nodes and entries
-bare_stands : (w : World) → IsBare w → stored no_lists (rows_of w) ≡ w
+bare_stands : (w : World) → IsBare w → only_tree (rows_of w) ≡ w
 bare_stands w bare = sym (λ i. record w { clients = bare.clients i; sessions = bare.sessions i; contexts = bare.contexts i; opens = bare.opens i; lasts = record w.lasts { clients = bare.last_clients i; sessions = bare.last_sessions i; contexts = bare.last_contexts i; opens = bare.last_opens i } })
 
 -- the state before all events
-pub begins : (X : Extra) (p : Policy) (rows : Rows) (own : List X.Row) → rows ≡ rows_of (first_world p) → own ≡ [] → both (stored no_lists rows) own ≡ state_after X p []
+pub begins : (X : Extra) (p : Policy) (rows : Rows) (own : List X.Row) → rows ≡ rows_of (first_world p) → own ≡ [] → both (only_tree rows) own ≡ state_after X p []
 unfolding state_from
-begins X p rows own is none = (λ i. both (stored no_lists (is i)) (none i)) ∙ ap (λ w. both w []) (bare_stands (first_world p) (first_bare p))
+begins X p rows own is none = (λ i. both (only_tree (is i)) (none i)) ∙ ap (λ w. both w []) (bare_stands (first_world p) (first_bare p))
 
 -- no node has bytes then
 pub no_bytes : (p : Policy) (rows : Rows) → rows ≡ rows_of (first_world p) → AllByRecursion (λ n. bytes_of n n.kind ≡ 0) rows.nodes

@@ -10,10 +10,9 @@ ghost use Rattle.lnfs_world.specs.World.{Client, Session, Slot};
 ghost use Rattle.lnfs_world.specs.Both.{both};
 ghost use Rattle.lnfs_world.specs.Labels.{LabelsRise};
 ghost use Rattle.lnfs_operations.specs.InOrder.{sequence_before};
-ghost use Rattle.lnfs_session.specs.Standing.{no_lists};
 ghost use Rattle.lnfs_site.specs.Site.{first_world};
 ghost use Rattle.lnfs_tree.specs.Rows.{rows_of};
-ghost use Rattle.lnfs_engine.specs.Stores.{stored};
+ghost use Rattle.lnfs_engine.specs.Stores.{only_tree};
 ghost use Rattle.lnfs_step.specs.Step.{step_with};
 ghost use Rattle.lnfs_step.specs.Journal.{Holds, state_after, reply_with, line_with, answer_with};
 ghost use Rattle.lnfs_step.specs.Sessions.{ComesOnSlot, ComesToClient};
@@ -46,7 +45,7 @@ pub struct Served {
 
 /// The engine of a site before all events.
 fn first_engine<X: Extra>(alloc: Global, site: &Site<'_>, extra: X) -> Result<Engine<X>, AllocError>
-    ensures store { IfOk result (λ engine. engine.store ≡ stored no_lists (rows_of (first_world site.now))) }
+    ensures store { IfOk result (λ engine. engine.store ≡ only_tree (rows_of (first_world site.now))) }
     ensures extra { IfOk result (λ engine. engine.extra ≡ extra) }
 {
     let tree = first_tree(alloc, site)?;

@@ -11,23 +11,23 @@ use Rattle.lnfs_engine.proofs.Acting.{not_memory, refused_as, acts}
 use Rattle.lnfs_engine.proofs.clients.exchange_id.Goals as goal
 
 pub returns-in_ok-told_result-in-Ok-clause-acts : goal.returns-in_ok-told_result-in-Ok-clause-acts
-returns-in_ok-told_result-in-Ok-clause-acts c = λ site sent implementation moment rest none.
+returns-in_ok-told_result-in-Ok-clause-acts c = λ site sent implementation moment rest behind.
     let args : Arguments = record { verifier = c.args.verifier; owner = c.args.owner.now; flags = c.args.flags } in
     let op = ops.ExchangeId c.args.verifier c.args.owner.now c.args.flags implementation in
     let p = begins_at c.args.level moment in
     let w = standing rest c.args.clients.now in
-    acts rest none c.args.clients.now c.exchange_id.new.self (exchange_id args p w) _ p _ (exchange_id_own args p w)
+    acts rest rest.opens c.args.clients.now c.exchange_id.new.self (exchange_id args p w) _ p _ (exchange_id_own args p w behind)
     (ap (reply_of op (told_reply c.args.level)) (sym (c.in-Ok.ensures.answer moment rest)) ∙ ap (λ r. success r Nowhere) (sym c.in_ok-told_result-in-Ok.ensures.told))
     (c.in-Ok.ensures.lists moment rest)
 
 pub returns-in_ok-refused_by-in-Err-clause-acts : goal.returns-in_ok-refused_by-in-Err-clause-acts
-returns-in_ok-refused_by-in-Err-clause-acts c = λ site sent implementation moment rest none.
+returns-in_ok-refused_by-in-Err-clause-acts c = λ site sent implementation moment rest behind.
     let args : Arguments = record { verifier = c.args.verifier; owner = c.args.owner.now; flags = c.args.flags } in
     let op = ops.ExchangeId c.args.verifier c.args.owner.now c.args.flags implementation in
     let p = begins_at c.args.level moment in
     let w = standing rest c.args.clients.now in
     let why = c.in_ok-refused_by-in-Err.field-0 in
     let is = c.in_ok-refused_by-in-Err.ensures in
-    acts rest none c.args.clients.now c.exchange_id.new.self (exchange_id args p w) _ p _ (exchange_id_own args p w)
+    acts rest rest.opens c.args.clients.now c.exchange_id.new.self (exchange_id args p w) _ p _ (exchange_id_own args p w behind)
     (refused_as told_of op (told_reply c.args.level) _ c.in-Err.error why is (c.in-Err.ensures.answer moment rest))
     (not_memory ClientInfo c.in-Err.error why is c.in-Err.ensures.lists moment rest)

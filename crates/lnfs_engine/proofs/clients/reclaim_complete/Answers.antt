@@ -14,22 +14,22 @@ abbrev told : Unit {0} → Reply
 told _ = success results.ReclaimComplete Nowhere
 
 pub returns-in-Ok-clause-acts : goal.returns-in-Ok-clause-acts
-returns-in-Ok-clause-acts c = λ site sent at rest none.
+returns-in-Ok-clause-acts c = λ site sent at rest.
     let op = ops.ReclaimComplete c.args.one_fs in
     let p : Place = record at { subject = c.args.client.level; client = Some c.args.client.number } in
     let w = standing rest c.args.clients.now in
-    acts rest none c.args.clients.now c.reclaim_complete.new.self (reclaim_complete c.args.one_fs p w) _ p _ (reclaim_complete_own c.args.one_fs p w)
+    acts rest rest.opens c.args.clients.now c.reclaim_complete.new.self (reclaim_complete c.args.one_fs p w) _ p _ (reclaim_complete_own c.args.one_fs p w)
     (ap (reply_of op told) (sym (c.in-Ok.ensures.answer at rest)))
     (c.in-Ok.ensures.lists at rest)
 
 pub returns-in_ok-refused_by-in-Err-clause-acts : goal.returns-in_ok-refused_by-in-Err-clause-acts
-returns-in_ok-refused_by-in-Err-clause-acts c = λ site sent at rest none.
+returns-in_ok-refused_by-in-Err-clause-acts c = λ site sent at rest.
     let op = ops.ReclaimComplete c.args.one_fs in
     let p : Place = record at { subject = c.args.client.level; client = Some c.args.client.number } in
     let w = standing rest c.args.clients.now in
     let why = c.in_ok-refused_by-in-Err.field-0 in
     let is = c.in_ok-refused_by-in-Err.ensures in
-    acts rest none c.args.clients.now c.reclaim_complete.new.self (reclaim_complete c.args.one_fs p w) _ p _ (reclaim_complete_own c.args.one_fs p w)
+    acts rest rest.opens c.args.clients.now c.reclaim_complete.new.self (reclaim_complete c.args.one_fs p w) _ p _ (reclaim_complete_own c.args.one_fs p w)
     (refused_as nothing_of op told _ c.in-Err.error why is (c.in-Err.ensures.answer at rest))
     (not_memory (Unit {0}) c.in-Err.error why is c.in-Err.ensures.lists at rest)
 

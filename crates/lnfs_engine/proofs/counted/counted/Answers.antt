@@ -1,16 +1,12 @@
 use Rattle.std.proofs.Common.{List, map, sym, ap, ◌∙◌}
 use Rattle.std.proofs.lemmas.Result.{IfOk-weaker}
 use Rattle.lnfs_calipso.specs.declared.Level.{Level}
-use Rattle.lnfs_engine.specs.Counts.{Counts}
-use Rattle.lnfs_engine.proofs.Counting.{none_used}
+use Rattle.lnfs_quota.specs.Totals.{AreTotals}
 use Rattle.lnfs_engine.proofs.counted.counted.Goals as goal
 
 pub returns-clause-counts : goal.returns-clause-counts
 returns-clause-counts c =
     let nodes = c.args.tree.now.nodes in
-    IfOk-weaker c.counted.result _ (λ quota. Counts quota nodes)
-    (λ quota totals. record {
-      totals = totals nodes (sym c.in_ok-homes.ensures ∙ ap (λ (homes : List Level). map (λ l. l.0) homes) (sym c.deref-2.ensures.value)) c.requires.empty;
-      empty = none_used nodes c.requires.empty;
-    })
+    IfOk-weaker c.counted.result _ (λ quota. AreTotals quota nodes)
+    (λ quota totals. totals nodes (sym c.in_ok-homes.ensures ∙ ap (λ (homes : List Level). map (λ l. l.0) homes) (sym c.deref-2.ensures.value)) c.requires.empty)
     c.counted.ensures.totals

@@ -5,11 +5,11 @@ use Rattle.lnfs_operations.specs.Keeping.{keep_result, keep_created}
 use Rattle.lnfs_operations.specs.SlotRule.{keep_in}
 use Rattle.lnfs_session.specs.Standing.{standing}
 use Rattle.lnfs_engine.specs.Places.{keeper_of, Stands}
-use Rattle.lnfs_engine.proofs.Own.{around, keep_created_own, keep_result_own}
+use Rattle.lnfs_engine.proofs.Own.{whole, keep_created_own, keep_result_own}
 use Rattle.lnfs_engine.proofs.keep.keep.Goals as goal
 
 pub returns-in_ok-reply-in-Client : goal.returns-in_ok-reply-in-Client
-returns-in_ok-reply-in-Client c = λ p rest none stands.
+returns-in_ok-reply-in-Client c = λ p rest stands.
     let w = standing rest c.args.clients.now in
     let client = c.in-Client.client in
     let at_record = subst (Stands p c.args.clients.now.sessions) c.in-Client.is stands in
@@ -19,12 +19,12 @@ returns-in_ok-reply-in-Client c = λ p rest none stands.
     let same : held ≡ kept = λ i. record { arguments = c.in_ok-bytes-in-Client.ensures.items i; reply = c.in_ok-reply-in-Client.ensures.items i } in
     let at : Place = record p { subject = client.level } in
     let o = keep_created client.number held at w in
-    ap (standing rest) (c.keep_created.ensures p rest) ∙ around rest none o.changes c.args.clients.now (keep_created_own client.number held at w).own
+    ap (standing rest) (c.keep_created.ensures p rest) ∙ whole rest rest.opens c.args.clients.now at o (keep_created_own client.number held at w)
     ∙ (λ i. done_to w (keep_created client.number (same i) (record p { subject = level i }) w))
     ∙ ap (λ x. done_to w (keep_in (keeper_of x) kept p w)) (sym c.in-Client.is)
 
 pub returns-in_ok-reply-in-Session : goal.returns-in_ok-reply-in-Session
-returns-in_ok-reply-in-Session c = λ p rest none stands.
+returns-in_ok-reply-in-Session c = λ p rest stands.
     let w = standing rest c.args.clients.now in
     let s = c.in-Session.session in
     let in_session = subst (Stands p c.args.clients.now.sessions) c.in-Session.is stands in
@@ -35,6 +35,6 @@ returns-in_ok-reply-in-Session c = λ p rest none stands.
     let same : held ≡ kept = λ i. record { arguments = c.in_ok-bytes-in-Session.ensures.items i; reply = c.in_ok-reply-in-Session.ensures.items i } in
     let at : Place = record p { subject = s.at.session.level; session = Some s.at.session.number } in
     let o = keep_result s.at.slot s.sequence held at w in
-    ap (standing rest) (c.settle.ensures p rest) ∙ around rest none o.changes c.args.clients.now (keep_result_own s.at.slot s.sequence held at w).own
+    ap (standing rest) (c.settle.ensures p rest) ∙ whole rest rest.opens c.args.clients.now at o (keep_result_own s.at.slot s.sequence held at w)
     ∙ (λ i. done_to w (keep_result s.at.slot s.sequence (same i) (record p { subject = level i; session = number i }) w))
     ∙ ap (λ x. done_to w (keep_in (keeper_of x) kept p w)) (sym c.in-Session.is)

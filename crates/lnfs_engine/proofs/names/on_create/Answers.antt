@@ -11,9 +11,10 @@ use Rattle.lnfs_nodes.specs.Creating.{created_of}
 use Rattle.lnfs_nodes.specs.declared.creating.Created.{Created}
 use Rattle.lnfs_engine.specs.Places.{place_of}
 use Rattle.lnfs_engine.specs.Performs.{site_in}
-use Rattle.lnfs_engine.specs.Counts.{Counts, charged}
+use Rattle.lnfs_quota.specs.Totals.{AreTotals}
+use Rattle.lnfs_engine.specs.Counts.{charged}
 use Rattle.lnfs_engine.proofs.Acting.{some_world}
-use Rattle.lnfs_engine.proofs.OnNames.{serves_to, charged_counts, lands_moved}
+use Rattle.lnfs_engine.proofs.OnNames.{on_tree, serves_to, charged_counts, lands_moved}
 use Rattle.lnfs_engine.proofs.NamesCounts.{create_more}
 use Rattle.lnfs_engine.proofs.names.on_create.Goals as goal
 
@@ -26,16 +27,18 @@ create-requires c =
     let t = c.args.tree.now in
     record {
       facts = c.requires.facts;
-      room = subst (λ (s : ℕ). c.in_ok-room.room ≡ nat_lt (nodes_used t.nodes s) (site.nodes s)) (sym (ap (λ (q : Place). q.subject) c.caller_of-caller.ensures)) (c.in_ok-room.ensures.room t.nodes c.requires.counts.totals);
+      room = subst (λ (s : ℕ). c.in_ok-room.room ≡ nat_lt (nodes_used t.nodes s) (site.nodes s)) (sym (ap (λ (q : Place). q.subject) c.caller_of-caller.ensures)) (c.in_ok-room.ensures.room t.nodes c.requires.counts);
     }
 
 pub returns-clause-serves : goal.returns-clause-serves
-returns-clause-serves c = λ rest closed.
+returns-clause-serves c = λ rest.
     let p = place_of c.args.place.now in
     let t = c.args.tree.now in
+    let u = c.create.new.tree in
     let told = c.in_ok-told in
-    serves_to (λ (m : Made). results.Create m.info m.set) created_of rest t c.create.new.tree lands (placed p c.caller_of-caller.result) p (λ (q : Place). create (site_in c.args.request.now) c.args.what.now c.args.name.now c.args.given.now q (with_tree rest t))
-    told.told c.take_made.result (place_of c.take_made.new.place) c.caller_of-caller.ensures c.take_made.ensures.answer c.take_made.ensures.place (told.ensures.acts p rest)
+    let at : Place = placed p c.caller_of-caller.result in
+    serves_to (λ (m : Made). results.Create m.info m.set) created_of (with_tree rest t) (with_tree rest u) lands (placed p c.caller_of-caller.result) p (λ (q : Place). create (site_in c.args.request.now) c.args.what.now c.args.name.now c.args.given.now q (with_tree rest t))
+    told.told c.take_made.result (place_of c.take_made.new.place) c.caller_of-caller.ensures c.take_made.ensures.answer c.take_made.ensures.place (on_tree created_of (lands at) at rest t u (create (site_in c.args.request.now) c.args.what.now c.args.name.now c.args.given.now at (with_tree rest t)) told.told (told.ensures.acts p rest))
 
 pub returns-clause-moved : goal.returns-clause-moved
 returns-clause-moved c =
@@ -54,8 +57,9 @@ returns-clause-counts c =
     let what = c.args.what.now in
     let name = c.args.name.now in
     let given = c.args.given.now in
+    let act = create site what name given at (with_tree some_world t) in
     let subject : at.subject ≡ p.subject = ap (λ (q : Place). q.subject) c.caller_of-caller.ensures in
-    subst (λ quota. Counts quota u.nodes) (sym c.take_made.ensures.quota)
-    (subst (λ (s : ℕ). Counts (charged rows s told.told) u.nodes) subject
-    (charged_counts rows at.subject created_of (lands at) at some_world t u (create site what name given at (with_tree some_world t)) told.told (told.ensures.acts p some_world) c.requires.counts
-    (create_more site at some_world t c.requires.facts c.requires.counts.empty what name given)))
+    subst (λ quota. AreTotals quota u.nodes) (sym c.take_made.ensures.quota)
+    (subst (λ (s : ℕ). AreTotals (charged rows s told.told) u.nodes) subject
+    (charged_counts created_of (lands at) at (with_tree some_world t) (with_tree some_world u) act rows at.subject told.told (on_tree created_of (lands at) at some_world t u act told.told (told.ensures.acts p some_world)) c.requires.counts
+    (create_more site at some_world t c.requires.facts what name given)))

@@ -1,9 +1,8 @@
-use Rattle.std.proofs.Common.{◌≡◌, ℕ, List, Ok, Err, refl, sym, ap, ◌∙◌, subst}
+use Rattle.std.proofs.Common.{◌≡◌, ℕ, List, Ok, refl, sym, ap, ◌∙◌, subst}
 use Rattle.std.specs.Prelude.{Result}
 use Rattle.std.proofs.lemmas.Result.{IfOk-weaker}
 use Rattle.lnfs_arguments.specs.declared.types.Op.{Op}
 use Rattle.lnfs_arguments.specs.declared.types.Op.TheVariants as ops
-use Rattle.lnfs_arguments.specs.declared.statuses.TheConstants.{NFS4ERR_NOTSUPP}
 use Rattle.lnfs_results.specs.declared.types.OpResult.{OpResult}
 use Rattle.lnfs_results.specs.declared.types.OpResult.TheVariants as results
 use Rattle.lnfs_world.specs.World.{World}
@@ -14,7 +13,6 @@ use Rattle.lnfs_operations.specs.Access.{Granted}
 use Rattle.lnfs_operations.specs.GetAttr.{get_attr}
 use Rattle.lnfs_operations.specs.ReadDir.{Arguments, read_dir}
 use Rattle.lnfs_operations.specs.ReadLink.{read_link}
-use Rattle.lnfs_operations.specs.declared.Gate.TheVariants as gates
 use Rattle.lnfs_operations.specs.declared.Refusal.{Refusal}
 use Rattle.lnfs_tree.specs.declared.node.NodeId.{NodeId}
 use Rattle.lnfs_nodes.specs.Trees.{with_tree, answered, stays, goes, saves}
@@ -23,7 +21,7 @@ use Rattle.lnfs_nodes.specs.Walks.{listing_result}
 use Rattle.lnfs_engine.specs.declared.place.Place as code_place
 use Rattle.lnfs_engine.specs.declared.place.Keeper as code
 use Rattle.lnfs_engine.specs.declared.reply.Came.{Came}
-use Rattle.lnfs_engine.specs.Places.{place_of, IsMoved}
+use Rattle.lnfs_engine.specs.Places.{place_of}
 use Rattle.lnfs_engine.specs.Replies.{Acts, own_of, SaysWritten}
 use Rattle.lnfs_engine.specs.Performs.{site_in, sent_of, turn, Performs}
 use Rattle.lnfs_engine.specs.Nodes.{told_as, goes_to, saves_as}
@@ -31,8 +29,7 @@ use Rattle.lnfs_engine.specs.Counts.{AreAsMany}
 use Rattle.lnfs_engine.proofs.Acting.{some_world}
 use Rattle.lnfs_engine.proofs.Counting.{many_counts}
 use Rattle.lnfs_engine.proofs.NamesCounts.{read_link_many, read_dir_many}
-use Rattle.lnfs_engine.proofs.Telling.{refused}
-use Rattle.lnfs_engine.proofs.OnNodes.{IsOther, goes_acts, saves_acts, stays_acts, told_on, wrote_performs, other_row}
+use Rattle.lnfs_engine.proofs.OnNodes.{goes_acts, saves_acts, stays_acts, told_on, wrote_performs}
 use Rattle.lnfs_engine.proofs.nodes.on_nodes.Goals as goal
 
 -- what stays at a node, and what is saved
@@ -197,50 +194,19 @@ returns-in_ok-answer-in-NVerify-clause-performs c =
 -- ---- what is counted
 
 pub returns-in_ok-answer-in-ReadLink-clause-counts : goal.returns-in_ok-answer-in-ReadLink-clause-counts
-returns-in_ok-answer-in-ReadLink-clause-counts c = λ rows counts.
+returns-in_ok-answer-in-ReadLink-clause-counts c =
     let p = place_of c.args.place.now in
     let t = c.args.tree.now in
     let u = c.read_link.new.tree in
-    many_counts rows t.nodes u.nodes counts
-    (subst (λ (w : World). AreAsMany t.nodes w.nodes) (sym (c.in_ok-answer-in-ReadLink.ensures.writes p some_world).world) (read_link_many (site_in c.args.request.now) p some_world t c.requires.facts counts.empty))
+    many_counts c.args.quota.now t.nodes u.nodes c.requires.counts
+    (subst (λ (w : World). AreAsMany t.nodes w.nodes) (sym (c.in_ok-answer-in-ReadLink.ensures.writes p some_world).world) (read_link_many (site_in c.args.request.now) p some_world t c.requires.facts))
 
 pub returns-in_ok-answer-in-ReadDir-clause-counts : goal.returns-in_ok-answer-in-ReadDir-clause-counts
-returns-in_ok-answer-in-ReadDir-clause-counts c = λ rows counts.
+returns-in_ok-answer-in-ReadDir-clause-counts c =
     let p = place_of c.args.place.now in
     let t = c.args.tree.now in
     let u = c.read_dir.new.tree in
     let args = c.in-ReadDir in
     let asked : Arguments = record { cookie = args.cookie; maxcount = args.maxcount; asked = args.asked } in
-    many_counts rows t.nodes u.nodes counts
-    (subst (λ (w : World). AreAsMany t.nodes w.nodes) (sym (c.in_ok-answer-in-ReadDir.ensures.writes p some_world c.requires.facts.entries_rise).world) (read_dir_many (site_in c.args.request.now) p some_world t c.requires.facts counts.empty asked))
-
-pub returns-in_default : goal.returns-in_default
-returns-in_default c =
-    let r = c.args.request.now in
-    let op = c.args.op.now in
-    let p = place_of c.args.place.now in
-    let tree = c.args.tree.now in
-    let n = c.in_default in
-    let said = c.say-in_default in
-    let why : Refusal = record { gate = gates.Outside; status = NFS4ERR_NOTSUPP } in
-    let other : IsOther op = record {
-      put_fh = n.not-PutFh;
-      put_root_fh = n.not-PutRootFh;
-      get_fh = n.not-GetFh;
-      save_fh = n.not-SaveFh;
-      restore_fh = n.not-RestoreFh;
-      lookup = n.not-Lookup;
-      lookup_parent = n.not-LookupP;
-      get_attr = n.not-GetAttr;
-      verify = n.not-Verify;
-      nverify = n.not-NVerify;
-      access = n.not-Access;
-      read_dir = n.not-ReadDir;
-      read_link = n.not-ReadLink;
-    } in
-    record {
-      performs = told_on r.begin c.args.out.now said.new.out (site_in r) (sent_of r) op op p p (Err why) refl said.result said.ensures
-          tree (λ rest. refused (site_in r) (sent_of r) op p (with_tree rest tree) why (other_row (site_in r) (sent_of r) op p (with_tree rest tree) c.requires.own other));
-      moved = IfOk-weaker said.result _ (λ (came : Came). IsMoved p p) (λ came says. refl) said.ensures;
-      counts = λ rows counts. counts;
-    }
+    many_counts c.args.quota.now t.nodes u.nodes c.requires.counts
+    (subst (λ (w : World). AreAsMany t.nodes w.nodes) (sym (c.in_ok-answer-in-ReadDir.ensures.writes p some_world c.requires.facts.entries_rise).world) (read_dir_many (site_in c.args.request.now) p some_world t c.requires.facts asked))

@@ -1,4 +1,4 @@
-use Rattle.std.proofs.Common.{◌≡◌, [], sym, subst}
+use Rattle.std.proofs.Common.{sym, subst}
 use Rattle.std.specs.Prelude.{Result}
 use Rattle.std.proofs.lemmas.Result.{IfOk-weaker}
 use Rattle.lnfs_arguments.specs.declared.types.Op.TheVariants as ops
@@ -20,6 +20,6 @@ returns-clause-acts c =
     let before = c.args.clients.now in
     let after = c.reclaim_complete.new.clients in
     let Acts-at : Place → Site → Sent → Result OpResult Refusal → World → Type 0 = λ q site sent answer rest. Acts (row site sent op q (standing rest before)) (own_of op Nowhere answer) q (standing rest before) (standing rest after) in
-    IfOk-weaker c.reclaim_complete.result _ (λ (answer : Result OpResult Refusal). (site : Site) (sent : Sent) (rest : World) → rest.opens ≡ [] → Acts-at p site sent answer rest)
-    (λ answer did site sent rest none. subst (λ client. Acts-at (record p { client = client }) site sent answer rest) (sym c.in-Some.is) (did site sent p rest none))
+    IfOk-weaker c.reclaim_complete.result _ (λ (answer : Result OpResult Refusal). (site : Site) (sent : Sent) (rest : World) → Acts-at p site sent answer rest)
+    (λ answer did site sent rest. subst (λ client. Acts-at (record p { client = client }) site sent answer rest) (sym c.in-Some.is) (did site sent p rest))
     c.reclaim_complete.ensures.acts

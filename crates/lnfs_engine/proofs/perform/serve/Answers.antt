@@ -1,4 +1,4 @@
-use Rattle.std.proofs.Common.{◌≡◌, ℕ, Bool, List, refl, sym, ap, ◌∙◌, subst}
+use Rattle.std.proofs.Common.{◌≡◌, ℕ, Bool, true, List, refl, sym, ap, ◌∙◌, subst}
 use Rattle.std.proofs.lemmas.Result.{IfOk-weaker}
 use Rattle.lnfs_arguments.specs.declared.types.Op.{Op}
 use Rattle.lnfs_arguments.specs.declared.types.Op.TheVariants as ops
@@ -8,14 +8,20 @@ use Rattle.lnfs_arguments.specs.declared.types.Sequence.{Sequence}
 use Rattle.std.specs.Prelude.{Option}
 use Rattle.lnfs_arguments.specs.declared.stateid.StateId.{StateId}
 use Rattle.lnfs_arguments.specs.declared.types.What.{What}
+use Rattle.lnfs_arguments.specs.declared.types.Making.{Making}
+use Rattle.lnfs_arguments.specs.declared.types.Claim.{Claim}
+use Rattle.lnfs_arguments.specs.declared.statuses.TheConstants.{NFS4ERR_NOTSUPP}
 use Rattle.lnfs_attrs.specs.declared.raw.RawAttrs.{RawAttrs}
-use Rattle.lnfs_world.specs.World.{World}
-use Rattle.lnfs_world.specs.Facts.{NodeFacts}
+use Rattle.std.specs.List.{AllByRecursion}
+use Rattle.lnfs_world.specs.World.{World, label_at}
+use Rattle.lnfs_world.specs.Facts.{is_good_open}
 use Rattle.lnfs_operations.specs.declared.Gate.TheVariants as gates
 use Rattle.lnfs_operations.specs.declared.Refusal.{Refusal}
 use Rattle.lnfs_engine.specs.declared.reply.Came.{Came}
+use Rattle.lnfs_engine.specs.Behind.{OpensBehind}
 use Rattle.lnfs_engine.specs.Places.{place_of, Stands, Starts, HasToBeFirst, IsOnNodes}
 use Rattle.lnfs_engine.specs.Performs.{site_in, sent_of, turn, Performs}
+use Rattle.lnfs_files.specs.Worlds.{with_opens}
 use Rattle.lnfs_engine.specs.Stores.{only_tree, stored}
 use Rattle.lnfs_engine.proofs.Telling.{told, told_first, told_refused}
 use Rattle.lnfs_engine.proofs.Staying.{stays}
@@ -30,19 +36,19 @@ returns-in_ok-answer-in-ExchangeId-clause-performs c =
     let is : c.args.op.now ≡ same = x.is ∙ ap (λ owner. ops.ExchangeId x.verifier owner x.flags x.implementation) (sym c.as_slice.ensures) in
     let answer = c.in_ok-answer-in-ExchangeId in
     told_first r.begin c.args.out.now c.say.new.out c.args.keeper.now (site_in r) (sent_of r) c.args.op.now same p answer.answer is c.say.result c.say.ensures
-    c.args.store.now c.store.inside.clients c.exchange_id.new.clients c.store.inside.tree c.store.view_is
+    c.args.store.now c.store.inside.clients c.exchange_id.new.clients c.store.inside.tree c.store.inside.opens c.store.view_is
     (subst (λ o. HasToBeFirst o → Starts p c.args.keeper.now) x.is c.requires.first tt)
-    (answer.ensures.acts (site_in r) (sent_of r) x.implementation p.moment)
+    (answer.ensures.acts (site_in r) (sent_of r) x.implementation p.moment (with_opens (only_tree c.store.inside.tree) c.store.inside.opens) (subst (λ (w : World). OpensBehind w.clients w.opens) (sym c.store.view_is) c.requires.opens))
 
 pub returns-in-CreateSession-clause-performs : goal.returns-in-CreateSession-clause-performs
 returns-in-CreateSession-clause-performs c =
     let r = c.args.request.now in
     let p = place_of c.args.place.now in
     let tree = c.store.inside.tree in
-    let after = stored c.create_session.new.clients tree in
+    let after = stored c.create_session.new.clients tree c.create_session.new.opens in
     let Goal : World → Came → Type 0 = λ w came. Performs r.begin c.args.out.now c.create_session.new.out c.args.keeper.now c.create_session.new.keeper p after (turn (site_in r) (sent_of r) c.args.op.now p w) came in
     IfOk-weaker c.create_session.result _ (Goal c.args.store.now)
-    (λ came did. subst (λ w. Goal w came) c.store.view_is (did (only_tree tree) refl))
+    (λ came did. subst (λ w. Goal w came) c.store.view_is (did (only_tree tree)))
     c.create_session.ensures.performs
 
 pub returns-in_ok-answer-in-DestroySession-clause-performs : goal.returns-in_ok-answer-in-DestroySession-clause-performs
@@ -52,9 +58,9 @@ returns-in_ok-answer-in-DestroySession-clause-performs c =
     let x = c.in-DestroySession in
     let answer = c.in_ok-answer-in-DestroySession in
     told_first r.begin c.args.out.now c.say-in-DestroySession.new.out c.args.keeper.now (site_in r) (sent_of r) c.args.op.now (ops.DestroySession x.session) p answer.answer x.is c.say-in-DestroySession.result c.say-in-DestroySession.ensures
-    c.args.store.now c.store.inside.clients c.destroy_session.new.clients c.store.inside.tree c.store.view_is
+    c.args.store.now c.store.inside.clients c.destroy_session.new.clients c.store.inside.tree c.store.inside.opens c.store.view_is
     (subst (λ o. HasToBeFirst o → Starts p c.args.keeper.now) x.is c.requires.first tt)
-    (answer.ensures.acts (site_in r) (sent_of r) p.moment)
+    (answer.ensures.acts (site_in r) (sent_of r) p.moment (with_opens (only_tree c.store.inside.tree) c.store.inside.opens))
 
 pub returns-in-Sequence-clause-performs : goal.returns-in-Sequence-clause-performs
 returns-in-Sequence-clause-performs c =
@@ -63,7 +69,7 @@ returns-in-Sequence-clause-performs c =
     let tree = c.store.inside.tree in
     let Goal : World → Came → Type 0 = λ w came. Performs r.begin c.args.out.now c.sequence.new.out c.args.keeper.now c.sequence.new.keeper (place_of c.sequence.new.place) w (turn (site_in r) (sent_of r) c.args.op.now p w) came in
     IfOk-weaker c.sequence.result _ (Goal c.args.store.now)
-    (λ came did. subst (λ w. Goal w came) c.store.view_is (did (only_tree tree)))
+    (λ came did. subst (λ w. Goal w came) c.store.view_is (did (with_opens (only_tree tree) c.store.inside.opens)))
     c.sequence.ensures.performs
 
 pub returns-in_ok-answer-in-DestroyClientId-clause-performs : goal.returns-in_ok-answer-in-DestroyClientId-clause-performs
@@ -73,9 +79,9 @@ returns-in_ok-answer-in-DestroyClientId-clause-performs c =
     let x = c.in-DestroyClientId in
     let answer = c.in_ok-answer-in-DestroyClientId in
     told_first r.begin c.args.out.now c.say-in-DestroyClientId.new.out c.args.keeper.now (site_in r) (sent_of r) c.args.op.now (ops.DestroyClientId x.client) p answer.answer x.is c.say-in-DestroyClientId.result c.say-in-DestroyClientId.ensures
-    c.args.store.now c.store.inside.clients c.destroy_clientid.new.clients c.store.inside.tree c.store.view_is
+    c.args.store.now c.store.inside.clients c.destroy_clientid.new.clients c.store.inside.tree c.store.inside.opens c.store.view_is
     (subst (λ o. HasToBeFirst o → Starts p c.args.keeper.now) x.is c.requires.first tt)
-    (answer.ensures.acts (site_in r) (sent_of r) p.moment)
+    (answer.ensures.acts (site_in r) (sent_of r) p.moment (with_opens (only_tree c.store.inside.tree) c.store.inside.opens) refl)
 
 pub returns-in_ok-answer-in-ReclaimComplete-clause-performs : goal.returns-in_ok-answer-in-ReclaimComplete-clause-performs
 returns-in_ok-answer-in-ReclaimComplete-clause-performs c =
@@ -84,8 +90,8 @@ returns-in_ok-answer-in-ReclaimComplete-clause-performs c =
     let x = c.in-ReclaimComplete in
     let answer = c.in_ok-answer-in-ReclaimComplete in
     told r.begin c.args.out.now c.say-in-ReclaimComplete.new.out c.args.keeper.now (site_in r) (sent_of r) c.args.op.now (ops.ReclaimComplete x.one_fs) p answer.answer x.is c.say-in-ReclaimComplete.result c.say-in-ReclaimComplete.ensures
-    c.args.store.now c.store.inside.clients c.reclaim_in.new.clients c.store.inside.tree c.store.view_is
-    (answer.ensures.acts (site_in r) (sent_of r))
+    c.args.store.now c.store.inside.clients c.reclaim_in.new.clients c.store.inside.tree c.store.inside.opens c.store.view_is
+    (answer.ensures.acts (site_in r) (sent_of r) (with_opens (only_tree c.store.inside.tree) c.store.inside.opens))
 
 -- the others are on nodes
 record IsOther (op : Op) : Type 0 where
@@ -96,10 +102,16 @@ record IsOther (op : Op) : Type 0 where
   pub destroy_clientid : (client : ℕ) → op ≡ ops.DestroyClientId client → ⊥
   pub reclaim_complete : (one_fs : Bool) → op ≡ ops.ReclaimComplete one_fs → ⊥
   pub outside : (number status : ℕ) → op ≡ ops.Outside number status → ⊥
+  pub extra : (number : ℕ) (arguments : List ℕ) → op ≡ ops.Extra number arguments → ⊥
   pub create : (what : What) (name : List ℕ) (given : RawAttrs) → op ≡ ops.Create what name given → ⊥
   pub link : (name : List ℕ) → op ≡ ops.Link name → ⊥
   pub remove : (name : List ℕ) → op ≡ ops.Remove name → ⊥
   pub rename : (old new : List ℕ) → op ≡ ops.Rename old new → ⊥
+  pub opening : (seqid access deny client : ℕ) (owner : List ℕ) (making : Option Making) (claim : Claim) → op ≡ ops.Open seqid access deny client owner making claim → ⊥
+  pub close : (seqid : ℕ) (id : StateId) → op ≡ ops.Close seqid id → ⊥
+  pub read : (id : StateId) (offset count : ℕ) → op ≡ ops.Read id offset count → ⊥
+  pub write : (id : StateId) (offset stable : ℕ) (content : List ℕ) → op ≡ ops.Write id offset stable content → ⊥
+  pub commit : (offset count : ℕ) → op ≡ ops.Commit offset count → ⊥
   pub set_attr : (id : StateId) (given : RawAttrs) → op ≡ ops.SetAttr id given → ⊥
 
 on_nodes : (op : Op) → IsOther op → IsOnNodes op
@@ -110,10 +122,16 @@ on_nodes (ops.Sequence args) n = n.sequence args refl
 on_nodes (ops.DestroyClientId client) n = n.destroy_clientid client refl
 on_nodes (ops.ReclaimComplete one_fs) n = n.reclaim_complete one_fs refl
 on_nodes (ops.Outside number status) n = n.outside number status refl
+on_nodes (ops.Extra number arguments) n = n.extra number arguments refl
 on_nodes (ops.Create what name given) n = n.create what name given refl
 on_nodes (ops.Link name) n = n.link name refl
 on_nodes (ops.Remove name) n = n.remove name refl
 on_nodes (ops.Rename old new) n = n.rename old new refl
+on_nodes (ops.Open seqid access deny client owner making claim) n = n.opening seqid access deny client owner making claim refl
+on_nodes (ops.Close seqid id) n = n.close seqid id refl
+on_nodes (ops.Read id offset count) n = n.read id offset count refl
+on_nodes (ops.Write id offset stable content) n = n.write id offset stable content refl
+on_nodes (ops.Commit offset count) n = n.commit offset count refl
 on_nodes (ops.SetAttr id given) n = n.set_attr id given refl
 on_nodes op n = tt
 
@@ -124,6 +142,14 @@ returns-in-Outside-clause-performs c =
     let why : Refusal = record { gate = gates.Outside; status = x.status } in
     told_refused r.begin c.args.out.now c.say-in-Outside.new.out c.args.keeper.now (site_in r) (sent_of r) c.args.op.now (ops.Outside x.number x.status) (place_of c.args.place.now) why x.is c.say-in-Outside.result c.say-in-Outside.ensures c.args.store.now refl
 
+-- one that no further operation serves
+pub returns-in-Extra-clause-performs : goal.returns-in-Extra-clause-performs
+returns-in-Extra-clause-performs c =
+    let r = c.args.request.now in
+    let x = c.in-Extra in
+    let why : Refusal = record { gate = gates.Outside; status = NFS4ERR_NOTSUPP } in
+    told_refused r.begin c.args.out.now c.say-in-Extra.new.out c.args.keeper.now (site_in r) (sent_of r) c.args.op.now (ops.Extra x.number x.args) (place_of c.args.place.now) why x.is c.say-in-Extra.result c.say-in-Extra.ensures c.args.store.now refl
+
 pub returns-in-Create-clause-performs : goal.returns-in-Create-clause-performs
 returns-in-Create-clause-performs c =
     let r = c.args.request.now in
@@ -131,32 +157,51 @@ returns-in-Create-clause-performs c =
     let p = place_of c.args.place.now in
     let q = place_of c.on_names.new.place in
     let clients = c.store.inside.clients in
-    let after = stored clients c.on_names.new.tree in
+    let after = stored clients c.on_names.new.tree c.on_names.new.opens in
     let Goal : World → Came → Type 0 = λ w came. Performs r.begin c.args.out.now c.on_names.new.out here here q after (turn (site_in r) (sent_of r) c.args.op.now p w) came in
     IfOk-weaker c.on_names.result _ (Goal c.args.store.now)
-    (λ came did. subst (λ w. Goal w came) c.store.view_is (did here (stored clients c.store.inside.tree) refl))
+    (λ came did. subst (λ w. Goal w came) c.store.view_is (did here (stored clients c.store.inside.tree c.store.inside.opens)))
     c.on_names.ensures.performs
 
-pub on_nodes-requires : goal.on_nodes-requires
-on_nodes-requires c =
+pub on_files-requires-clause-opens : goal.on_files-requires-clause-opens
+on_files-requires-clause-opens c = subst (λ (w : World). AllByRecursion (λ o. is_good_open (site_in c.args.request.now).dom (label_at w.nodes) o ≡ true) w.opens) (sym c.store.view_is) c.requires.nodes
+
+pub returns-in-Open-clause-performs : goal.returns-in-Open-clause-performs
+returns-in-Open-clause-performs c =
+    let r = c.args.request.now in
+    let here = c.args.keeper.now in
+    let p = place_of c.args.place.now in
+    let q = place_of c.on_files.new.place in
+    let clients = c.store.inside.clients in
+    let after = stored clients c.on_files.new.tree c.on_files.new.opens in
+    let Goal : World → Came → Type 0 = λ w came. Performs r.begin c.args.out.now c.on_files.new.out here here q after (turn (site_in r) (sent_of r) c.args.op.now p w) came in
+    IfOk-weaker c.on_files.result _ (Goal c.args.store.now)
+    (λ came did. subst (λ w. Goal w came) c.store.view_is (did here (stored clients c.store.inside.tree c.store.inside.opens)))
+    c.on_files.ensures.performs
+
+pub on_nodes-requires-clause-own : goal.on_nodes-requires-clause-own
+on_nodes-requires-clause-own c =
     let n = c.in_default in
-    record {
-      own = on_nodes c.args.op.now (record {
-        exchange_id = n.not-ExchangeId;
-        create_session = n.not-CreateSession;
-        destroy_session = n.not-DestroySession;
-        sequence = n.not-Sequence;
-        destroy_clientid = n.not-DestroyClientId;
-        reclaim_complete = n.not-ReclaimComplete;
-        outside = n.not-Outside;
-        create = n.not-Create;
-        link = n.not-Link;
-        remove = n.not-Remove;
-        rename = n.not-Rename;
-        set_attr = n.not-SetAttr;
-      });
-      facts = subst (λ (w : World). NodeFacts (site_in c.args.request.now).dom w.nodes w.entries w.lasts.nodes) (sym c.store.view_is) c.requires.facts;
-    }
+    on_nodes c.args.op.now (record {
+      exchange_id = n.not-ExchangeId;
+      create_session = n.not-CreateSession;
+      destroy_session = n.not-DestroySession;
+      sequence = n.not-Sequence;
+      destroy_clientid = n.not-DestroyClientId;
+      reclaim_complete = n.not-ReclaimComplete;
+      outside = n.not-Outside;
+      extra = n.not-Extra;
+      create = n.not-Create;
+      link = n.not-Link;
+      remove = n.not-Remove;
+      rename = n.not-Rename;
+      opening = n.not-Open;
+      close = n.not-Close;
+      read = n.not-Read;
+      write = n.not-Write;
+      commit = n.not-Commit;
+      set_attr = n.not-SetAttr;
+    })
 
 pub returns-in_default : goal.returns-in_default
 returns-in_default c =
@@ -165,12 +210,12 @@ returns-in_default c =
     let p = place_of c.args.place.now in
     let q = place_of c.on_nodes.new.place in
     let clients = c.store.inside.clients in
-    let after = stored clients c.on_nodes.new.tree in
+    let after = stored clients c.on_nodes.new.tree c.store.inside.opens in
     let sessions = c.args.store.now.sessions in
     let Goal : World → Came → Type 0 = λ w came. Performs r.begin c.args.out.now c.on_nodes.new.out here here q after (turn (site_in r) (sent_of r) c.args.op.now p w) came in
     record {
       performs = IfOk-weaker c.on_nodes.result _ (Goal c.args.store.now)
-          (λ came did. subst (λ w. Goal w came) c.store.view_is (did here (stored clients c.store.inside.tree)))
+          (λ came did. subst (λ w. Goal w came) c.store.view_is (did here (stored clients c.store.inside.tree c.store.inside.opens)))
           c.on_nodes.ensures.performs;
       stands = IfOk-weaker c.on_nodes.result _ (λ (came : Came). Stands q after.sessions here)
           (λ came moved. stays p q sessions after.sessions here (ap (λ (w : World). w.sessions) c.store.view_is) moved c.requires.stands)

@@ -14,21 +14,21 @@ abbrev told : Unit {0} → Reply
 told _ = success results.DestroySession Nowhere
 
 pub returns-in-Ok-clause-acts : goal.returns-in-Ok-clause-acts
-returns-in-Ok-clause-acts c = λ site sent moment rest none.
+returns-in-Ok-clause-acts c = λ site sent moment rest.
     let op = ops.DestroySession c.args.session in
     let p = begins_at c.args.level moment in
     let w = standing rest c.args.clients.now in
-    acts rest none c.args.clients.now c.destroy_session.new.self (destroy_session c.args.session p w) _ p _ (destroy_session_own c.args.level moment w c.args.session)
+    acts rest rest.opens c.args.clients.now c.destroy_session.new.self (destroy_session c.args.session p w) _ p _ (destroy_session_own c.args.level moment w c.args.session)
     (ap (reply_of op told) (sym (c.in-Ok.ensures.answer moment rest)))
     (c.in-Ok.ensures.lists moment rest)
 
 pub returns-in_ok-refused_by-in-Err-clause-acts : goal.returns-in_ok-refused_by-in-Err-clause-acts
-returns-in_ok-refused_by-in-Err-clause-acts c = λ site sent moment rest none.
+returns-in_ok-refused_by-in-Err-clause-acts c = λ site sent moment rest.
     let op = ops.DestroySession c.args.session in
     let p = begins_at c.args.level moment in
     let w = standing rest c.args.clients.now in
     let why = c.in_ok-refused_by-in-Err.field-0 in
     let is = c.in_ok-refused_by-in-Err.ensures in
-    acts rest none c.args.clients.now c.destroy_session.new.self (destroy_session c.args.session p w) _ p _ (destroy_session_own c.args.level moment w c.args.session)
+    acts rest rest.opens c.args.clients.now c.destroy_session.new.self (destroy_session c.args.session p w) _ p _ (destroy_session_own c.args.level moment w c.args.session)
     (refused_as nothing_of op told _ c.in-Err.error why is (c.in-Err.ensures.answer moment rest))
     (not_memory (Unit {0}) c.in-Err.error why is c.in-Err.ensures.lists moment rest)

@@ -5,7 +5,7 @@ use Rattle.lnfs_traffic.specs.Parts.{Parts, parts_of}
 use Rattle.lnfs_vault.specs.Kept.{Kept}
 use Rattle.lnfs_traffic.proofs.Cutting.{cut, left_length}
 use Rattle.lnfs_traffic.proofs.Fronts.{parts_some, parts_none}
-use Rattle.lnfs_program.proofs.Serving.{writes_on, writes_stop, writes_end}
+use Rattle.lnfs_program.proofs.Serving.{writes_on, writes_stop, writes_end, none_fell, writes_behind}
 use Rattle.lnfs_program.specs.Streams.{streams}
 use Rattle.lnfs_program.specs.Writes.{Write, writes_after}
 use Rattle.lnfs_program.proofs.Writing.{does_none, stops_here, takes_none}
@@ -38,6 +38,9 @@ returns-in_err-serve_event-clause-does g c =
     let e = rw c.loop-vault.invariant.1 at c.serve_event.ensures.does in
     record { begun = writes_stop (answer c.args.policy) (audit_at c.args.policy) _ _ c.loop-vault.invariant.0 _ _ s e.begun; done = search rules }
 
+pub returns-in_err-serve_event-clause-cause : goal.returns-in_err-serve_event-clause-cause
+returns-in_err-serve_event-clause-cause g c = writes_behind c.in_err-serve_event.field-0.0 (search rules) c.loop-vault.invariant.4 c.in_err-serve_event.ensures.cause
+
 pub loop-vault-smaller : goal.loop-vault-smaller
 loop-vault-smaller g c =
     let s = cut _ _ _ (rw c.in-Some.is at c.in_ok-event.ensures) in
@@ -55,7 +58,7 @@ loop-vault-preserved g c =
       c.loop-vault.invariant.1,
       c.loop-vault.invariant.2 ∙ ap (λ (p : Parts). p.rest) (parts_some _ _ _ s),
       omega (arith, left_length t.left),
-      record { out = omega (arith, n.out, e.cause.later.out); audit = omega (arith, n.audit, e.cause.later.audit) },
+      none_fell n e.cause.later,
     )
 
 pub returns-clause-does : goal.returns-clause-does
