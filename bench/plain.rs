@@ -5,8 +5,8 @@
 //! theirs, which it keeps in the slot for when the request comes again; to any other COMPOUND the refusal of its first
 //! operation. Behind a SEQUENCE it knows RECLAIM_COMPLETE, PUTROOTFH, LOOKUP, GETATTR and READDIR, of the attributes type,
 //! fileid and sec_label, and of the policy the first directories in the root with labels as CALIPSO bodies; and of
-//! directories that are named by PUTFH, CREATE and LOOKUP of what was made there. It answers nothing else, checks no more
-//! than it must to find its way, and proves nothing.
+//! directories and files that are named by PUTFH, CREATE, OPEN and LOOKUP of what was made there, READ and WRITE. It answers
+//! nothing else, checks no more than it must to find its way, and proves nothing.
 
 use std::collections::BTreeMap;
 use std::io::{BufWriter, Read, Write};
@@ -81,6 +81,16 @@ fn handle(home: u32, number: u32) -> Handle {
 struct Made {
     change: u64,
     names: BTreeMap<Vec<u8>, Handle>,
+}
+
+/// Makes a name in a directory for the next node of a level, and appends how the directory's change number changed.
+fn make(made: &mut BTreeMap<Handle, Made>, dir: Handle, name: Vec<u8>, node: Handle, out: &mut Vec<u8>) {
+    let dir = made.entry(dir).or_insert(Made { change: 1, names: BTreeMap::new() });
+    out.extend(1u32.to_be_bytes());
+    out.extend(dir.change.to_be_bytes());
+    dir.change += 1;
+    out.extend(dir.change.to_be_bytes());
+    dir.names.insert(name, node);
 }
 
 /// The body of a label: its DOI, the number of words, the sensitivity, and the words of its compartments.
@@ -163,6 +173,8 @@ struct Server {
     dirs: BTreeMap<Vec<u8>, Dir>,
     cookies: BTreeMap<u64, Vec<u8>>,
     made: BTreeMap<Handle, Made>,
+    files: BTreeMap<Handle, Vec<u8>>,
+    last_open: BTreeMap<u32, u64>,
     last_node: BTreeMap<u32, u32>,
     journal: Vec<Event>,
 }
@@ -290,14 +302,54 @@ impl Server {
                     let first = if level == 0 { self.dirs.len() as u32 } else { 0 };
                     let last = self.last_node.entry(level).or_insert(first);
                     *last += 1;
-                    let dir = self.made.entry(at_handle?).or_insert(Made { change: 1, names: BTreeMap::new() });
-                    out.extend(1u32.to_be_bytes());
-                    out.extend(dir.change.to_be_bytes());
-                    dir.change += 1;
-                    out.extend(dir.change.to_be_bytes());
+                    make(&mut self.made, at_handle?, name, handle(level, *last), out);
                     out.extend(0u32.to_be_bytes());
-                    dir.names.insert(name, handle(level, *last));
                     at_handle = Some(handle(level, *last));
+                }
+                18 => {
+                    call.take(20)?;
+                    call.opaque()?;
+                    if call.word()? != 1 || call.take(16)? != [0; 16] {
+                        return None;
+                    }
+                    let name = call.opaque()?.to_vec();
+                    let first = if level == 0 { self.dirs.len() as u32 } else { 0 };
+                    let last = self.last_node.entry(level).or_insert(first);
+                    *last += 1;
+                    let state = self.last_open.entry(level).or_insert(0);
+                    *state += 1;
+                    out.extend(1u32.to_be_bytes());
+                    out.extend(level.to_be_bytes());
+                    out.extend(state.to_be_bytes());
+                    make(&mut self.made, at_handle?, name, handle(level, *last), out);
+                    out.extend([0; 12]);
+                    self.files.insert(handle(level, *last), Vec::new());
+                    at_handle = Some(handle(level, *last));
+                }
+                25 => {
+                    call.take(16)?;
+                    let offset = u64::from_be_bytes(call.take(8)?.try_into().ok()?) as usize;
+                    let count = (call.word()? as usize).min(32768);
+                    let file = self.files.get(&at_handle?)?;
+                    let from = offset.min(file.len());
+                    let end = (from + count).min(file.len());
+                    out.extend(u32::from(end == file.len()).to_be_bytes());
+                    opaque_to(out, &file[from..end]);
+                }
+                38 => {
+                    call.take(16)?;
+                    let offset = u64::from_be_bytes(call.take(8)?.try_into().ok()?) as usize;
+                    call.word()?;
+                    let content = call.opaque()?;
+                    let file = self.files.get_mut(&at_handle?)?;
+                    let end = offset + content.len();
+                    if file.len() < end {
+                        file.resize(end, 0);
+                    }
+                    file[offset..end].copy_from_slice(content);
+                    out.extend((content.len() as u32).to_be_bytes());
+                    out.extend(2u32.to_be_bytes());
+                    out.extend([0; 8]);
                 }
                 9 => {
                     let asked: Vec<u32> = (0..call.word()?).map_while(|_| call.word()).collect();
