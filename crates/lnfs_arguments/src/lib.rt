@@ -11,6 +11,7 @@ mod read_names;
 mod read_sessions;
 mod read_table;
 mod reading;
+mod span;
 mod stateid;
 pub mod statuses;
 mod types;
@@ -20,6 +21,7 @@ pub use channel::{Channel, channel_of, put_channel};
 pub use further::{ExtraGrammar, NoExtraGrammar};
 pub use halt::{CompoundError, Halt};
 pub use reading::read_compound;
+pub use span::Span;
 pub use stateid::{Cinfo, StateId, cinfo_of, put_cinfo, put_state_id, state_id_of};
 pub use types::{
     Callback, Claim, Compound, CreateSession, Implementation, Making, Op, Sequence, What,

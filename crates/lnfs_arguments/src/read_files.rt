@@ -11,6 +11,7 @@ use crate::numbers::{
     OPEN_NOCREATE, OWNER_LIMIT, UNCHECKED,
 };
 use crate::read_names::name_of;
+use crate::span::Span;
 use crate::stateid::state_id_of;
 use crate::statuses::{NFS4ERR_INVAL, NFS4ERR_NOTSUPP};
 use crate::types::{Claim, Making, Op};
@@ -20,7 +21,7 @@ use std::alloc::Global;
 
 /// The arguments of CLOSE (RFC 8881 section 18.2). An error where an item isn't there.
 #[tactic(auto, unfolding(crate::specs::Grammar::close))]
-pub fn close_of(reader: &mut XdrReader<'_>) -> Result<Op, XdrError>
+pub fn close_of<'a>(reader: &mut XdrReader<'a>) -> Result<Op<'a>, XdrError>
     ensures { Parses (λ x. x) result reader.old reader.new (read close reader.old.rest) }
 {
     let seqid = reader.u32()?;
@@ -30,7 +31,7 @@ pub fn close_of(reader: &mut XdrReader<'_>) -> Result<Op, XdrError>
 
 /// The arguments of COMMIT (RFC 8881 section 18.3). An error where an item isn't there.
 #[tactic(auto, unfolding(crate::specs::Grammar::commit))]
-pub fn commit_of(reader: &mut XdrReader<'_>) -> Result<Op, XdrError>
+pub fn commit_of<'a>(reader: &mut XdrReader<'a>) -> Result<Op<'a>, XdrError>
     ensures { Parses (λ x. x) result reader.old reader.new (read commit reader.old.rest) }
 {
     let offset = reader.u64()?;
@@ -40,7 +41,7 @@ pub fn commit_of(reader: &mut XdrReader<'_>) -> Result<Op, XdrError>
 
 /// The arguments of READ (RFC 8881 section 18.22). An error where an item isn't there.
 #[tactic(auto, unfolding(crate::specs::Grammar::reading))]
-pub fn read_of(reader: &mut XdrReader<'_>) -> Result<Op, XdrError>
+pub fn read_of<'a>(reader: &mut XdrReader<'a>) -> Result<Op<'a>, XdrError>
     ensures { Parses (λ x. x) result reader.old reader.new (read reading reader.old.rest) }
 {
     let id = state_id_of(reader)?;
@@ -49,15 +50,16 @@ pub fn read_of(reader: &mut XdrReader<'_>) -> Result<Op, XdrError>
     Ok(Op::Read { id, offset, count })
 }
 
-/// The arguments of WRITE (RFC 8881 section 18.32). `Fault` where an item isn't there.
+/// The arguments of WRITE (RFC 8881 section 18.32). An error where an item isn't there. The bytes
+/// to be written are lent from those that are read.
 #[tactic(auto, unfolding(crate::specs::Grammar::writing))]
-pub fn write_of(alloc: Global, reader: &mut XdrReader<'_>) -> Result<Op, Halt>
-    ensures { ParsesInMemory (λ x. x) result reader.old reader.new (read writing reader.old.rest) }
+pub fn write_of<'a>(reader: &mut XdrReader<'a>) -> Result<Op<'a>, XdrError>
+    ensures { Parses (λ x. x) result reader.old reader.new (read writing reader.old.rest) }
 {
     let id = state_id_of(reader)?;
     let offset = reader.u64()?;
     let stable = reader.u32()?;
-    let content = Octets::from_slice(alloc, reader.opaque(DATA_LIMIT)?)?;
+    let content = Span::new(reader.opaque(DATA_LIMIT)?);
     Ok(Op::Write {
         id,
         offset,
@@ -128,7 +130,7 @@ fn claim_of(alloc: Global, reader: &mut XdrReader<'_>) -> Result<Claim, Halt>
 /// The arguments of OPEN (RFC 8881 section 18.16). `Fault` where an item isn't there, `Outside`
 /// where the way of making the file, or the claim, isn't served.
 #[tactic(auto, unfolding(crate::specs::Grammar::opening))]
-pub fn open_of(alloc: Global, reader: &mut XdrReader<'_>) -> Result<Op, Halt>
+pub fn open_of<'a>(alloc: Global, reader: &mut XdrReader<'a>) -> Result<Op<'a>, Halt>
     ensures { ParsesInMemory (λ x. x) result reader.old reader.new (read opening reader.old.rest) }
 {
     let seqid = reader.u32()?;

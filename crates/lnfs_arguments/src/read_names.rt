@@ -24,7 +24,7 @@ pub fn name_of(alloc: Global, reader: &mut XdrReader<'_>) -> Result<Octets, Halt
 
 /// The arguments of ACCESS (RFC 8881 section 18.1). An error where an item isn't there.
 #[tactic(auto, unfolding(crate::specs::Grammar::access))]
-pub fn access_of(reader: &mut XdrReader<'_>) -> Result<Op, XdrError>
+pub fn access_of<'a>(reader: &mut XdrReader<'a>) -> Result<Op<'a>, XdrError>
     ensures { Parses (λ x. x) result reader.old reader.new (read access reader.old.rest) }
 {
     let bits = reader.u32()?;
@@ -51,7 +51,7 @@ fn what_of(alloc: Global, reader: &mut XdrReader<'_>) -> Result<What, Halt>
 /// The arguments of CREATE (RFC 8881 section 18.4). `Fault` where an item isn't there, `Outside`
 /// where neither a directory nor a symbolic link is to be made.
 #[tactic(auto, unfolding(crate::specs::Grammar::create))]
-pub fn create_of(alloc: Global, reader: &mut XdrReader<'_>) -> Result<Op, Halt>
+pub fn create_of<'a>(alloc: Global, reader: &mut XdrReader<'a>) -> Result<Op<'a>, Halt>
     ensures { ParsesInMemory (λ x. x) result reader.old reader.new (read create reader.old.rest) }
 {
     let what = what_of(alloc, reader)?;
@@ -62,7 +62,7 @@ pub fn create_of(alloc: Global, reader: &mut XdrReader<'_>) -> Result<Op, Halt>
 
 /// The arguments of GETATTR (RFC 8881 section 18.7). An error where an item isn't there.
 #[tactic(auto, unfolding(crate::specs::Grammar::getattr))]
-pub fn getattr_of(reader: &mut XdrReader<'_>) -> Result<Op, XdrError>
+pub fn getattr_of<'a>(reader: &mut XdrReader<'a>) -> Result<Op<'a>, XdrError>
     ensures { Parses (λ x. x) result reader.old reader.new (read getattr reader.old.rest) }
 {
     let asked = read_bitmap(reader)?;
@@ -71,7 +71,7 @@ pub fn getattr_of(reader: &mut XdrReader<'_>) -> Result<Op, XdrError>
 
 /// The arguments of LINK (RFC 8881 section 18.9). `Fault` where an item isn't there.
 #[tactic(auto, unfolding(crate::specs::Grammar::link))]
-pub fn link_of(alloc: Global, reader: &mut XdrReader<'_>) -> Result<Op, Halt>
+pub fn link_of<'a>(alloc: Global, reader: &mut XdrReader<'a>) -> Result<Op<'a>, Halt>
     ensures { ParsesInMemory (λ x. x) result reader.old reader.new (read link reader.old.rest) }
 {
     let name = name_of(alloc, reader)?;
@@ -80,7 +80,7 @@ pub fn link_of(alloc: Global, reader: &mut XdrReader<'_>) -> Result<Op, Halt>
 
 /// The arguments of LOOKUP (RFC 8881 section 18.13). `Fault` where an item isn't there.
 #[tactic(auto, unfolding(crate::specs::Grammar::lookup))]
-pub fn lookup_of(alloc: Global, reader: &mut XdrReader<'_>) -> Result<Op, Halt>
+pub fn lookup_of<'a>(alloc: Global, reader: &mut XdrReader<'a>) -> Result<Op<'a>, Halt>
     ensures { ParsesInMemory (λ x. x) result reader.old reader.new (read lookup reader.old.rest) }
 {
     let name = name_of(alloc, reader)?;
@@ -89,7 +89,7 @@ pub fn lookup_of(alloc: Global, reader: &mut XdrReader<'_>) -> Result<Op, Halt>
 
 /// The arguments of REMOVE (RFC 8881 section 18.25). `Fault` where an item isn't there.
 #[tactic(auto, unfolding(crate::specs::Grammar::remove))]
-pub fn remove_of(alloc: Global, reader: &mut XdrReader<'_>) -> Result<Op, Halt>
+pub fn remove_of<'a>(alloc: Global, reader: &mut XdrReader<'a>) -> Result<Op<'a>, Halt>
     ensures { ParsesInMemory (λ x. x) result reader.old reader.new (read remove reader.old.rest) }
 {
     let name = name_of(alloc, reader)?;
@@ -98,7 +98,7 @@ pub fn remove_of(alloc: Global, reader: &mut XdrReader<'_>) -> Result<Op, Halt>
 
 /// The arguments of NVERIFY (RFC 8881 section 18.15). `Fault` where an item isn't there.
 #[tactic(auto, unfolding(crate::specs::Grammar::nverify))]
-pub fn nverify_of(alloc: Global, reader: &mut XdrReader<'_>) -> Result<Op, Halt>
+pub fn nverify_of<'a>(alloc: Global, reader: &mut XdrReader<'a>) -> Result<Op<'a>, Halt>
     ensures { ParsesInMemory (λ x. x) result reader.old reader.new (read nverify reader.old.rest) }
 {
     let attrs = attrs_of(alloc, reader)?;
@@ -107,7 +107,7 @@ pub fn nverify_of(alloc: Global, reader: &mut XdrReader<'_>) -> Result<Op, Halt>
 
 /// The arguments of VERIFY (RFC 8881 section 18.31). `Fault` where an item isn't there.
 #[tactic(auto, unfolding(crate::specs::Grammar::verify))]
-pub fn verify_of(alloc: Global, reader: &mut XdrReader<'_>) -> Result<Op, Halt>
+pub fn verify_of<'a>(alloc: Global, reader: &mut XdrReader<'a>) -> Result<Op<'a>, Halt>
     ensures { ParsesInMemory (λ x. x) result reader.old reader.new (read verify reader.old.rest) }
 {
     let attrs = attrs_of(alloc, reader)?;
@@ -116,7 +116,7 @@ pub fn verify_of(alloc: Global, reader: &mut XdrReader<'_>) -> Result<Op, Halt>
 
 /// The arguments of SETATTR (RFC 8881 section 18.30). `Fault` where an item isn't there.
 #[tactic(auto, unfolding(crate::specs::Grammar::setattr))]
-pub fn setattr_of(alloc: Global, reader: &mut XdrReader<'_>) -> Result<Op, Halt>
+pub fn setattr_of<'a>(alloc: Global, reader: &mut XdrReader<'a>) -> Result<Op<'a>, Halt>
     ensures { ParsesInMemory (λ x. x) result reader.old reader.new (read setattr reader.old.rest) }
 {
     let id = state_id_of(reader)?;
@@ -126,7 +126,7 @@ pub fn setattr_of(alloc: Global, reader: &mut XdrReader<'_>) -> Result<Op, Halt>
 
 /// The arguments of PUTFH (RFC 8881 section 18.19). `Fault` where an item isn't there.
 #[tactic(auto, unfolding(crate::specs::Grammar::putfh))]
-pub fn putfh_of(alloc: Global, reader: &mut XdrReader<'_>) -> Result<Op, Halt>
+pub fn putfh_of<'a>(alloc: Global, reader: &mut XdrReader<'a>) -> Result<Op<'a>, Halt>
     ensures { ParsesInMemory (λ x. x) result reader.old reader.new (read putfh reader.old.rest) }
 {
     let handle = Octets::from_slice(alloc, reader.opaque(HANDLE_LIMIT)?)?;
@@ -135,7 +135,7 @@ pub fn putfh_of(alloc: Global, reader: &mut XdrReader<'_>) -> Result<Op, Halt>
 
 /// The arguments of READDIR (RFC 8881 section 18.23). An error where an item isn't there.
 #[tactic(auto, unfolding(crate::specs::Grammar::readdir))]
-pub fn readdir_of(reader: &mut XdrReader<'_>) -> Result<Op, XdrError>
+pub fn readdir_of<'a>(reader: &mut XdrReader<'a>) -> Result<Op<'a>, XdrError>
     ensures { Parses (λ x. x) result reader.old reader.new (read readdir reader.old.rest) }
 {
     let cookie = reader.u64()?;
@@ -155,7 +155,7 @@ pub fn readdir_of(reader: &mut XdrReader<'_>) -> Result<Op, XdrError>
 
 /// The arguments of RENAME (RFC 8881 section 18.26). `Fault` where an item isn't there.
 #[tactic(auto, unfolding(crate::specs::Grammar::rename))]
-pub fn rename_of(alloc: Global, reader: &mut XdrReader<'_>) -> Result<Op, Halt>
+pub fn rename_of<'a>(alloc: Global, reader: &mut XdrReader<'a>) -> Result<Op<'a>, Halt>
     ensures { ParsesInMemory (λ x. x) result reader.old reader.new (read rename reader.old.rest) }
 {
     let old = name_of(alloc, reader)?;

@@ -56,7 +56,7 @@ fn who_made_of(alloc: Global, reader: &mut XdrReader<'_>) -> Result<Option<Imple
 /// The arguments of EXCHANGE_ID (RFC 8881 section 18.35). `Fault` where an item isn't there,
 /// `Outside` where a state protection is asked for.
 #[tactic(auto, unfolding(crate::specs::Grammar::exchange_id))]
-pub fn exchange_id_of(alloc: Global, reader: &mut XdrReader<'_>) -> Result<Op, Halt>
+pub fn exchange_id_of<'a>(alloc: Global, reader: &mut XdrReader<'a>) -> Result<Op<'a>, Halt>
     ensures { ParsesInMemory (λ x. x) result reader.old reader.new (read exchange_id reader.old.rest) }
 {
     let mut verifier = [0; 8];
@@ -156,7 +156,7 @@ fn create_session_args_of(alloc: Global, reader: &mut XdrReader<'_>) -> Result<C
 /// The arguments of CREATE_SESSION (RFC 8881 section 18.36). `Fault` where an item isn't there,
 /// `Outside` where a way to call back isn't one of `Callback`.
 #[tactic(auto, unfolding(crate::specs::Grammar::making_session))]
-pub fn create_session_of(alloc: Global, reader: &mut XdrReader<'_>) -> Result<Op, Halt>
+pub fn create_session_of<'a>(alloc: Global, reader: &mut XdrReader<'a>) -> Result<Op<'a>, Halt>
     ensures { ParsesInMemory (λ x. x) result reader.old reader.new (read making_session reader.old.rest) }
 {
     let args = create_session_args_of(alloc, reader)?;
@@ -165,7 +165,7 @@ pub fn create_session_of(alloc: Global, reader: &mut XdrReader<'_>) -> Result<Op
 
 /// The arguments of DESTROY_SESSION (RFC 8881 section 18.37). An error where an item isn't there.
 #[tactic(auto, unfolding(crate::specs::Grammar::destroy_session))]
-pub fn destroy_session_of(reader: &mut XdrReader<'_>) -> Result<Op, XdrError>
+pub fn destroy_session_of<'a>(reader: &mut XdrReader<'a>) -> Result<Op<'a>, XdrError>
     ensures { Parses (λ x. x) result reader.old reader.new (read destroy_session reader.old.rest) }
 {
     let mut session = [0; 16];
@@ -194,7 +194,7 @@ fn sequence_args_of(reader: &mut XdrReader<'_>) -> Result<Sequence, XdrError>
 
 /// The arguments of SEQUENCE (RFC 8881 section 18.46). An error where an item isn't there.
 #[tactic(auto, unfolding(crate::specs::Grammar::sequencing))]
-pub fn sequence_of(reader: &mut XdrReader<'_>) -> Result<Op, XdrError>
+pub fn sequence_of<'a>(reader: &mut XdrReader<'a>) -> Result<Op<'a>, XdrError>
     ensures { Parses (λ x. x) result reader.old reader.new (read sequencing reader.old.rest) }
 {
     let args = sequence_args_of(reader)?;
@@ -203,7 +203,7 @@ pub fn sequence_of(reader: &mut XdrReader<'_>) -> Result<Op, XdrError>
 
 /// The arguments of DESTROY_CLIENTID (RFC 8881 section 18.50). An error where an item isn't there.
 #[tactic(auto, unfolding(crate::specs::Grammar::destroy_clientid))]
-pub fn destroy_clientid_of(reader: &mut XdrReader<'_>) -> Result<Op, XdrError>
+pub fn destroy_clientid_of<'a>(reader: &mut XdrReader<'a>) -> Result<Op<'a>, XdrError>
     ensures { Parses (λ x. x) result reader.old reader.new (read destroy_clientid reader.old.rest) }
 {
     let client = reader.u64()?;
@@ -212,7 +212,7 @@ pub fn destroy_clientid_of(reader: &mut XdrReader<'_>) -> Result<Op, XdrError>
 
 /// The arguments of RECLAIM_COMPLETE (RFC 8881 section 18.51). An error where an item isn't there.
 #[tactic(auto, unfolding(crate::specs::Grammar::reclaim_complete))]
-pub fn reclaim_complete_of(reader: &mut XdrReader<'_>) -> Result<Op, XdrError>
+pub fn reclaim_complete_of<'a>(reader: &mut XdrReader<'a>) -> Result<Op<'a>, XdrError>
     ensures { Parses (λ x. x) result reader.old reader.new (read reclaim_complete reader.old.rest) }
 {
     let one_fs = reader.boolean()?;

@@ -27,7 +27,11 @@ use std::alloc::Global;
 
 /// The arguments of the operation of a number.
 #[tactic(auto, unfolding(crate::specs::Grammar::arguments))]
-pub fn arguments_of(alloc: Global, reader: &mut XdrReader<'_>, number: u32) -> Result<Op, Halt>
+pub fn arguments_of<'a>(
+    alloc: Global,
+    reader: &mut XdrReader<'a>,
+    number: u32,
+) -> Result<Op<'a>, Halt>
     ensures { ParsesInMemory (λ x. x) result reader.old reader.new (read (arguments number) reader.old.rest) }
 {
     match number {
@@ -53,7 +57,7 @@ pub fn arguments_of(alloc: Global, reader: &mut XdrReader<'_>, number: u32) -> R
         OP_SAVEFH => Ok(Op::SaveFh),
         OP_SETATTR => setattr_of(alloc, reader),
         OP_VERIFY => verify_of(alloc, reader),
-        OP_WRITE => write_of(alloc, reader),
+        OP_WRITE => Ok(write_of(reader)?),
         OP_EXCHANGE_ID => exchange_id_of(alloc, reader),
         OP_CREATE_SESSION => create_session_of(alloc, reader),
         OP_DESTROY_SESSION => Ok(destroy_session_of(reader)?),

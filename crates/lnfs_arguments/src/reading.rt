@@ -18,7 +18,7 @@ fn operation_of<'a, E: ExtraGrammar>(
     alloc: Global,
     reader: &mut XdrReader<'a>,
     extra: &E,
-) -> Result<Op, Halt>
+) -> Result<Op<'a>, Halt>
     ensures { Steps result reader.new (operation_at E.grammar reader.old.rest) }
 {
     let number = reader.u32()?;
@@ -69,7 +69,7 @@ fn compound_in<'a, E: ExtraGrammar>(
     alloc: Global,
     reader: &mut XdrReader<'a>,
     extra: &E,
-) -> Result<Compound, Halt>
+) -> Result<Compound<'a>, Halt>
     ensures { Completes result reader.new (parse (compound E.grammar) reader.old.rest) }
 {
     let (tag, minor, count) = header_of(alloc, reader)?;
@@ -103,11 +103,11 @@ fn compound_in<'a, E: ExtraGrammar>(
     })
 }
 
-fn compound_of<E: ExtraGrammar>(
+fn compound_of<'a, E: ExtraGrammar>(
     alloc: Global,
-    bytes: &[u8],
+    bytes: &'a [u8],
     extra: &E,
-) -> Result<Compound, CompoundError>
+) -> Result<Compound<'a>, CompoundError>
     ensures { Answers result bytes.now (parse (compound E.grammar) bytes.now) }
 {
     let mut reader = XdrReader::new(bytes);
@@ -121,17 +121,18 @@ fn compound_of<E: ExtraGrammar>(
     }
 }
 
-/// The COMPOUND whose arguments the bytes are (RFC 8881 section 16.2.2).
+/// The COMPOUND whose arguments the bytes are (RFC 8881 section 16.2.2). The bytes of a WRITE are
+/// lent from them.
 ///
 /// With another minor version than 2 neither the count nor an operation is read, and `count` is 0;
 /// with a count above 32 the first operation alone, and none after one that is outside of what is
 /// served: the rest is then unread. `Garbage` comes
 /// with the offset of the first item of which no continuation is in the grammar.
-pub fn read_compound<E: ExtraGrammar>(
+pub fn read_compound<'a, E: ExtraGrammar>(
     alloc: Global,
-    bytes: &[u8],
+    bytes: &'a [u8],
     extra: &E,
-) -> Result<Compound, CompoundError>
+) -> Result<Compound<'a>, CompoundError>
     // The result is that of reading from left to right.
     ensures reads { Answers result bytes.now (parse (compound E.grammar) bytes.now) }
     // What is read is what the bytes are.

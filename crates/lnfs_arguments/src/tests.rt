@@ -4,7 +4,7 @@ ghost use Rattle.lnfs_xdr.specs.Format.{Opaque, Done, ◌>>=◌};
 ghost use Rattle.lnfs_arguments.specs.Further.{further_of};
 ghost use Rattle.lnfs_arguments.specs.Lawful.{blocks_are_lawful};
 
-use crate::{CompoundError, ExtraGrammar, NoExtraGrammar, read_compound};
+use crate::{CompoundError, ExtraGrammar, NoExtraGrammar, Op, read_compound};
 use lnfs_xdr::{XdrError, XdrReader, XdrWriter};
 use std::alloc::{AllocError, Global};
 use std::process::Abort;
@@ -39,7 +39,7 @@ const FILES: &str = "
 4 5 7 1 0 2 => [Close { seqid: 5, id: StateId { seqid: 7, other: [0, 0, 0, 1, 0, 0, 0, 0, 0, 0, 0, 2] } }]
 5 0 6 7 => [Commit { offset: 6, count: 7 }]
 25 7 1 0 2 1 0 9 => [Read { id: StateId { seqid: 7, other: [0, 0, 0, 1, 0, 0, 0, 0, 0, 0, 0, 2] }, offset: 4294967296, count: 9 }]
-38 7 1 0 2 0 8 2 1 A => [Write { id: StateId { seqid: 7, other: [0, 0, 0, 1, 0, 0, 0, 0, 0, 0, 0, 2] }, offset: 8, stable: 2, content: Octets { inner: [97] } }]
+38 7 1 0 2 0 8 2 1 A => [Write { id: StateId { seqid: 7, other: [0, 0, 0, 1, 0, 0, 0, 0, 0, 0, 0, 2] }, offset: 8, stable: 2, content: Span { bytes: [97] } }]
 31 => [RestoreFh]
 32 => [SaveFh]
 18 1 2 3 1 5 1 A 0 4 => [Open { seqid: 1, access: 2, deny: 3, client: 4294967301, owner: Octets { inner: [97] }, making: None, claim: Handle }]
@@ -129,10 +129,15 @@ fn message(alloc: Global, head: &str, words: &str) -> Result<Option<Vec<u8>>, Al
     Ok(Some(out.into_bytes()))
 }
 
+/// Operations as they are shown.
+fn shown(alloc: Global, ops: &[Op<'_>]) -> Result<String, AllocError> {
+    format!(in alloc; "{ops:?}")
+}
+
 /// What reading gives: the operations, or the offset of what is refused.
 fn told<G: ExtraGrammar>(alloc: Global, bytes: &[u8], grammar: &G) -> Result<String, AllocError> {
     match read_compound(alloc, bytes, grammar) {
-        Ok(found) => format!(in alloc; "{:?}", found.ops.as_slice()),
+        Ok(found) => shown(alloc, found.ops.as_slice()),
         Err(CompoundError::Garbage { at }) => format!(in alloc; "garbage at {at}"),
         Err(CompoundError::Memory) => Err(AllocError),
     }

@@ -9,6 +9,7 @@ use crate::numbers::{
     OP_READDIR, OP_READLINK, OP_RECLAIM_COMPLETE, OP_REMOVE, OP_RENAME, OP_RESTOREFH, OP_SAVEFH,
     OP_SEQUENCE, OP_SETATTR, OP_VERIFY, OP_WRITE,
 };
+use crate::span::Span;
 use crate::stateid::StateId;
 use lnfs_attrs::{Bitmap, RawAttrs};
 use lnfs_lists::{Items, Octets};
@@ -86,9 +87,10 @@ pub enum Claim {
     Handle,
 }
 
-/// The arguments of one operation (RFC 8881 section 18).
+/// The arguments of one operation (RFC 8881 section 18). The bytes of a WRITE are lent from those
+/// that were read.
 #[derive(Debug, Drop)]
-pub enum Op {
+pub enum Op<'a> {
     Access {
         bits: u32,
     },
@@ -166,7 +168,7 @@ pub enum Op {
         id: StateId,
         offset: u64,
         stable: u32,
-        content: Octets,
+        content: Span<'a>,
     },
     ExchangeId {
         verifier: [u8; 8],
@@ -199,7 +201,7 @@ pub enum Op {
     },
 }
 
-impl Op {
+impl Op<'_> {
     /// The operation's number; of one outside of what is served, the number as it was sent.
     pub fn number(&self) -> u32
         ensures { result ≡ number_of self.now }
@@ -252,10 +254,10 @@ impl Op {
 
 /// The arguments of a COMPOUND (RFC 8881 section 16.2.2).
 #[derive(Debug, Drop)]
-pub struct Compound {
+pub struct Compound<'a> {
     pub tag: Octets,
     pub minor: u32,
     /// The count that was sent, which may be more than the operations that were read.
     pub count: u32,
-    pub ops: Items<Op>,
+    pub ops: Items<Op<'a>>,
 }

@@ -22,7 +22,7 @@ fn rounded_up(count: u32) -> u32
 }
 
 /// The most bytes of the result of an operation, its number and its status among them.
-pub fn reply_bound<E: ExtraGrammar>(op: &Op, extra: &E) -> u32
+pub fn reply_bound<E: ExtraGrammar>(op: &Op<'_>, extra: &E) -> u32
     ensures { result ≡ op_bound E.grammar op.now }
 {
     match op {

@@ -34,7 +34,7 @@ fn unless(test: bool, status: u32) -> Option<Refusal>
 /// What refuses an operation by its place, behind so many results (RFC 8881 section 2.10.6): SEQUENCE is
 /// the first, those that make and end clients and sessions are the only one, and the others stand behind a
 /// SEQUENCE.
-fn place_refusal(compound: &Compound, done: usize, op: &Op) -> Option<Refusal>
+fn place_refusal(compound: &Compound<'_>, done: usize, op: &Op<'_>) -> Option<Refusal>
     ensures refusal { (so_far : List OpResult) → length so_far ≡ done → option_map refusal_of result ≡ place_refusal compound.now so_far op.now }
     ensures first { result ≡ None → HasToBeFirst op.now → done ≡ 0 }
 {
@@ -57,7 +57,7 @@ fn place_refusal(compound: &Compound, done: usize, op: &Op) -> Option<Refusal>
 fn room_refusal<E: ExtraGrammar>(
     keeper: &Keeper,
     written: usize,
-    op: &Op,
+    op: &Op<'_>,
     extra: &E,
 ) -> Option<Refusal>
     ensures { (p : world.Place) (w : World) (so_far : List OpResult) (c : Compound) → Stands p w.sessions keeper.now → used c so_far ≡ written
@@ -78,18 +78,21 @@ fn room_refusal<E: ExtraGrammar>(
 
 /// What refuses an operation before its own tests: its place, and then the room.
 pub fn admission<E: ExtraGrammar>(
-    compound: &Compound,
+    compound: &Compound<'_>,
     extra: &E,
     keeper: &Keeper,
     done: usize,
     written: usize,
-    op: &Op,
+    op: &Op<'_>,
 ) -> Option<Refusal>
     ensures refusal { (p : world.Place) (w : World) (so_far : List OpResult) → Stands p w.sessions keeper.now → length so_far ≡ done → used compound.now so_far ≡ written
         → option_map refusal_of result ≡ admission E.grammar compound.now so_far op.now p w }
     ensures first { result ≡ None → HasToBeFirst op.now → done ≡ 0 }
 {
-    place_refusal(compound, done, op).or_else(|| room_refusal(keeper, written, op, extra))
+    match place_refusal(compound, done, op) {
+        Some(refusal) => Some(refusal),
+        None => room_refusal(keeper, written, op, extra),
+    }
 }
 
 #[cfg(test)]

@@ -132,7 +132,7 @@ impl<X: Extra> Engine<X> {
         moment: Moment,
         size: u32,
         bytes: &[u8],
-        compound: &Compound,
+        compound: &Compound<'_>,
         out: XdrWriter,
     ) -> Result<Ran, AllocError>
         requires tag { length compound.now.tag ≤ 1024 }

@@ -255,7 +255,7 @@ fn on_read(
     tree: &mut Tree,
     opens: &Opens,
     place: &Place,
-    op: &Op,
+    op: &Op<'_>,
     args: &ReadFrom<'_>,
     out: &mut XdrWriter,
 ) -> Result<Came, AllocError>
@@ -281,7 +281,7 @@ pub fn on_files(
     opens: &mut Opens,
     quota: &mut Quota,
     place: &mut Place,
-    op: &Op,
+    op: &Op<'_>,
     out: &mut XdrWriter,
 ) -> Result<Came, AllocError>
     requires own { IsOnFiles op.now }

@@ -27,7 +27,7 @@ pub struct Asked<'a> {
 }
 
 /// The further operation that an operation is, where it is served.
-pub fn further_in<'a, E: ExtraGrammar>(op: &'a Op, extra: &E) -> Option<Asked<'a>>
+pub fn further_in<'a, E: ExtraGrammar>(op: &'a Op<'_>, extra: &E) -> Option<Asked<'a>>
     ensures { option_map asked_of result ≡ further_in E.grammar op.now }
 {
     match op {

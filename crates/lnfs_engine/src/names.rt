@@ -226,7 +226,7 @@ pub fn on_names(
     opens: &mut Opens,
     quota: &mut Quota,
     place: &mut Place,
-    op: &Op,
+    op: &Op<'_>,
     out: &mut XdrWriter,
 ) -> Result<Came, AllocError>
     requires own { IsOnNames op.now }

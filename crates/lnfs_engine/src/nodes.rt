@@ -111,7 +111,11 @@ pub fn plain(ended: Result<(), Refusal>, done: OpResult) -> Answer
 }
 
 /// The end of an operation that wrote its result, or was refused.
-pub fn wrote(out: &mut XdrWriter, op: &Op, answer: Result<(), Refusal>) -> Result<Came, AllocError>
+pub fn wrote(
+    out: &mut XdrWriter,
+    op: &Op<'_>,
+    answer: Result<(), Refusal>,
+) -> Result<Came, AllocError>
     ensures { IfOk result (λ came. SaysWritten out.old out.new op.now answer came) }
 {
     match answer {
@@ -126,7 +130,7 @@ pub fn on_nodes(
     tree: &mut Tree,
     quota: &Quota,
     place: &mut Place,
-    op: &Op,
+    op: &Op<'_>,
     out: &mut XdrWriter,
 ) -> Result<Came, AllocError>
     requires own { IsOnNodes op.now }

@@ -58,7 +58,7 @@ fn serve(
     store: &mut Store,
     place: &mut Place,
     keeper: &mut Keeper,
-    op: &Op,
+    op: &Op<'_>,
     out: &mut XdrWriter,
 ) -> Result<Came, AllocError>
     requires first { HasToBeFirst op.now → Starts (place_of place.old) keeper.old }
@@ -141,7 +141,7 @@ pub fn perform<X: Extra>(
     place: &mut Place,
     keeper: &mut Keeper,
     done: usize,
-    op: &Op,
+    op: &Op<'_>,
     out: &mut XdrWriter,
 ) -> Result<Came, AllocError>
     requires first { done ≡ 0 → Starts (place_of place.old) keeper.old }

@@ -21,7 +21,7 @@ pub struct Request<'a> {
     /// The length of its record, and the bytes of its arguments.
     pub size: u32,
     pub bytes: &'a [u8],
-    pub compound: &'a Compound,
+    pub compound: &'a Compound<'a>,
     /// Where its result begins in the reply.
     pub begin: usize,
 }

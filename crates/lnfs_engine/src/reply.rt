@@ -44,7 +44,7 @@ pub fn refused_by(error: SessionError) -> Result<Refusal, AllocError>
 }
 
 /// Appends the result of an operation.
-pub fn say(out: &mut XdrWriter, op: &Op, answer: Answer) -> Result<Came, AllocError>
+pub fn say(out: &mut XdrWriter, op: &Op<'_>, answer: Answer) -> Result<Came, AllocError>
     requires { IsPlain answer }
     ensures { IfOk result (λ came. (begin : ℕ) (keeper : Keeper) → Says begin out.old out.new (own_of op.now keeper answer) came) }
 {

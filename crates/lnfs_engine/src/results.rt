@@ -100,7 +100,7 @@ pub fn sequence_result(args: &Sequence, highest: u32) -> OpResult
 }
 
 /// The result of an operation that failed. SETATTR's says which attributes were set: none.
-pub fn failed(op: &Op, status: u32) -> OpResult
+pub fn failed(op: &Op<'_>, status: u32) -> OpResult
     ensures failed { result ≡ failed op.now status }
     ensures sized { ResultSized result }
     ensures status { status_of result ≡ status }

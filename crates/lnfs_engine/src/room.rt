@@ -13,7 +13,7 @@ const WORD: usize = 4;
 const WORDS: usize = 12;
 
 /// The bounds of the results of operations together.
-fn bounds_of<E: ExtraGrammar>(ops: &[Op], extra: &E) -> usize
+fn bounds_of<E: ExtraGrammar>(ops: &[Op<'_>], extra: &E) -> usize
     requires { length ops.now ≤ 32 }
     ensures sum { result ≡ sum_by (op_bound E.grammar) ops.now }
     ensures small { result < 2 ^ 38 }
@@ -26,7 +26,7 @@ fn bounds_of<E: ExtraGrammar>(ops: &[Op], extra: &E) -> usize
 }
 
 /// The most bytes of the result of a COMPOUND: its head with the tag, and the bound of each operation.
-pub fn room_of<E: ExtraGrammar>(compound: &Compound, extra: &E) -> usize
+pub fn room_of<E: ExtraGrammar>(compound: &Compound<'_>, extra: &E) -> usize
     requires tag { length compound.now.tag ≤ 1024 }
     requires few { length compound.now.ops ≤ 32 }
     ensures { result ≡ length (head_text 0 compound.now.tag 0) + sum_by (op_bound E.grammar) compound.now.ops }

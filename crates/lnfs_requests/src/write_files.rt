@@ -7,7 +7,7 @@ use lnfs_arguments::numbers::{
     CLAIM_FH, CLAIM_NULL, EXCLUSIVE4_1, GUARDED, OP_CLOSE, OP_COMMIT, OP_OPEN, OP_READ, OP_WRITE,
     OPEN_CREATE, OPEN_NOCREATE, UNCHECKED,
 };
-use lnfs_arguments::{Claim, Making, Op, StateId, put_attrs, put_state_id};
+use lnfs_arguments::{Claim, Making, Op, Span, StateId, put_attrs, put_state_id};
 use lnfs_lists::Octets;
 use lnfs_xdr::XdrWriter;
 use std::alloc::AllocError;
@@ -55,7 +55,7 @@ pub fn put_write(
     id: &StateId,
     offset: u64,
     stable: u32,
-    content: &Octets,
+    content: &Span<'_>,
 ) -> Result<(), AllocError>
     requires { OpFits (Op.Write id.now offset stable content.now) }
     ensures { OnOk result (out.new ≡ out.old ++ op_text (Op.Write id.now offset stable content.now)) }

@@ -21,7 +21,7 @@ use std::alloc::AllocError;
 
 /// The number of an operation and its arguments.
 #[tactic(auto, unfolding(crate::specs::Texts::op_text))]
-pub fn put_op(out: &mut XdrWriter, op: &Op) -> Result<(), AllocError>
+pub fn put_op(out: &mut XdrWriter, op: &Op<'_>) -> Result<(), AllocError>
     requires { OpFits op.now }
     ensures { OnOk result (out.new ≡ out.old ++ op_text op.now) }
 {

@@ -2,7 +2,7 @@ ghost use Rattle.lnfs_requests.specs.Fits.{OpFits};
 ghost use Rattle.lnfs_arguments.specs.SharedTexts.{AttrsFit};
 
 use crate::write_compound;
-use lnfs_arguments::{Channel, Claim, Compound, CreateSession, Op, Sequence, StateId, What};
+use lnfs_arguments::{Channel, Claim, Compound, CreateSession, Op, Sequence, Span, StateId, What};
 use lnfs_attrs::{Bitmap, RawAttrs};
 use lnfs_lists::{Items, Octets};
 use lnfs_xdr::XdrWriter;
@@ -22,7 +22,7 @@ fn laid_out(alloc: Global, words: &[u32]) -> Result<Vec<u8>, AllocError> {
 }
 
 /// One operation, written.
-fn written(alloc: Global, op: Op) -> Result<Vec<u8>, AllocError>
+fn written(alloc: Global, op: Op<'_>) -> Result<Vec<u8>, AllocError>
     requires { OpFits op }
 {
     let mut ops = Vec::new(alloc);
@@ -226,7 +226,7 @@ fn operations_on_files_are_written(rt: HostRuntime) -> Result<(), Fail> {
         id: ID,
         offset: 8,
         stable: 2,
-        content: Octets::from_slice(alloc, b"hi")?,
+        content: Span::new(b"hi"),
     };
     let words = [38, 7, 1, 0, 2, 0, 8, 2, 2, 0x6869_0000];
     assert_eq!(rt; written(alloc, write)?, laid_out(alloc, &words)?);

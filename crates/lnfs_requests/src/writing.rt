@@ -11,7 +11,7 @@ use lnfs_xdr::XdrWriter;
 use std::alloc::{AllocError, Global};
 
 #[tactic(auto, unfolding(crate::specs::Texts::compound_text))]
-fn text_of(alloc: Global, c: &Compound) -> Result<Vec<u8>, AllocError>
+fn text_of(alloc: Global, c: &Compound<'_>) -> Result<Vec<u8>, AllocError>
     requires { CompoundFits c.now }
     ensures { IfOk result (λ v. v.items ≡ compound_text c.now) }
 {
@@ -26,7 +26,7 @@ fn text_of(alloc: Global, c: &Compound) -> Result<Vec<u8>, AllocError>
 }
 
 /// The one spelling of a COMPOUND, its pad bytes zero.
-pub fn write_compound(alloc: Global, c: &Compound) -> Result<Vec<u8>, AllocError>
+pub fn write_compound(alloc: Global, c: &Compound<'_>) -> Result<Vec<u8>, AllocError>
     requires { CompoundFits c.now }
     ensures text { IfOk result (λ v. v.items ≡ compound_text c.now) }
     // It is read again, whatever operations are read beside the table.

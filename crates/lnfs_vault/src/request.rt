@@ -32,7 +32,7 @@ pub struct Run<'a> {
     pub xid: u32,
     /// The bytes of its arguments.
     pub arguments: &'a [u8],
-    pub compound: Compound,
+    pub compound: Compound<'a>,
 }
 
 /// What a record asks.
