@@ -1,0 +1,10 @@
+pub mod Mechanism
+pub mod Grammar
+pub mod Who
+pub mod Replies
+pub mod Contexts
+pub mod Seen
+pub mod Counters
+pub mod Listed
+pub mod Laws
+pub mod Sizes
