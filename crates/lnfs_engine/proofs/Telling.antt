@@ -12,6 +12,7 @@ use Rattle.lnfs_operations.specs.Served.{Keeper, Nowhere, Reply, told_reply, rep
 use Rattle.lnfs_session.specs.Standing.{Lists}
 use Rattle.lnfs_tree.specs.Rows.{Rows}
 use Rattle.lnfs_open.specs.Lists as opens
+use Rattle.lnfs_gss3.specs.Contexts as contexts
 use Rattle.lnfs_operations.specs.declared.Refusal.{Refusal}
 use Rattle.lnfs_engine.specs.declared.place.Keeper as code
 use Rattle.lnfs_engine.specs.declared.reply.Came.{Came}
@@ -26,12 +27,12 @@ abbrev pub Said : (old new : List ℕ) → Op → Result OpResult Refusal → Ca
 Said old new op answer came = (begin : ℕ) (keeper : Keeper) → Says begin old new (own_of op keeper answer) came
 
 module _ (begin : ℕ) (old new : List ℕ) (here : code.Keeper) (site : Site) (sent : Sent) (op same : Op) (p : Place) (answer : Result OpResult Refusal) (is : op ≡ same) {E : Type 0} (result : Result Came E) (said : IfOk result (Said old new op answer)) where
-  module _ (store : World) (clients after : Lists) (tree : Rows) (held : opens.Lists) (view_is : stored clients tree held ≡ store) where
+  module _ (store : World) (clients after : Lists) (tree : Rows) (held : opens.Lists) (kept : contexts.Lists) (view_is : stored clients tree held kept ≡ store) where
     abbrev before : World
-    before = stored clients tree held
+    before = stored clients tree held kept
 
     abbrev later : World
-    later = stored after tree held
+    later = stored after tree held kept
 
     abbrev Told : Came → Type 0
     Told came = Performs begin old new here here p later (turn site sent op p store) came

@@ -5,6 +5,7 @@ pub mod Performs
 pub mod Runs
 pub mod Served
 pub mod Stores
+pub mod Contexts
 pub mod Behind
 pub mod Further
 pub mod Nodes

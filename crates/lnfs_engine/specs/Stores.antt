@@ -8,22 +8,27 @@ use Rattle.lnfs_tree.specs.Rows.{Rows}
 use Rattle.lnfs_tree.specs.Changed.{Gone}
 use Rattle.lnfs_open.specs.Lists as opens
 use Rattle.lnfs_files.specs.Worlds.{with_opens}
+use Rattle.lnfs_gss3.specs.Contexts as contexts
 
--- the nodes and names of a tree, without clients and opens: no client has a context yet
-abbrev pub only_tree : Rows → World
-only_tree rows = record {
+-- the nodes and names of a tree, and contexts, without clients and opens
+abbrev pub beside : Rows → contexts.Lists → World
+beside rows c = record {
   clients = [];
   sessions = [];
-  contexts = [];
+  contexts = c.contexts;
   nodes = rows.nodes;
   entries = rows.entries;
   opens = [];
-  lasts = record { clients = []; sessions = []; contexts = []; nodes = rows.lasts; opens = [] };
+  lasts = record { clients = []; sessions = []; contexts = c.lasts; nodes = rows.lasts; opens = [] };
 }
 
--- clients and sessions, nodes and names, and opens
-abbrev pub stored : Lists → Rows → opens.Lists → World
-stored lists rows s = standing (with_opens (only_tree rows) s) lists
+-- the nodes and names of a tree alone
+abbrev pub only_tree : Rows → World
+only_tree rows = beside rows contexts.no_lists
+
+-- clients and sessions, nodes and names, opens, and contexts
+abbrev pub stored : Lists → Rows → opens.Lists → contexts.Lists → World
+stored lists rows s c = standing (with_opens (beside rows c) s) lists
 
 -- ---- opens that stay
 

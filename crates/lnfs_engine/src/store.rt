@@ -2,9 +2,13 @@
 ghost use Rattle.std.specs.Prelude.{◌≡◌, IfOk};
 ghost use Rattle.std.specs.List.{AllByRecursion};
 ghost use Rattle.lnfs_world.specs.Usage.{bytes_of};
+ghost use Rattle.lnfs_gss3.specs.Contexts.{has_context, ended};
 ghost use Rattle.lnfs_engine.specs.Stores.{only_tree};
+ghost use Rattle.lnfs_engine.specs.Contexts.{MakesContext, without_context};
 
 use crate::counted::counted;
+use lnfs_calipso::Level;
+use lnfs_gss3::{ContextError, Contexts};
 use lnfs_open::Opens;
 use lnfs_quota::Quota;
 use lnfs_session::Clients;
@@ -13,12 +17,14 @@ use lnfs_tree::Tree;
 use std::alloc::{AllocError, Global};
 use std::marker::Model;
 
-/// Clients with their sessions, nodes with their names, opens, and what each level uses. Its value is the world of their rows.
+/// Clients with their sessions, nodes with their names, opens, contexts, and what each level uses. Its value is the world of
+/// their rows.
 #[derive(Drop)]
 pub struct Store {
     pub(crate) clients: Clients,
     pub(crate) tree: Tree,
     pub(crate) opens: Opens,
+    contexts: Contexts,
     pub(crate) quota: Quota,
 }
 
@@ -29,13 +35,13 @@ impl Model for Store {
 
     ghost Value = { World };
 
-    ghost view = { λ s. stored s.clients s.tree s.opens };
+    ghost view = { λ s. stored s.clients s.tree s.opens s.contexts };
 
     ghost invariant = { λ s. AreTotals s.quota s.tree.nodes };
 }
 
 impl Store {
-    /// The nodes of a tree without bytes, no client and no open. What each level uses is counted against the limits of a site.
+    /// The nodes of a tree without bytes, no client, no open and no context. What each level uses is counted against the limits of a site.
     ///
     /// # Errors
     ///
@@ -49,7 +55,44 @@ impl Store {
             clients: Clients::new(alloc),
             tree,
             opens: Opens::new(alloc),
+            contexts: Contexts::new(alloc),
             quota,
         })
+    }
+
+    /// Whether a level has a context of a number under a parent.
+    pub fn has_context(&self, level: Level, parent: u32, number: u64) -> bool
+        ensures { result ≡ has_context self.now.contexts level.0 parent number }
+    {
+        self.contexts.find(level, parent, number)
+    }
+
+    /// Makes a context of a level under a parent, and answers its number, the next of the level.
+    ///
+    /// # Errors
+    ///
+    /// `Full` where the level has 1,024 contexts or was given its last number. `Memory` where there is no memory. Either
+    /// leaves all as it was.
+    pub fn make_context(&mut self, level: Level, parent: u32) -> Result<u64, ContextError>
+        ensures { MakesContext level.0 parent self.old self.new result }
+    {
+        self.contexts.create(level, parent)
+    }
+
+    /// Ends a context of a level and a parent. Takes no memory.
+    ///
+    /// # Errors
+    ///
+    /// `Unknown` where `has_context` tells that it isn't there. Nothing has changed then.
+    pub fn end_context(
+        &mut self,
+        level: Level,
+        parent: u32,
+        number: u64,
+    ) -> Result<(), ContextError>
+        ensures answer { result ≡ ended (has_context self.old.contexts level.0 parent number) }
+        ensures world { self.new ≡ without_context (has_context self.old.contexts level.0 parent number) level.0 number self.old }
+    {
+        self.contexts.destroy(level, parent, number)
     }
 }

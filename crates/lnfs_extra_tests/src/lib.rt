@@ -9,6 +9,7 @@ ghost use Rattle.lnfs_policy.specs.Policy.{Policy, dominance};
 ghost use Rattle.lnfs_step.specs.Journal.{reply_with, answer_with};
 ghost use Rattle.lnfs_hold.specs.Hold.{holds};
 
+use lnfs_gss3::Mechanism;
 use lnfs_operations::ExtraRows;
 use lnfs_step::purge;
 
@@ -28,11 +29,11 @@ impl ExtraRows for Holds {
     ghost lawful = { holds_are_lawful };
 }
 
-/// With HOLD beside the table, each reply is the one that its requester would get with every event
-/// outside its dominance purged from the journal.
-pub fn hold_is_purged()
+/// With HOLD beside the table, and under any mechanism of signatures, each reply is the one that its
+/// requester would get with every event outside its dominance purged from the journal.
+pub fn hold_is_purged<M: Mechanism>()
     ensures { (p : Policy) → IsPreorderWithBottom (dominance p) → (journal : List Event) (event : Event) →
-        reply_with holds p journal event ≡ answer_with holds p journal event }
+        reply_with holds M.signing p journal event ≡ answer_with holds M.signing p journal event }
 {
-    purge::<Holds>();
+    purge::<Holds, M>();
 }

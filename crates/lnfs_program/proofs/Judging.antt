@@ -9,6 +9,7 @@ use Rattle.lnfs_policy.specs.Policy.{Policy}
 use Rattle.lnfs_policy.specs.PolicyText.{Refused, policy_of, IsRefusal}
 use Rattle.lnfs_policy.specs.declared.cause.PolicyError.{PolicyError}
 use Rattle.lnfs_policy.specs.declared.cause.PolicyError.TheVariants as error
+use Rattle.lnfs_gss3.specs.Mechanism.{Signing}
 use Rattle.lnfs_step.specs.Journal.{answer, audit_at}
 use Rattle.lnfs_program.specs.declared.status.Status.{Status}
 use Rattle.lnfs_program.specs.declared.status.Status.TheVariants as statuses
@@ -65,19 +66,19 @@ module _ {result : Result Status Stop} {s : Streams} where
   ] told)
 
 -- a recording that doesn't begin as one, and one that is damaged behind its events
-pub plays_none : (policy : Policy) (traffic : List ℕ) {s : Streams} → begins traffic ≡ false → Plays (replayed policy traffic) (Ok (statuses.TrafficDamaged 0)) s s
+pub plays_none : (m : Signing) (policy : Policy) (traffic : List ℕ) {s : Streams} → begins traffic ≡ false → Plays (replayed m policy traffic) (Ok (statuses.TrafficDamaged 0)) s s
 unfolding writes_after
-plays_none policy traffic {s} e = rw e (record { does = record { begun = front_none s []; done = takes_none s }; ending = refl })
+plays_none m policy traffic {s} e = rw e (record { does = record { begun = front_none s []; done = takes_none s }; ending = refl })
 
-module _ (policy : Policy) (traffic : List ℕ) {s t : Streams} {body : List ℕ} {left : ℕ} (b : begins traffic ≡ true) (is_body : body ≡ drop 8 traffic) (p : Takes s t (writes_after (answer policy) (audit_at policy) [] (parts_of body).events)) (e : left ≡ length (parts_of body).rest) where
-  plays_ending : (ending : Status) → told_by ending ≡ Some (cond (nat_eq (length (parts_of body).rest) 0) statuses.Ok (statuses.TrafficDamaged (length traffic - length (parts_of body).rest))) → Plays (replayed policy traffic) (Ok ending) s t
+module _ (m : Signing) (policy : Policy) (traffic : List ℕ) {s t : Streams} {body : List ℕ} {left : ℕ} (b : begins traffic ≡ true) (is_body : body ≡ drop 8 traffic) (p : Takes s t (writes_after (answer m policy) (audit_at m policy) [] (parts_of body).events)) (e : left ≡ length (parts_of body).rest) where
+  plays_ending : (ending : Status) → told_by ending ≡ Some (cond (nat_eq (length (parts_of body).rest) 0) statuses.Ok (statuses.TrafficDamaged (length traffic - length (parts_of body).rest))) → Plays (replayed m policy traffic) (Ok ending) s t
   plays_ending ending n = rw (b, ← is_body) (record { does = record { begun = front_whole_of p; done = p }; ending = n })
 
-  pub plays_damaged : nat_eq left 0 ≡ false → Plays (replayed policy traffic) (Ok (statuses.TrafficDamaged (length traffic - left))) s t
-  plays_damaged n = let m = rw e at n in plays_ending (statuses.TrafficDamaged (length traffic - left)) (rw (e, m) refl)
+  pub plays_damaged : nat_eq left 0 ≡ false → Plays (replayed m policy traffic) (Ok (statuses.TrafficDamaged (length traffic - left))) s t
+  plays_damaged n = let left_is = rw e at n in plays_ending (statuses.TrafficDamaged (length traffic - left)) (rw (e, left_is) refl)
 
-  pub plays_all : nat_eq left 0 ≡ true → Plays (replayed policy traffic) (Ok statuses.Ok) s t
-  plays_all n = let m = rw e at n in plays_ending statuses.Ok (rw m refl)
+  pub plays_all : nat_eq left 0 ≡ true → Plays (replayed m policy traffic) (Ok statuses.Ok) s t
+  plays_all n = let left_is = rw e at n in plays_ending statuses.Ok (rw left_is refl)
 
 -- whatever the files hold
 judges_with : (told : Told) (form : Option Form) {result : Result Status Stop} {s t : Streams} → ((policy file : Option (List ℕ)) → Plays (due form policy file) result s t) → Judges told form result s t

@@ -5,6 +5,7 @@ use Rattle.std.specs.declared.option.Option.TheVariants.{Some, None}
 use Rattle.lnfs_outside.specs.declared.event.Event.{Event}
 use Rattle.lnfs_policy.specs.Policy.{Policy}
 use Rattle.lnfs_step.specs.Step.{Line}
+use Rattle.lnfs_gss3.specs.Mechanism.{Signing}
 use Rattle.lnfs_step.specs.Journal.{line_at, line_text, text_of, audit_at}
 use Rattle.lnfs_vault.specs.Lines.{line_in, IsLineOf}
 use Rattle.lnfs_vault.specs.declared.audit.AuditLine.{AuditLine}
@@ -14,6 +15,6 @@ line_is : (event : ℕ) (line : Option Line) (l : Option AuditLine) → IsLineOf
 line_is event line None is = sym (ap (text_of event) is)
 line_is event line (Some l) is = ap (λ (n : ℕ). Some (line_text n (line_in l))) is.1 ∙ sym (ap (text_of event) is.0)
 
-pub audit_is_line : (p : Policy) (journal : List Event) (event : Event) (l : Option AuditLine) → IsLineOf (length journal + 1) (line_at p journal event) l → text_in l ≡ audit_at p journal event
+pub audit_is_line : (m : Signing) (p : Policy) (journal : List Event) (event : Event) (l : Option AuditLine) → IsLineOf (length journal + 1) (line_at m p journal event) l → text_in l ≡ audit_at m p journal event
 unfolding audit_at
-audit_is_line p journal event l is = line_is (length journal + 1) (line_at p journal event) l is
+audit_is_line m p journal event l is = line_is (length journal + 1) (line_at m p journal event) l is

@@ -15,6 +15,7 @@ use Rattle.lnfs_program.specs.declared.status.Status.{Status}
 use Rattle.lnfs_program.specs.declared.status.Status.TheVariants as statuses
 use Rattle.lnfs_program.specs.declared.status.Stop.{Stop}
 use Rattle.lnfs_program.specs.Ending.{told_by}
+use Rattle.lnfs_gss3.specs.Mechanism.{keyed_digest}
 use Rattle.lnfs_program.specs.Due.{due_under, enforced, given, shown, spelled, no_translation, replayed}
 use Rattle.lnfs_program.specs.Runs.{Holds, Plays, Performs, held}
 use Rattle.lnfs_program.specs.Streams.{Streams}
@@ -45,11 +46,11 @@ module _ (told : Told) (policy : Policy) {result : Result Status Stop} {s : Stre
       plays = told_only (due_under policy (replay name) (held found)) (statuses.NoFile name) (rw (e, n) refl) h;
     }
 
-    pub performs_replay : {t : Streams} (bytes : Vec ℕ) → found ≡ Some bytes → {read : List ℕ} → read ≡ bytes.items → Plays (replayed policy read) result s t → Performs told policy (replay name) result s t
+    pub performs_replay : {t : Streams} (bytes : Vec ℕ) → found ≡ Some bytes → {read : List ℕ} → read ≡ bytes.items → Plays (replayed keyed_digest policy read) result s t → Performs told policy (replay name) result s t
     performs_replay {t} bytes n {read} same plays = record {
       file = held found;
       file_held = held_found;
-      plays = subst (λ d. Plays d result s t) (sym (ap (λ m. enforced m (given (held found) name (replayed policy))) e ∙ rw n (ap (replayed policy) (sym same)))) plays;
+      plays = subst (λ d. Plays d result s t) (sym (ap (λ m. enforced m (given (held found) name (replayed keyed_digest policy))) e ∙ rw n (ap (replayed keyed_digest policy) (sym same)))) plays;
     }
 
 -- no status tells want of memory

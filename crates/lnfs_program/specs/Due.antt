@@ -10,6 +10,7 @@ use Rattle.hex.specs.Hex.{encode_lower}
 use Rattle.lnfs_map.specs.Translated.{translated}
 use Rattle.lnfs_map.specs.declared.table.MapError.{MapError}
 use Rattle.lnfs_map.specs.declared.table.MapError.TheVariants as error
+use Rattle.lnfs_gss3.specs.Mechanism.{Signing, keyed_digest}
 use Rattle.lnfs_step.specs.Journal.{answer, audit_at}
 use Rattle.lnfs_program.specs.declared.status.Status.{Status}
 use Rattle.lnfs_program.specs.declared.status.Status.TheVariants as status
@@ -32,10 +33,10 @@ only ending = record { writes = []; ending = ending }
 abbrev pub shown : List ℕ → Due
 shown text = record { writes = to_out text ∷ []; ending = status.Ok }
 
--- the replies and lines of the events, up to the end or up to the damage
-abbrev pub replayed : Policy → List ℕ → Due
-replayed policy traffic = record {
-  writes = writes_after (answer policy) (audit_at policy) [] (recorded traffic);
+-- under a meaning of signatures, the replies and lines of the events, up to the end or up to the damage
+abbrev pub replayed : Signing → Policy → List ℕ → Due
+replayed m policy traffic = record {
+  writes = writes_after (answer m policy) (audit_at m policy) [] (recorded traffic);
   ending = cond (is_recording traffic) status.Ok (status.TrafficDamaged (place_of traffic));
 }
 
@@ -69,7 +70,7 @@ spelled (Err error) = only (no_translation error)
 -- a task under a policy
 abbrev pub due_under : Policy → Task → Option (List ℕ) → Due
 due_under policy check file = shown policy.text
-due_under policy (replay traffic) file = enforced policy.mode (given file traffic (replayed policy))
+due_under policy (replay traffic) file = enforced policy.mode (given file traffic (replayed keyed_digest policy))
 due_under policy (translate source target bytes) file = spelled (translated policy.formats policy.labels source target bytes)
 
 unfoldable pub due : Option Form → Option (List ℕ) → Option (List ℕ) → Due

@@ -5,13 +5,23 @@
 #![tactic(auto)]
 
 #[cfg(test)]
+mod asserting_tests;
+#[cfg(test)]
 mod changing_tests;
+#[cfg(test)]
+mod context_session_tests;
+#[cfg(test)]
+mod context_tests;
 #[cfg(test)]
 mod file_quota_tests;
 #[cfg(test)]
 mod file_session_tests;
 #[cfg(test)]
 mod file_tests;
+#[cfg(test)]
+mod keyed_tests;
+#[cfg(test)]
+mod label_tests;
 mod laws;
 #[cfg(test)]
 mod policy_tests;

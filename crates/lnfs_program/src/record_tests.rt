@@ -17,7 +17,8 @@ NULL | 1 0 2 100003 4 0 SYS | ACCEPTED 0
 NULL with an argument | 1 0 2 100003 4 0 SYS 0 | ACCEPTED 4 | 1 0 0 P 4
 a reply | ACCEPTED 0 |
 seven bytes | 0x00000000000000 |
-a flavor that isn't served | CALL 6 0 0 0 0 2 1 | DENIED 5 | 1 0 0 C 5
+a flavor that isn't served | CALL 2 0 0 0 0 2 1 | DENIED 5 | 1 0 0 C 5
+RPCSEC_GSS without a credential | CALL 6 0 0 0 0 2 1 | DENIED 13 | 1 0 0 C 13
 a credential of 401 bytes | CALL 1 401 0 0 0 2 1 | DENIED 1 | 1 0 0 C 1
 an AUTH_SYS body that ends early | CALL 1 4 0 0 0 0 2 0 | DENIED 1 | 1 0 0 C 1
 a caller by AUTH_NONE | CALL 0 0 0 0 0 2 0 | ACCEPTED 0 0 0 0
@@ -69,13 +70,23 @@ fn due_of(alloc: Global, status: u8, cells: &[&str]) -> Result<Option<Due>, Allo
     Ok(Some(Due { status, out, lines }))
 }
 
-/// Plays what a row has recorded.
-pub fn check_row(rt: &impl Abort, alloc: Global, row: &str) -> Result<(), AllocError> {
+/// The name of a row, what it has recorded, and what is due.
+pub fn read_row<'a>(
+    rt: &impl Abort,
+    alloc: Global,
+    row: &'a str,
+) -> Result<(&'a str, Vec<u8>, Due), AllocError> {
     let cells = cells_of(alloc, row)?;
     assert!(rt; cells.len() >= 3, "cells of {row}");
     let due = due_of(alloc, 0, &cells[2..])?.expect(rt, row);
     let traffic = recording_of(alloc, cells[1])?.expect(rt, row);
-    gives(rt, cells[0], &run_over(alloc, &traffic)?, &due);
+    Ok((cells[0], traffic, due))
+}
+
+/// Plays what a row has recorded.
+pub fn check_row(rt: &impl Abort, alloc: Global, row: &str) -> Result<(), AllocError> {
+    let (name, traffic, due) = read_row(rt, alloc, row)?;
+    gives(rt, name, &run_over(alloc, &traffic)?, &due);
     Ok(())
 }
 
@@ -91,7 +102,7 @@ pub fn check(rt: &impl Abort, alloc: Global, table: &str, count: usize) -> Resul
 
 #[test]
 fn records(rt: HostRuntime) -> Result<(), AllocError> {
-    check(&rt, rt.alloc(), CALLS, 13)?;
+    check(&rt, rt.alloc(), CALLS, 14)?;
     check(&rt, rt.alloc(), COMPOUNDS, 11)?;
     check(&rt, rt.alloc(), HIGH_AND_LOW, 1)
 }

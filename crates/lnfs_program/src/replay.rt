@@ -12,6 +12,7 @@ ghost use Rattle.lnfs_program.specs.Writes.{Does, answer_writes, writes_after};
 use crate::status::{Status, Stop};
 use crate::streams::{frame, put, put_line};
 use lnfs_format::Codecs;
+use lnfs_gss3::Mechanism;
 use lnfs_outside::{Event, Sink};
 use lnfs_policy::Policy;
 use lnfs_traffic::{BEGINNING, next_event};
@@ -29,19 +30,20 @@ fn text_of(alloc: Global, line: &Option<AuditLine>) -> Result<Vec<u8>, AllocErro
 }
 
 /// Serves one event: hands over its reply's frame, and then its line.
-fn serve_event<K: Sink, A: Sink>(
+fn serve_event<M: Mechanism + Drop, K: Sink, A: Sink>(
     alloc: Global,
-    vault: &mut Vault,
+    codecs: &Codecs,
+    vault: &mut Vault<M>,
     event: Event,
     out: &mut K,
     audit: &mut A,
 ) -> Result<(), Stop>
     requires fits { Fits event }
-    ensures does { Does result (streams (K.taken out.old) (A.taken audit.old)) (streams (K.taken out.new) (A.taken audit.new)) (answer_writes (answer vault.old.policy vault.old.journal event) (audit_at vault.old.policy vault.old.journal event)) }
+    ensures does { Does result (streams (K.taken out.old) (A.taken audit.old)) (streams (K.taken out.new) (A.taken audit.new)) (answer_writes (answer M.signing vault.old.policy vault.old.journal event) (audit_at M.signing vault.old.policy vault.old.journal event)) }
     ensures state { OnOk result (vault.new ≡ record vault.old { journal = vault.old.journal ++ event ∷ [] }) }
     ensures cause { WritesOnly result (counts (K.write_faults out.old) (A.write_faults audit.old)) (counts (K.write_faults out.new) (A.write_faults audit.new)) }
 {
-    let served = vault.serve(event)?;
+    let served = vault.serve(codecs, event)?;
     let bytes = frame(alloc, &served.reply)?;
     let line = text_of(alloc, &served.line)?;
     put(out, &bytes)?;
@@ -50,43 +52,45 @@ fn serve_event<K: Sink, A: Sink>(
 
 /// Serves the whole events at the front of the bytes, in a new server, and says how many bytes are
 /// left behind them.
-fn serve_events<K: Sink, A: Sink>(
+fn serve_events<M: Mechanism + Drop, K: Sink, A: Sink>(
     alloc: Global,
     codecs: &Codecs,
+    mechanism: M,
     policy: Policy,
     bytes: &[u8],
     out: &mut K,
     audit: &mut A,
 ) -> Result<usize, Stop>
-    ensures does { Does result (streams (K.taken out.old) (A.taken audit.old)) (streams (K.taken out.new) (A.taken audit.new)) (writes_after (answer policy) (audit_at policy) [] (parts_of bytes.now).events) }
+    ensures does { Does result (streams (K.taken out.old) (A.taken audit.old)) (streams (K.taken out.new) (A.taken audit.new)) (writes_after (answer M.signing policy) (audit_at M.signing policy) [] (parts_of bytes.now).events) }
     ensures left { IfOk result (λ left. (left ≡ length (parts_of bytes.now).rest) × (left ≤ length bytes.now)) }
     ensures cause { WritesOnly result (counts (K.write_faults out.old) (A.write_faults audit.old)) (counts (K.write_faults out.new) (A.write_faults audit.new)) }
 {
-    let mut vault = Vault::new(alloc, policy, codecs)?;
+    let mut vault = Vault::new(alloc, policy, codecs, mechanism)?;
     let mut rest = bytes;
     while let Some((event, others)) = next_event(alloc, rest)? {
-        serve_event(alloc, &mut vault, event, out, audit)?;
+        serve_event(alloc, codecs, &mut vault, event, out, audit)?;
         rest = others;
     }
     Ok(rest.len())
 }
 
-/// Replays a recording in a new server.
-pub fn replay<K: Sink, A: Sink>(
+/// Replays a recording in a new server, whose callers sign by a mechanism.
+pub fn replay<M: Mechanism + Drop, K: Sink, A: Sink>(
     alloc: Global,
     codecs: &Codecs,
+    mechanism: M,
     policy: Policy,
     traffic: &[u8],
     out: &mut K,
     audit: &mut A,
 ) -> Result<Status, Stop>
-    ensures plays { Plays (replayed policy traffic.now) result (streams (K.taken out.old) (A.taken audit.old)) (streams (K.taken out.new) (A.taken audit.new)) }
+    ensures plays { Plays (replayed M.signing policy traffic.now) result (streams (K.taken out.old) (A.taken audit.old)) (streams (K.taken out.new) (A.taken audit.new)) }
     ensures cause { WritesOnly result (counts (K.write_faults out.old) (A.write_faults audit.old)) (counts (K.write_faults out.new) (A.write_faults audit.new)) }
 {
     let Some(body) = traffic.strip_prefix(BEGINNING) else {
         return Ok(Status::TrafficDamaged { at: 0 });
     };
-    let left = serve_events(alloc, codecs, policy, body, out, audit)?;
+    let left = serve_events(alloc, codecs, mechanism, policy, body, out, audit)?;
     if left == 0 {
         Ok(Status::Ok)
     } else {

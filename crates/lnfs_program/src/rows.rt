@@ -31,6 +31,17 @@ use std::alloc::{AllocError, Global};
 /// MADE_F is the result of MAKE_F in the root, and WROTE_6 that of SIX. Of a result of OPEN, KEPT is what stands after the
 /// state id where the root has the change number 2 and nothing is set, and HELD where no name was claimed. CLOSED is
 /// the state id that CLOSE tells, and LABELLED the bitmap of a label.
+///
+/// Of RPCSEC_GSS version 3 (RFC 2203 section 5 and RFC 7861 section 2, in this project's own layout), NULL is a call of
+/// that procedure up to its credential, and BY_7 the credential of a CREATE under parent 7, of the sequence number 9. What
+/// follows is signed by parent 7 so that it can be told by hand: VERF and CHECKSUM are a verifier and a checksum up to the
+/// length of what they cover, and ZEROS stands behind that. CREATE_7 is the whole CREATE up to its arguments, and ARGS_3
+/// are those that assert level 3; ASSERT is an assertion up to its format, and with a number behind it the whole one of a
+/// level, as it stands in arguments and results. DATA and DESTROY, of the sequence numbers 10 and 11, go up to the handle
+/// of a context, of four words; DATA_1 and DESTROY_1 are those in the first context of level 3, up to the arguments; BODY
+/// is EXCHANGE for the owner `c1` as the signed arguments of a DATA. SIGNED_56 and SIGNED_68 are replies up to their
+/// accept_stat, to a CREATE and to the others, whose bytes from the xid through the credential are as many; KEYED_56 and
+/// KEYED_68 are those to CREATE_7 and DATA_1 where they are signed by digests under a secret of 32 bytes of 1.
 const PARTS: &str = "
 CALL 1 0 2 100003 4 1
 CALL_2 2 0 2 100003 4 1
@@ -90,6 +101,25 @@ LABEL_0 3 0 0 65536 20 101 1 6 0x000000010000 0x0000
 LABEL_1 3 0 0 65536 24 101 1 10 0x00000001010180000000 0x0000
 LABEL_2 3 0 0 65536 24 101 1 10 0x00000001010140000000 0x0000
 LABEL_3 3 0 0 65536 24 101 1 10 0x000000010103e4000000 0x0000
+NULL 1 0 2 100003 4 0
+BY_7 6 24 3 5 9 2 4 7
+VERF 6 32 7
+CHECKSUM 32 7
+ZEROS 0 0 0 0 0 0
+CREATE_7 1 0 2 100003 4 0 6 24 3 5 9 2 4 7 6 32 7 56 0 0 0 0 0 0
+ARGS_3 44 9 0 0 1 0 101 1 10 0x000000010103e4000000 0x0000 32 7 44 0 0 0 0 0 0
+ASSERT 0 0 1 0
+ASSERT_0 0 0 1 0 101 1 6 0x000000010000 0x0000
+ASSERT_3 0 0 1 0 101 1 10 0x000000010103e4000000 0x0000
+DATA 1 0 2 100003 4 1 6 36 3 0 10 2 16
+DATA_1 1 0 2 100003 4 1 6 36 3 0 10 2 16 7 3 0 1 6 32 7 68 0 0 0 0 0 0
+BODY 48 10 0 2 1 42 0 0 2 'c1' 0x0000 0 0 0 32 7 48 0 0 0 0 0 0
+DESTROY 1 0 2 100003 4 0 6 36 3 3 11 0 16
+DESTROY_1 1 0 2 100003 4 0 6 36 3 3 11 0 16 7 3 0 1 6 32 7 68 0 0 0 0 0 0
+SIGNED_56 1 1 0 6 32 7 56 0 0 0 0 0 0
+SIGNED_68 1 1 0 6 32 7 68 0 0 0 0 0 0
+KEYED_56 1 1 0 6 32 0x7f352d68779129ed6129bfe2bafd4473cc5d63d145cde50dec1203f14c50c394
+KEYED_68 1 1 0 6 32 0x77c9dd59888cf19802177cd27ca6184e8766a68d313d2dd328fb294d4fc71bb0
 ";
 
 /// What is due of a run: its status, and what the two streams get.

@@ -12,6 +12,7 @@ use crate::status::{Status, Stop};
 use crate::streams::read_file;
 use crate::texts::{check, translate};
 use lnfs_format::Codecs;
+use lnfs_gss3::KeyedDigest;
 use lnfs_lists::Text;
 use lnfs_map::Pair;
 use lnfs_outside::{Files, Sink};
@@ -72,7 +73,7 @@ fn replay_file<F: Files, K: Sink, A: Sink>(
     let Some(bytes) = read_file(alloc, files, traffic)? else {
         return no_file(alloc, traffic);
     };
-    replay(alloc, codecs, policy, &bytes, out, audit)
+    replay(alloc, codecs, KeyedDigest, policy, &bytes, out, audit)
 }
 
 /// Does a task under a policy that was read.

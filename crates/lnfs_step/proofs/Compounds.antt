@@ -31,23 +31,23 @@ opaque_short max bytes x e =
     omega (arith, length-take a.0.0 a.0.1, ap length cut)
 
 -- whatever a format reads has the property
-record Gives {E A : Type 0} (f : Format E A) (P : A → Type 0) : Type 0 where
-  is : (bytes : List ℕ) (x : A × List ℕ) → read f bytes ≡ Ok x → P x.0
+pub record Gives {E A : Type 0} (f : Format E A) (P : A → Type 0) : Type 0 where
+  pub is : (bytes : List ℕ) (x : A × List ℕ) → read f bytes ≡ Ok x → P x.0
 
-gives_opaque : {E : Type 0} (max : ℕ) → Gives {E = E} (Opaque max) (λ v. length v ≤ max)
+pub gives_opaque : {E : Type 0} (max : ℕ) → Gives {E = E} (Opaque max) (λ v. length v ≤ max)
 gives_opaque max = record { is = λ bytes x e. opaque_short max bytes x (here_ok bytes (opaque_at max bytes) x e) }
 
-gives_done : {E A : Type 0} {P : A → Type 0} (y : A) → P y → Gives {E = E} (Done y) P
+pub gives_done : {E A : Type 0} {P : A → Type 0} (y : A) → P y → Gives {E = E} (Done y) P
 gives_done {P = P} y p = record { is = λ bytes x e. let same : (y, bytes) ≡ x = cc in subst (λ (q : _ × List ℕ). P q.0) same p }
 
-gives_then : {E A B : Type 0} {f : Format E A} {k : A → Format E B} {P : B → Type 0} (Q : A → Type 0) → Gives f Q → ((a : A) → Q a → Gives (k a) P) → Gives (Then f k) P
+pub gives_then : {E A B : Type 0} {f : Format E A} {k : A → Format E B} {P : B → Type 0} (Q : A → Type 0) → Gives f Q → ((a : A) → Q a → Gives (k a) P) → Gives (Then f k) P
 gives_then {f = f} {k = k} {P = P} Q first next = record {
   is = λ bytes x e.
       let a = after_ok (read f bytes) (λ a rest. read (k a) rest) x e in
       (next a.0.0 (first.is bytes a.0 a.1)).is a.0.1 x a.2;
 }
 
-gives_any : {E A : Type 0} (f : Format E A) → Gives f (λ x. Unit {0})
+pub gives_any : {E A : Type 0} (f : Format E A) → Gives f (λ x. Unit {0})
 gives_any f = record { is = λ bytes x e. tt }
 
 -- the tag is short, and no operation is there yet

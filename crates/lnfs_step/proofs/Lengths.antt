@@ -1,129 +1,118 @@
 -- The sizes of the worlds after journals, and the lengths of replies.
-use Rattle.std.proofs.Common.{◌≡◌, ◌≤◌, ◌+◌, ℕ, Bool, true, false, cond, List, [], ◌∷◌, ◌++◌, length, Option, Some, None, Ok, Err, refl, ap, ◌∙◌, arith, subst}
-use Rattle.std.specs.Prelude.{IfSome, ◌==◌, Result}
+use Rattle.std.proofs.Common.{◌≡◌, ◌≤◌, ℕ, List, [], ◌∷◌, length, Option, Some, None, sym, arith, subst}
+use Rattle.std.specs.Prelude.{IfSome}
+use Rattle.std.specs.List.{AllByRecursion}
 use Rattle.std.proofs.lemmas.List.{length-append}
-use Rattle.lnfs_xdr.specs.Canon.{word, padded, opaque}
+use Rattle.lnfs_calipso.specs.Label.{IsPreorderWithBottom}
 use Rattle.lnfs_lists.specs.declared.limits.TheConstants.{RECORD_LIMIT}
 use Rattle.lnfs_outside.specs.declared.event.Event.{Event}
-use Rattle.lnfs_policy.specs.Policy.{Policy, guest_level, dominance}
-use Rattle.lnfs_rpc.specs.declared.calls.CallError.{CallError}
-use Rattle.lnfs_rpc.specs.declared.calls.CallError.TheVariants.{NotACall, BadHeader, BadVersion, BadProgram}
-use Rattle.lnfs_rpc.specs.Calls.{CallMessage, call_of}
-use Rattle.lnfs_rpc.specs.Replies.{reply_text, head_text}
-use Rattle.lnfs_arguments.specs.declared.types.Compound.{Compound}
-use Rattle.lnfs_xdr.specs.Message.{parse}
-use Rattle.lnfs_arguments.specs.Whole.{compound}
-use Rattle.lnfs_arguments.specs.Further.{Further}
+use Rattle.lnfs_xdr.proofs.Sizes.{length-word, length-long, length-opaque}
+use Rattle.lnfs_format.specs.declared.formats.TheConstants.{MAX_SPELLING}
+use Rattle.lnfs_policy.specs.Policy.{Policy, dominance}
+use Rattle.lnfs_world.specs.World.{World}
 use Rattle.lnfs_world.specs.Outcome.{begins_at}
-use Rattle.lnfs_world.specs.Both.{Both}
+use Rattle.lnfs_world.specs.Lawful.{deed_of}
+use Rattle.lnfs_world.specs.Both.{Both, on_world}
 use Rattle.lnfs_operations.specs.Extra.{Extra, AreLawful}
-use Rattle.lnfs_step.specs.Request.{Cause, caller, called, version, Request, Silent, Refused, Nothing, Asked, null_call, asked_as, asked_by, asked_in, asked_of, user_of, request_with, plainly, head_of, results_for, results_in}
-use Rattle.lnfs_step.specs.declared.numbers.TheConstants.{SUCCESS, PROG_MISMATCH, NFS_VERSION}
-use Rattle.lnfs_step.specs.Step.{step_of, step_with, sent_of}
-use Rattle.lnfs_step.proofs.Compounds.{compound_read}
-use Rattle.lnfs_site.specs.Site.{site_of}
-use Rattle.lnfs_step.specs.Journal.{state_after, first_state, reply_with, state_from, Holds}
-use Rattle.lnfs_step.proofs.FirstSizes.{spells_shortly, first_sizes}
-use Rattle.lnfs_step.proofs.Steps.{begins, keeps, holds_after, first_holds}
-use Rattle.lnfs_operations.specs.Sizes.{IsRead, Sizes}
+use Rattle.lnfs_operations.specs.Sizes.{SessionFits, ClientFits, NodeFits, Sizes}
 use Rattle.lnfs_operations.specs.SlotRule.{served}
-use Rattle.lnfs_calipso.specs.Label.{IsPreorderWithBottom}
-use Rattle.lnfs_xdr.proofs.Sizes.{length-word}
 use Rattle.lnfs_operations.proofs.SizeLaws.{served_sizes, served_short}
+use Rattle.lnfs_gss3.specs.declared.handle.ContextHandle.{ContextHandle}
+use Rattle.lnfs_gss3.specs.declared.numbers.TheConstants.{RPCSEC_GSS_CTXPROBLEM}
+use Rattle.lnfs_gss3.specs.Mechanism.{Signing, IsSized}
+use Rattle.lnfs_gss3.specs.Grammar.{Assertion, handle_text, assertion_text, create_res_text}
+use Rattle.lnfs_site.specs.Site.{site_of}
+use Rattle.lnfs_step.specs.declared.numbers.TheConstants.{SYSTEM_ERR, GARBAGE_ARGS}
+use Rattle.lnfs_step.specs.Wrapping.{Plain, caller, called}
+use Rattle.lnfs_step.specs.Request.{Call, Task, Garbled, Run, MakeContext, EndContext, Request, Silent, Refused, Nothing, Asked, request_with}
+use Rattle.lnfs_step.specs.Contexts.{is_there, make_context}
+use Rattle.lnfs_step.specs.Step.{Step, granted, made, done_for, step_of, step_with, sent_of}
+use Rattle.lnfs_step.specs.Journal.{state_after, first_state, reply_with, state_from, Holds}
+use Rattle.lnfs_step.proofs.ContextLaws.{Beside}
+use Rattle.lnfs_step.proofs.FirstSizes.{spells_shortly, first_sizes}
+use Rattle.lnfs_step.proofs.Requests.{IsTask, Reads, request_reads}
+use Rattle.lnfs_step.proofs.Steps.{chosen_any, begins, keeps, holds_after, first_holds, made_beside, ended_beside}
+use Rattle.lnfs_step.proofs.Wrappings.{padding_few, answer_length, bare_length, refusal_length}
 
-empty_length : length (opaque []) ≡ 4
-unfolding opaque padded
-empty_length = length-append (word 0) [] ∙ ap (λ n. n + 0) (length-word 0)
+-- ---- what is granted
 
-results_if : (b : Bool) → length (cond b (word NFS_VERSION ++ word NFS_VERSION) []) ≤ 8
-results_if true = simp (length-append, length-word) (omega arith)
-results_if false = omega arith
+handle_length : (h : ContextHandle) → length (handle_text h) ≡ 16
+unfolding handle_text
+handle_length h = simp (length-append, length-word, length-long) (omega arith)
 
-results_short : (stat : ℕ) → length (results_for stat) ≤ 8
-results_short stat = results_if (stat == PROG_MISMATCH)
+assertion_length : (a : Assertion) → length a.label ≤ MAX_SPELLING → length (assertion_text a) ≤ 1044
+unfolding assertion_text
+assertion_length a short = simp (length-append, length-word) (omega (arith, length-opaque a.label, padding_few (length a.label), short))
 
--- the head of a reply with the empty verifier has 24 bytes
-pub plain_length : (xid stat : ℕ) (results : List ℕ) → length (reply_text xid (plainly stat) results) ≤ 24 + length results
-unfolding reply_text head_text
-plain_length xid stat results = simp (length-append, length-word) (omega (arith, empty_length))
-
-refused_short : (xid : ℕ) (cause : Cause) → length (reply_text xid (head_of cause) (results_in cause)) ≤ RECORD_LIMIT
-unfolding reply_text head_text
-refused_short xid (caller stat) = simp (length-append, length-word) (omega arith)
-refused_short xid (called stat) = omega (arith, plain_length xid stat (results_for stat), results_short stat)
-refused_short xid version = simp (length-append, length-word) (omega arith)
-
--- a COMPOUND that is asked was read
-abbrev pub Reads : Request → Type 0
-Reads Silent = Unit {0}
-Reads (Refused level xid cause) = Unit {0}
-Reads (Nothing xid) = Unit {0}
-Reads (Asked level xid arguments c) = IsRead c
-
-reads_as : (level xid : ℕ) (args : List ℕ) (r : Result Compound (List ℕ)) (g : Further) → parse (compound g) args ≡ r → Reads (asked_as level xid args r)
-reads_as level xid args (Ok c) g e = compound_read g args c e
-reads_as level xid args (Err stuck) g e = tt
-
-reads_by : (g : Further) (o : Option ℕ) (xid : ℕ) (args : List ℕ) → Reads (asked_by g o xid args)
-reads_by g None xid args = tt
-reads_by g (Some level) xid args = reads_as level xid args (parse (compound g) args) g refl
-
-reads_null : (xid : ℕ) (bytes : List ℕ) → Reads (null_call xid bytes)
-reads_null xid [] = tt
-reads_null xid (b ∷ bytes) = tt
-
-reads_if : (b : Bool) (r t : Request) → Reads r → Reads t → Reads (cond b r t)
-reads_if true r t p q = p
-reads_if false r t p q = q
-
-reads_in : (g : Further) (p : Policy) (class : ℕ) (call : CallMessage) (user : Result (Option ℕ) Cause) → Reads (asked_in g p class call user)
-reads_in g p class call (Err cause) = tt
-reads_in g p class call (Ok user) = reads_if _ _ _ (reads_null call.xid call.arguments) (reads_by g (guest_level p class user) call.xid call.arguments)
-
-reads_of : (g : Further) (p : Policy) (class : ℕ) (call : Result CallMessage CallError) → Reads (asked_of g p class call)
-reads_of g p class (Err NotACall) = tt
-reads_of g p class (Err (BadHeader xid)) = tt
-reads_of g p class (Err (BadVersion xid)) = tt
-reads_of g p class (Err (BadProgram xid stat)) = tt
-reads_of g p class (Ok call) = reads_in g p class call (user_of call.credential)
-
-pub request_reads : (g : Further) (p : Policy) (class : ℕ) (bytes : List ℕ) → Reads (request_with g p class bytes)
-unfolding request_with
-request_reads g p class bytes = reads_of g p class (call_of bytes)
-
--- a COMPOUND that an event asks was read
-pub asked_read : (g : Further) (p : Policy) (event : Event) (level xid : ℕ) (arguments : List ℕ) (c : Compound) → request_with g p event.class event.message ≡ Asked level xid arguments c → IsRead c
-asked_read g p event level xid arguments c asked = subst Reads asked (request_reads g p event.class event.message)
+pub granted_length : (call : Call) (parent : ℕ) (a : Assertion) (number : ℕ) → length a.label ≤ MAX_SPELLING → length (granted call parent a number) ≤ 1100
+unfolding create_res_text
+granted_length call parent a number short =
+    let h : ContextHandle = record { parent = parent; level = record { 0 = call.level }; number = number } in
+    simp (length-append, length-word) (omega (arith, length-opaque (handle_text h), handle_length h, padding_few (length (handle_text h)), assertion_length a short))
 
 -- ---- journals
 
-module _ (X : Extra) (owed : AreLawful X) (p : Policy) (lattice : IsPreorderWithBottom (dominance p)) where
-  of_sizes : (event : Event) (r : Request) (b : Both X.Row) → Reads r → Holds X p b → Sizes b.world → Sizes (step_of X p b event r).state.world
+abbrev pub IsShort : Option (List ℕ) → Type 0
+IsShort reply = IfSome reply (λ text. length text ≤ RECORD_LIMIT)
+
+-- contexts have no sizes
+sizes_beside : (a b : World) → Beside a b → Sizes a → Sizes b
+sizes_beside a b beside sizes = record {
+  sessions = subst (AllByRecursion SessionFits) (sym beside.sessions) sizes.sessions;
+  clients = subst (AllByRecursion ClientFits) (sym beside.clients) sizes.clients;
+  nodes = subst (AllByRecursion NodeFits) (sym beside.nodes) sizes.nodes;
+}
+
+module _ (X : Extra) (owed : AreLawful X) (m : Signing) (p : Policy) (lattice : IsPreorderWithBottom (dominance p)) where
+  task_sizes : (event : Event) (call : Call) (task : Task) (b : Both X.Row) → IsTask task → Holds X p b → Sizes b.world → Sizes (done_for X m p b event call task).state.world
+  task_sizes event call Garbled b read holds sizes = sizes
+  task_sizes event call (Run arguments c) b read holds sizes = served_sizes X owed (site_of p) lattice (spells_shortly p) (sent_of event arguments c) c call.level event.moment b (begins X owed m p lattice call.level event.moment b holds) sizes read
+  task_sizes event call (MakeContext parent assertion) b read holds sizes = sizes_beside _ _ (made_beside X m p b event call parent assertion) sizes
+  task_sizes event call (EndContext number) b read holds sizes = sizes_beside _ _ (ended_beside X m p b event call number) sizes
+
+  of_sizes : (event : Event) (r : Request) (b : Both X.Row) → Reads r → Holds X p b → Sizes b.world → Sizes (step_of X m p b event r).state.world
   of_sizes event Silent b read holds sizes = sizes
-  of_sizes event (Refused level xid cause) b read holds sizes = sizes
+  of_sizes event (Refused xid w cause) b read holds sizes = sizes
   of_sizes event (Nothing xid) b read holds sizes = sizes
-  of_sizes event (Asked level xid arguments c) b read holds sizes = served_sizes X owed (site_of p) lattice (spells_shortly p) (sent_of event arguments c) c level event.moment b (begins X owed p lattice level event.moment b holds) sizes read
+  of_sizes event (Asked call task) b read holds sizes =
+      chosen_any (λ (s : Step (Both X.Row)). Sizes s.state.world) (is_there b.world.contexts call.level call.context) _ _ (task_sizes event call task b read holds sizes) sizes
 
-  of_short : (event : Event) (r : Request) (b : Both X.Row) → Reads r → Holds X p b → Sizes b.world → IfSome (step_of X p b event r).reply (λ reply. length reply ≤ RECORD_LIMIT)
-  of_short event Silent b read holds sizes = tt
-  of_short event (Refused level xid cause) b read holds sizes = refused_short xid cause
-  of_short event (Nothing xid) b read holds sizes = omega (arith, plain_length xid SUCCESS [])
-  of_short event (Asked level xid arguments c) b read holds sizes =
-      let t = served X (site_of p) (sent_of event arguments c) c (begins_at level event.moment) b in
-      omega (arith, plain_length xid SUCCESS t.answer.result, served_short X owed (site_of p) lattice (spells_shortly p) (sent_of event arguments c) c level event.moment b (begins X owed p lattice level event.moment b holds) sizes read)
-
-  step_sizes : (event : Event) (b : Both X.Row) → Holds X p b → Sizes b.world → Sizes (step_with X p b event).state.world
+  step_sizes : (event : Event) (b : Both X.Row) → Holds X p b → Sizes b.world → Sizes (step_with X m p b event).state.world
   unfolding step_with
-  step_sizes event b holds sizes = of_sizes event (request_with X.grammar p event.class event.message) b (request_reads X.grammar p event.class event.message) holds sizes
+  step_sizes event b holds sizes = of_sizes event (request_with X.grammar m p event.class event.message) b (request_reads X.grammar m p event.class event.message) holds sizes
 
-  from_sizes : (journal : List Event) (b : Both X.Row) → Holds X p b → Sizes b.world → Sizes (state_from X p b journal).world
+  from_sizes : (journal : List Event) (b : Both X.Row) → Holds X p b → Sizes b.world → Sizes (state_from X m p b journal).world
   unfolding state_from
   from_sizes [] b holds sizes = sizes
-  from_sizes (event ∷ journal) b holds sizes = from_sizes journal (step_with X p b event).state (keeps X owed p lattice event b holds) (step_sizes event b holds sizes)
+  from_sizes (event ∷ journal) b holds sizes = from_sizes journal (step_with X m p b event).state (keeps X owed m p lattice event b holds) (step_sizes event b holds sizes)
 
-  pub sizes_after : (journal : List Event) → Sizes (state_after X p journal).world
-  sizes_after journal = from_sizes journal (first_state X p) (first_holds X owed p lattice) (first_sizes p)
+  pub sizes_after : (journal : List Event) → Sizes (state_after X m p journal).world
+  sizes_after journal = from_sizes journal (first_state X p) (first_holds X owed m p lattice) (first_sizes p)
 
-  pub reply_short : (journal : List Event) (event : Event) → IfSome (reply_with X p journal event) (λ reply. length reply ≤ RECORD_LIMIT)
-  unfolding reply_with step_with
-  reply_short journal event = of_short event (request_with X.grammar p event.class event.message) (state_after X p journal) (request_reads X.grammar p event.class event.message) (holds_after X owed p lattice journal) (sizes_after journal)
+  -- ---- replies
+
+  module _ (sized : IsSized m) where
+    made_short : {S : Type 0} (call : Call) (parent : ℕ) (assertion : Assertion) (o : Option ℕ) (s : S) → length assertion.label ≤ MAX_SPELLING → IsShort (made m call parent assertion s o).reply
+    made_short call parent assertion None s short = refusal_length m sized call.wrapping call.xid (called SYSTEM_ERR)
+    made_short call parent assertion (Some number) s short = omega (arith, answer_length m sized call.wrapping call.xid (granted call parent assertion number), granted_length call parent assertion number short)
+
+    task_short : (event : Event) (call : Call) (task : Task) (b : Both X.Row) → IsTask task → Holds X p b → Sizes b.world → IsShort (done_for X m p b event call task).reply
+    task_short event call Garbled b read holds sizes = refusal_length m sized call.wrapping call.xid (called GARBAGE_ARGS)
+    task_short event call (Run arguments c) b read holds sizes =
+        let t = served X (site_of p) (sent_of event arguments c) c (begins_at call.level event.moment) b in
+        omega (arith, answer_length m sized call.wrapping call.xid t.answer.result, served_short X owed (site_of p) lattice (spells_shortly p) (sent_of event arguments c) c call.level event.moment b (begins X owed m p lattice call.level event.moment b holds) sizes read)
+    task_short event call (MakeContext parent assertion) b read holds sizes =
+        let t = on_world (deed_of (make_context parent)) (begins_at call.level event.moment) b in
+        made_short call parent assertion t.answer t.state read
+    task_short event call (EndContext number) b read holds sizes = bare_length m sized call.wrapping call.xid
+
+    of_short : (event : Event) (r : Request) (b : Both X.Row) → Reads r → Holds X p b → Sizes b.world → IsShort (step_of X m p b event r).reply
+    of_short event Silent b read holds sizes = tt
+    of_short event (Refused xid w cause) b read holds sizes = refusal_length m sized w xid cause
+    of_short event (Nothing xid) b read holds sizes = bare_length m sized Plain xid
+    of_short event (Asked call task) b read holds sizes =
+        chosen_any (λ (s : Step (Both X.Row)). IsShort s.reply) (is_there b.world.contexts call.level call.context) _ _ (task_short event call task b read holds sizes) (refusal_length m sized call.wrapping call.xid (caller RPCSEC_GSS_CTXPROBLEM))
+
+    pub reply_short : (journal : List Event) (event : Event) → IfSome (reply_with X m p journal event) (λ reply. length reply ≤ RECORD_LIMIT)
+    unfolding reply_with step_with
+    reply_short journal event = of_short event (request_with X.grammar m p event.class event.message) (state_after X m p journal) (request_reads X.grammar m p event.class event.message) (holds_after X owed m p lattice journal) (sizes_after journal)

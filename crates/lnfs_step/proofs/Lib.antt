@@ -1,8 +1,12 @@
-pub mod Requests
-pub mod Purging
 pub mod Compounds
+pub mod Callers
+pub mod Requests
+pub mod SignedCalls
+pub mod Purging
+pub mod ContextLaws
 pub mod Steps
 pub mod FirstSizes
+pub mod Wrappings
 pub mod Lengths
 pub mod Labels
 pub mod Slots

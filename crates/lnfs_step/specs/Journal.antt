@@ -7,6 +7,7 @@ use Rattle.lnfs_world.specs.World.{World}
 use Rattle.lnfs_world.specs.Facts.{Facts}
 use Rattle.lnfs_world.specs.Both.{Both, both, both_seen}
 use Rattle.lnfs_operations.specs.Extra.{Extra, no_extra}
+use Rattle.lnfs_gss3.specs.Mechanism.{Signing}
 use Rattle.lnfs_step.specs.Request.{level_of}
 use Rattle.lnfs_site.specs.Site.{first_world}
 use Rattle.lnfs_step.specs.Step.{Line, step_with}
@@ -27,55 +28,55 @@ abbrev pub first_state : (X : Extra) → Policy → Both X.Row
 first_state X p = both (first_world p) []
 
 -- events in order, from a state on
-unfoldable pub state_from : (X : Extra) → Policy → Both X.Row → List Event → Both X.Row
-state_from X p b [] = b
-state_from X p b (event ∷ journal) = state_from X p (step_with X p b event).state journal
+unfoldable pub state_from : (X : Extra) → Signing → Policy → Both X.Row → List Event → Both X.Row
+state_from X m p b [] = b
+state_from X m p b (event ∷ journal) = state_from X m p (step_with X m p b event).state journal
 
 -- the world and the further rows after a journal
-abbrev pub state_after : (X : Extra) → Policy → List Event → Both X.Row
-state_after X p journal = state_from X p (first_state X p) journal
+abbrev pub state_after : (X : Extra) → Signing → Policy → List Event → Both X.Row
+state_after X m p journal = state_from X m p (first_state X p) journal
 
 -- a level that dominates the event's, if it has one
 abbrev pub is_dominated : (ℕ → ℕ → Bool) → ℕ → Option ℕ → Bool
 is_dominated dom s None = false
 is_dominated dom s (Some level) = dom s level
 
-abbrev pub is_for : Policy → ℕ → Event → Bool
-is_for p s event = is_dominated (dominance p) s (level_of p event.class event.message)
+abbrev pub is_for : Signing → Policy → ℕ → Event → Bool
+is_for m p s event = is_dominated (dominance p) s (level_of m p event.class event.message)
 
 -- the events of the levels that s dominates
-unfoldable pub purged : Policy → List Event → ℕ → List Event
-purged p journal s = filter (is_for p s) journal
+unfoldable pub purged : Signing → Policy → List Event → ℕ → List Event
+purged m p journal s = filter (is_for m p s) journal
 
 -- the reply and the line that an event gets after a journal
-unfoldable pub reply_with : (X : Extra) → Policy → List Event → Event → Option (List ℕ)
-reply_with X p journal event = (step_with X p (state_after X p journal) event).reply
+unfoldable pub reply_with : (X : Extra) → Signing → Policy → List Event → Event → Option (List ℕ)
+reply_with X m p journal event = (step_with X m p (state_after X m p journal) event).reply
 
-unfoldable pub line_with : (X : Extra) → Policy → List Event → Event → Option Line
-line_with X p journal event = (step_with X p (state_after X p journal) event).line
+unfoldable pub line_with : (X : Extra) → Signing → Policy → List Event → Event → Option Line
+line_with X m p journal event = (step_with X m p (state_after X m p journal) event).line
 
-abbrev pub answer_to : (X : Extra) → Policy → List Event → Event → Option ℕ → Option (List ℕ)
-answer_to X p journal event None = reply_with X p [] event
-answer_to X p journal event (Some s) = reply_with X p (purged p journal s) event
+abbrev pub answer_to : (X : Extra) → Signing → Policy → List Event → Event → Option ℕ → Option (List ℕ)
+answer_to X m p journal event None = reply_with X m p [] event
+answer_to X m p journal event (Some s) = reply_with X m p (purged m p journal s) event
 
 -- The reply that the requester would get with every event outside its dominance purged. One without a
 -- level has the reply of the first world.
-unfoldable pub answer_with : (X : Extra) → Policy → List Event → Event → Option (List ℕ)
-answer_with X p journal event = answer_to X p journal event (level_of p event.class event.message)
+unfoldable pub answer_with : (X : Extra) → Signing → Policy → List Event → Event → Option (List ℕ)
+answer_with X m p journal event = answer_to X m p journal event (level_of m p event.class event.message)
 
 -- ---- with the operations of the table alone
 
 -- the world after a journal
-abbrev pub world_after : Policy → List Event → World
-world_after p journal = (state_after no_extra p journal).world
+abbrev pub world_after : Signing → Policy → List Event → World
+world_after m p journal = (state_after no_extra m p journal).world
 
-abbrev pub reply_at : Policy → List Event → Event → Option (List ℕ)
+abbrev pub reply_at : Signing → Policy → List Event → Event → Option (List ℕ)
 reply_at = reply_with no_extra
 
-abbrev pub line_at : Policy → List Event → Event → Option Line
+abbrev pub line_at : Signing → Policy → List Event → Event → Option Line
 line_at = line_with no_extra
 
-abbrev pub answer : Policy → List Event → Event → Option (List ℕ)
+abbrev pub answer : Signing → Policy → List Event → Event → Option (List ℕ)
 answer = answer_with no_extra
 
 abbrev pub line_text : ℕ → Line → List ℕ
@@ -86,5 +87,5 @@ text_of event None = None
 text_of event (Some line) = Some (line_text event line)
 
 -- the audit line of an event, with its place in the journal, from 1
-unfoldable pub audit_at : Policy → List Event → Event → Option (List ℕ)
-audit_at p journal event = text_of (length journal + 1) (line_at p journal event)
+unfoldable pub audit_at : Signing → Policy → List Event → Event → Option (List ℕ)
+audit_at m p journal event = text_of (length journal + 1) (line_at m p journal event)

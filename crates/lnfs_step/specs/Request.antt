@@ -1,118 +1,132 @@
 -- What a record asks, and of which level: a matter of its bytes, its class and the policy alone.
-use Rattle.std.specs.Prelude.{ℕ, ◌==◌, cond, List, [], ◌∷◌, ◌++◌, Option, Some, None, Result, Ok, Err}
-use Rattle.lnfs_xdr.specs.Canon.{word}
-use Rattle.lnfs_rpc.specs.declared.authsys.Sys.{Sys}
+use Rattle.std.specs.Prelude.{◌≡◌, ℕ, Bool, cond, List, [], ◌∷◌, Option, Some, None, Result, Ok, Err}
 use Rattle.lnfs_rpc.specs.declared.calls.CallError.{CallError}
 use Rattle.lnfs_rpc.specs.declared.calls.CallError.TheVariants.{NotACall, BadHeader, BadVersion, BadProgram}
-use Rattle.lnfs_rpc.specs.Calls.{OpaqueAuth, CallMessage, call_of}
-use Rattle.lnfs_rpc.specs.Sys.{sys_of}
-use Rattle.lnfs_rpc.specs.Replies.{ReplyHead, accepted, version_mismatch, auth_error}
+use Rattle.lnfs_rpc.specs.Calls.{CallMessage, call_of}
 use Rattle.lnfs_arguments.specs.declared.types.Compound.{Compound}
 use Rattle.lnfs_xdr.specs.Message.{parse}
 use Rattle.lnfs_arguments.specs.Whole.{compound}
 use Rattle.lnfs_arguments.specs.Further.{Further, nothing_further}
-use Rattle.lnfs_policy.specs.Policy.{Policy, guest_level}
-use Rattle.lnfs_step.specs.declared.numbers.TheConstants.{PROC_NULL, AUTH_NONE, AUTH_SYS, AUTH_BADCRED, AUTH_TOOWEAK, PROG_MISMATCH, GARBAGE_ARGS, NFS_VERSION}
+use Rattle.lnfs_policy.specs.declared.rows.Parent.{Parent}
+use Rattle.lnfs_policy.specs.Policy.{Policy, parent_at}
+use Rattle.lnfs_gss3.specs.declared.numbers.TheConstants.{AUTH_BADCRED}
+use Rattle.lnfs_gss3.specs.declared.caller.Caller.{Caller}
+use Rattle.lnfs_gss3.specs.declared.caller.Caller.TheVariants.{Null, Nobody, Garbage, Guest, Create, Data, Destroy}
+use Rattle.lnfs_gss3.specs.Mechanism.{Signing}
+use Rattle.lnfs_gss3.specs.Grammar.{Body, body, Assertion}
+use Rattle.lnfs_gss3.specs.Who.{who}
+use Rattle.lnfs_gss3.specs.Who as whose
+use Rattle.lnfs_step.specs.declared.numbers.TheConstants.{GARBAGE_ARGS}
+use Rattle.lnfs_step.specs.Wrapping.{Wrapping, Plain, Signed, Cause, caller, called, version}
 
--- what refuses a call as a whole
-pub data Cause : Type 0 where
-  -- who calls: the auth_stat
-  caller : (stat : ℕ) → Cause
-  -- what is called: the accept_stat
-  called : (stat : ℕ) → Cause
-  -- the version of RPC
-  version : Cause
+-- a context of the level of a call: its parent, and its number there
+pub record InContext : Type 0 where
+  pub parent : ℕ
+  pub number : ℕ
+
+-- a call of a level
+pub record Call : Type 0 where
+  pub level : ℕ
+  pub xid : ℕ
+  -- how its reply is wrapped
+  pub wrapping : Wrapping
+  -- the context that it comes in, which has to be there
+  pub context : Option InContext
+
+-- what a call of a level asks
+pub data Task : Type 0 where
+  -- nothing that can be read
+  Garbled : Task
+  -- a COMPOUND, with the bytes of its arguments
+  Run : (arguments : List ℕ) → Compound → Task
+  -- a context under a parent, for the label that is asserted
+  MakeContext : (parent : ℕ) → Assertion → Task
+  -- the end of a context of its level
+  EndContext : (number : ℕ) → Task
 
 pub data Request : Type 0 where
   -- no call: no reply is due
   Silent : Request
-  -- a call that is refused as a whole, with the level of its caller where it has one
-  Refused : (level : Option ℕ) (xid : ℕ) (cause : Cause) → Request
+  -- a call without a level, which is refused as a whole
+  Refused : (xid : ℕ) → Wrapping → Cause → Request
   -- NULL
   Nothing : (xid : ℕ) → Request
-  -- a COMPOUND of a level, with the bytes of its arguments
-  Asked : (level xid : ℕ) (arguments : List ℕ) → Compound → Request
+  Asked : Call → Task → Request
 
--- ---- the caller
+-- ---- how the reply is wrapped
 
--- A caller by AUTH_NONE has no user id, and one by AUTH_SYS that of its body.
-abbrev pub user_in : Result Sys ℕ → Result (Option ℕ) Cause
-user_in (Ok sys) = Ok (Some sys.uid)
-user_in (Err stat) = Err (caller stat)
+abbrev pub signed_under : Option Parent → (header : List ℕ) → (sequence : ℕ) → Wrapping
+signed_under None header sequence = Plain
+signed_under (Some parent) header sequence = Signed parent header sequence
 
-abbrev pub sys_or : {E : Type 0} → Result Sys E → Result Sys ℕ
-sys_or (Ok sys) = Ok sys
-sys_or (Err e) = Err AUTH_BADCRED
+-- under the parent of a number
+abbrev pub wrapping_of : Policy → CallMessage → (parent sequence : ℕ) → Wrapping
+wrapping_of p call parent sequence = signed_under (parent_at p parent) call.header sequence
 
-abbrev pub user_of : OpaqueAuth → Result (Option ℕ) Cause
-user_of credential =
-    cond (credential.flavor == AUTH_NONE) (Ok None) (
-    cond (credential.flavor == AUTH_SYS) (user_in (sys_or (sys_of credential.body)))
-    (Err (caller AUTH_TOOWEAK)))
+-- what is wrapped so is signed under the parent of a number, by the header of a call
+abbrev pub IsSignedUnder : Policy → (number : ℕ) → CallMessage → Wrapping → Type 0
+IsSignedUnder p number call w = (parent : Parent) × (sequence : ℕ) × (parent_at p number ≡ Some parent) × (w ≡ Signed parent call.header sequence)
 
--- ---- the call
+-- ---- what is asked
 
 abbrev pub null_call : (xid : ℕ) → List ℕ → Request
 null_call xid [] = Nothing xid
-null_call xid (b ∷ bytes) = Refused None xid (called GARBAGE_ARGS)
+null_call xid (b ∷ bytes) = Refused xid Plain (called GARBAGE_ARGS)
 
-abbrev pub asked_as : (level xid : ℕ) (arguments : List ℕ) → Result Compound (List ℕ) → Request
-asked_as level xid arguments (Ok c) = Asked level xid arguments c
-asked_as level xid arguments (Err stuck) = Refused (Some level) xid (called GARBAGE_ARGS)
+abbrev pub run_as : (arguments : List ℕ) → Result Compound (List ℕ) → Task
+run_as arguments (Ok c) = Run arguments c
+run_as arguments (Err stuck) = Garbled
+
+abbrev pub run_of : Further → (arguments : List ℕ) → Task
+run_of g arguments = run_as arguments (parse (compound g) arguments)
+
+abbrev pub run_in : Further → Option Body → Task
+run_in g None = Garbled
+run_in g (Some b) = run_of g b.content
+
+-- In a context the arguments proper stand in the signed body, behind the sequence number, which has to be the credential's.
+abbrev pub run_signed : Further → (aligned : Bool) → List ℕ → Task
+run_signed g aligned bytes = cond aligned (run_in g (body bytes)) Garbled
 
 -- The caller is judged before the arguments.
-abbrev pub asked_by : Further → Option ℕ → (xid : ℕ) → List ℕ → Request
-asked_by g None xid args = Refused None xid (caller AUTH_TOOWEAK)
-asked_by g (Some level) xid args = asked_as level xid args (parse (compound g) args)
-
-abbrev pub asked_in : Further → Policy → (class : ℕ) → CallMessage → Result (Option ℕ) Cause → Request
-asked_in g p class call (Err cause) = Refused None call.xid cause
-asked_in g p class call (Ok user) =
-    cond (call.procedure == PROC_NULL) (null_call call.xid call.arguments) (asked_by g (guest_level p class user) call.xid call.arguments)
+abbrev pub asked_by : Further → Policy → CallMessage → Caller → Request
+asked_by g p call Null = null_call call.xid call.arguments
+asked_by g p call (Nobody stat) = Refused call.xid Plain (caller stat)
+asked_by g p call (Garbage parent sequence) = Refused call.xid (wrapping_of p call parent sequence) (called GARBAGE_ARGS)
+asked_by g p call (Guest level) =
+    Asked (record { level = level.0; xid = call.xid; wrapping = Plain; context = None }) (run_of g call.arguments)
+asked_by g p call (Create level parent sequence lfs pi label) =
+    Asked (record { level = level.0; xid = call.xid; wrapping = wrapping_of p call parent sequence; context = None })
+    (MakeContext parent (record { lfs = lfs; pi = pi; label = label }))
+asked_by g p call (Data level parent number sequence aligned) =
+    Asked (record { level = level.0; xid = call.xid; wrapping = wrapping_of p call parent sequence; context = Some (record { parent = parent; number = number }) })
+    (run_signed g aligned call.arguments)
+-- no results are signed, so no sequence number is said
+asked_by g p call (Destroy level parent number) =
+    Asked (record { level = level.0; xid = call.xid; wrapping = wrapping_of p call parent 0; context = Some (record { parent = parent; number = number }) })
+    (EndContext number)
 
 -- ---- the record
 
-abbrev pub asked_of : Further → Policy → (class : ℕ) → Result CallMessage CallError → Request
-asked_of g p class (Err NotACall) = Silent
-asked_of g p class (Err (BadHeader xid)) = Refused None xid (caller AUTH_BADCRED)
-asked_of g p class (Err (BadVersion xid)) = Refused None xid version
-asked_of g p class (Err (BadProgram xid stat)) = Refused None xid (called stat)
-asked_of g p class (Ok call) = asked_in g p class call (user_of call.credential)
+abbrev pub asked_of : Further → Signing → Policy → (class : ℕ) → Result CallMessage CallError → Request
+asked_of g m p class (Err NotACall) = Silent
+asked_of g m p class (Err (BadHeader xid)) = Refused xid Plain (caller AUTH_BADCRED)
+asked_of g m p class (Err (BadVersion xid)) = Refused xid Plain version
+asked_of g m p class (Err (BadProgram xid stat)) = Refused xid Plain (called stat)
+asked_of g m p class (Ok call) = asked_by g p call (who m p class call)
 
 -- where further operations are read too
-unfoldable pub request_with : Further → Policy → (class : ℕ) → List ℕ → Request
-request_with g p class bytes = asked_of g p class (call_of bytes)
+unfoldable pub request_with : Further → Signing → Policy → (class : ℕ) → List ℕ → Request
+request_with g m p class bytes = asked_of g m p class (call_of bytes)
 
 -- with the operations of the table alone
-abbrev pub request_of : Policy → (class : ℕ) → List ℕ → Request
-request_of p class bytes = request_with nothing_further p class bytes
+abbrev pub request_of : Signing → Policy → (class : ℕ) → List ℕ → Request
+request_of m p class bytes = request_with nothing_further m p class bytes
 
-abbrev pub level_in : Request → Option ℕ
-level_in Silent = None
-level_in (Refused level xid cause) = level
-level_in (Nothing xid) = None
-level_in (Asked level xid arguments c) = Some level
+abbrev pub level_by : Signing → Policy → (class : ℕ) → Result CallMessage CallError → Option ℕ
+level_by m p class (Err e) = None
+level_by m p class (Ok call) = whose.level_of (who m p class call)
 
--- The level of an event, by its class and its record, whatever further operations are read.
-abbrev pub level_of : Policy → (class : ℕ) → List ℕ → Option ℕ
-level_of p class bytes = level_in (request_of p class bytes)
-
--- ---- how a refusal is answered
-
--- with the empty verifier
-abbrev pub plainly : ℕ → ReplyHead
-plainly stat = accepted (record { flavor = AUTH_NONE; body = [] }) stat
-
-abbrev pub head_of : Cause → ReplyHead
-head_of (caller stat) = auth_error stat
-head_of (called stat) = plainly stat
-head_of version = version_mismatch
-
--- behind PROG_MISMATCH the lowest and the highest version
-abbrev pub results_for : ℕ → List ℕ
-results_for stat = cond (stat == PROG_MISMATCH) (word NFS_VERSION ++ word NFS_VERSION) []
-
-abbrev pub results_in : Cause → List ℕ
-results_in (caller stat) = []
-results_in (called stat) = results_for stat
-results_in version = []
+-- The level of an event, by its class and its record: that of who calls.
+abbrev pub level_of : Signing → Policy → (class : ℕ) → List ℕ → Option ℕ
+level_of m p class bytes = level_by m p class (call_of bytes)

@@ -1,13 +1,12 @@
 -- The step that an event makes: the world and the rows of further operations afterwards, the reply if one is
 -- due, and the audit line if something was refused.
-use Rattle.std.specs.Prelude.{ℕ, List, [], length, Option, Some, None, codes, option_map}
+use Rattle.std.specs.Prelude.{ℕ, cond, List, length, Option, Some, None, codes, option_map}
 use Rattle.lnfs_outside.specs.declared.event.Event.{Event}
-use Rattle.lnfs_rpc.specs.Replies.{reply_text}
 use Rattle.lnfs_arguments.specs.declared.types.Compound.{Compound}
 use Rattle.lnfs_policy.specs.Policy.{Policy}
 use Rattle.lnfs_world.specs.Outcome.{begins_at}
-use Rattle.lnfs_world.specs.Lawful.{Turn}
-use Rattle.lnfs_world.specs.Both.{Both}
+use Rattle.lnfs_world.specs.Lawful.{Turn, deed_of}
+use Rattle.lnfs_world.specs.Both.{Both, on_world}
 use Rattle.lnfs_monitor.specs.declared.rule.Rule.{Rule}
 use Rattle.lnfs_monitor.specs.declared.rule.Rule.TheVariants as rules
 use Rattle.lnfs_operations.specs.declared.Gate.{Gate}
@@ -16,9 +15,14 @@ use Rattle.lnfs_operations.specs.Extra.{Extra}
 use Rattle.lnfs_operations.specs.Results.{Denial}
 use Rattle.lnfs_operations.specs.Sequence.{Sent}
 use Rattle.lnfs_operations.specs.SlotRule.{Answer, served}
-use Rattle.lnfs_step.specs.declared.numbers.TheConstants.{SUCCESS}
+use Rattle.lnfs_gss3.specs.declared.numbers.TheConstants.{RPCSEC_GSS_CTXPROBLEM}
+use Rattle.lnfs_gss3.specs.Mechanism.{Signing}
+use Rattle.lnfs_gss3.specs.Grammar.{Assertion, handle_text, create_res_text}
 use Rattle.lnfs_site.specs.Site.{site_of}
-use Rattle.lnfs_step.specs.Request.{Cause, caller, called, version, Request, Silent, Refused, Nothing, Asked, request_with, plainly, head_of, results_in}
+use Rattle.lnfs_step.specs.declared.numbers.TheConstants.{GARBAGE_ARGS, SYSTEM_ERR}
+use Rattle.lnfs_step.specs.Wrapping.{Wrapping, Plain, Cause, caller, called, version, answer_text, bare_text, refusal_text}
+use Rattle.lnfs_step.specs.Request.{Call, Task, Garbled, Run, MakeContext, EndContext, Request, Silent, Refused, Nothing, Asked, request_with}
+use Rattle.lnfs_step.specs.Contexts.{is_there, make_context, end_context}
 
 -- An audit line without its event's place: the operation's place in its COMPOUND, from 1, and its
 -- number, the gate that refused, and the status. A refusal of the call as a whole has place and
@@ -72,19 +76,60 @@ pub record Step (S : Type 0) : Type 0 where
 abbrev pub sent_of : Event → (arguments : List ℕ) → Compound → Sent
 sent_of event arguments c = record { arguments = arguments; size = length event.message; count = c.count }
 
-abbrev pub answered : {S : Type 0} → (xid : ℕ) → Turn Answer S → Step S
-answered xid t = record {
+-- ---- what is asked, and how it is answered
+
+-- a refusal leaves the state
+abbrev pub refused : {S : Type 0} → Signing → (xid : ℕ) → Wrapping → S → Cause → Step S
+refused m xid w b cause = record { state = b; reply = Some (refusal_text m w xid cause); line = Some (line_of_cause cause) }
+
+abbrev pub refused_to : {S : Type 0} → Signing → Call → S → Cause → Step S
+refused_to m call b cause = refused m call.xid call.wrapping b cause
+
+abbrev pub answered : {S : Type 0} → Signing → Call → Turn Answer S → Step S
+answered m call t = record {
   state = t.state;
-  reply = Some (reply_text xid (plainly SUCCESS) t.answer.result);
+  reply = Some (answer_text m call.wrapping call.xid t.answer.result);
   line = option_map line_of t.answer.denial;
 }
 
-abbrev pub step_of : (X : Extra) → Policy → Both X.Row → Event → Request → Step (Both X.Row)
-step_of X p b event Silent = record { state = b; reply = None; line = None }
-step_of X p b event (Refused level xid cause) = record { state = b; reply = Some (reply_text xid (head_of cause) (results_in cause)); line = Some (line_of_cause cause) }
-step_of X p b event (Nothing xid) = record { state = b; reply = Some (reply_text xid (plainly SUCCESS) []); line = None }
-step_of X p b event (Asked level xid arguments c) = answered xid (served X (site_of p) (sent_of event arguments c) c (begins_at level event.moment) b)
+-- the handle of a new context, and the assertion as it was sent
+abbrev pub granted : Call → (parent : ℕ) → Assertion → (number : ℕ) → List ℕ
+granted call parent assertion number = create_res_text (record {
+  handle = handle_text (record { parent = parent; level = record { 0 = call.level }; number = number });
+  assertion = assertion;
+})
+
+-- a context was made, or its level is full
+abbrev pub made : {S : Type 0} → Signing → Call → (parent : ℕ) → Assertion → S → Option ℕ → Step S
+made m call parent assertion b (Some number) = record {
+  state = b;
+  reply = Some (answer_text m call.wrapping call.xid (granted call parent assertion number));
+  line = None;
+}
+made m call parent assertion b None = refused_to m call b (called SYSTEM_ERR)
+
+abbrev pub ended : {S : Type 0} → Signing → Call → S → Step S
+ended m call b = record { state = b; reply = Some (bare_text m call.wrapping call.xid); line = None }
+
+-- a call whose context, if it comes in one, is there
+abbrev pub done_for : (X : Extra) → Signing → Policy → Both X.Row → Event → Call → Task → Step (Both X.Row)
+done_for X m p b event call Garbled = refused_to m call b (called GARBAGE_ARGS)
+done_for X m p b event call (Run arguments c) =
+    answered m call (served X (site_of p) (sent_of event arguments c) c (begins_at call.level event.moment) b)
+done_for X m p b event call (MakeContext parent assertion) =
+    let t = on_world (deed_of (make_context parent)) (begins_at call.level event.moment) b in
+    made m call parent assertion t.state t.answer
+done_for X m p b event call (EndContext number) =
+    ended m call (on_world (deed_of (end_context number)) (begins_at call.level event.moment) b).state
+
+abbrev pub step_of : (X : Extra) → Signing → Policy → Both X.Row → Event → Request → Step (Both X.Row)
+step_of X m p b event Silent = record { state = b; reply = None; line = None }
+step_of X m p b event (Refused xid w cause) = refused m xid w b cause
+step_of X m p b event (Nothing xid) = record { state = b; reply = Some (bare_text m Plain xid); line = None }
+step_of X m p b event (Asked call task) =
+    cond (is_there b.world.contexts call.level call.context) (done_for X m p b event call task)
+    (refused_to m call b (caller RPCSEC_GSS_CTXPROBLEM))
 
 -- the step with further operations
-unfoldable pub step_with : (X : Extra) → Policy → Both X.Row → Event → Step (Both X.Row)
-step_with X p b event = step_of X p b event (request_with X.grammar p event.class event.message)
+unfoldable pub step_with : (X : Extra) → Signing → Policy → Both X.Row → Event → Step (Both X.Row)
+step_with X m p b event = step_of X m p b event (request_with X.grammar m p event.class event.message)

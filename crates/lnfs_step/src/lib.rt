@@ -1,12 +1,14 @@
-//! One event at a time, as definitions: what a record asks and of which
-//! level, the step of the world, the world after a journal, the journal purged for a level, and the
-//! answer on it; the law that each reply is that answer, also with further operations; and the laws of
-//! requests that come again.
+//! One event at a time, as definitions: what a record asks and of which level, how its reply is
+//! wrapped, the step of the world, the world after a journal, the journal purged for a level, and
+//! the answer on it; the law that each reply is that answer, also with further operations and under
+//! any mechanism of signatures; and the laws of contexts and of requests that come again.
 #![tactic(auto)]
 
+mod context_laws;
 mod laws;
 pub mod numbers;
 mod session_laws;
 
+pub use context_laws::{contexts_are_lawful, contexts_are_signed};
 pub use laws::purge;
 pub use session_laws::sessions;

@@ -1,19 +1,5 @@
-//! Numbers of RPC that a step goes by (RFC 5531 sections 8.2 and 9, RFC 8881 section 16).
-
-/// NULL, the procedure of NFS version 4 that does nothing.
-pub const PROC_NULL: u32 = 0;
-
-/// The flavor AUTH_NONE, also of an empty verifier.
-pub const AUTH_NONE: u32 = 0;
-
-/// The flavor AUTH_SYS.
-pub const AUTH_SYS: u32 = 1;
-
-/// The `auth_stat` AUTH_BADCRED: the header or the credential can't be read.
-pub const AUTH_BADCRED: u32 = 1;
-
-/// The `auth_stat` AUTH_TOOWEAK: the flavor isn't served, or no guest line fits.
-pub const AUTH_TOOWEAK: u32 = 5;
+//! Numbers of RPC that a step goes by (RFC 5531 section 9, RFC 8881 section 16). Those of callers
+//! stand in `lnfs_gss3`.
 
 /// The `accept_stat` of a call that was run.
 pub const SUCCESS: u32 = 0;
@@ -23,6 +9,9 @@ pub const PROG_MISMATCH: u32 = 2;
 
 /// The `accept_stat` of a call whose arguments can't be read.
 pub const GARBAGE_ARGS: u32 = 4;
+
+/// The `accept_stat` of a call that the server has no room for.
+pub const SYSTEM_ERR: u32 = 5;
 
 /// The version of NFS that is served.
 pub const NFS_VERSION: u32 = 4;

@@ -2,7 +2,6 @@
 ghost use Rattle.std.specs.Prelude.{◌≡◌, ◌≤◌, ℕ, List, [], ◌∷◌, ◌++◌, Some, length, IfSome, slice_get};
 ghost use Rattle.lnfs_calipso.specs.Label.{IsPreorderWithBottom};
 ghost use Rattle.lnfs_outside.specs.declared.event.Event.{Event};
-ghost use Rattle.lnfs_rpc.specs.Replies.{reply_text};
 ghost use Rattle.lnfs_arguments.specs.declared.types.Compound.{Compound};
 ghost use Rattle.lnfs_arguments.specs.declared.types.CreateSession.{CreateSession};
 ghost use Rattle.lnfs_arguments.specs.declared.types.Sequence.{Sequence};
@@ -10,44 +9,46 @@ ghost use Rattle.lnfs_policy.specs.Policy.{Policy, dominance};
 ghost use Rattle.lnfs_world.specs.World.{Id, Kept, Client, Slot, Session, client_at, session_at};
 ghost use Rattle.lnfs_operations.specs.InOrder.{sequence_before};
 ghost use Rattle.lnfs_operations.specs.Keeping.{next_sequence};
-ghost use Rattle.lnfs_step.specs.declared.numbers.TheConstants.{SUCCESS};
-ghost use Rattle.lnfs_step.specs.Request.{Asked, request_with, plainly};
+ghost use Rattle.lnfs_step.specs.Wrapping.{answer_text};
+ghost use Rattle.lnfs_step.specs.Request.{Call};
 ghost use Rattle.lnfs_step.specs.Journal.{state_after, reply_with};
-ghost use Rattle.lnfs_step.specs.Sessions.{ComesOnSlot, ComesToClient, IsAnswered, HasOrigin};
+ghost use Rattle.lnfs_step.specs.Sessions.{Asks, ComesOnSlot, ComesToClient, IsAnswered, HasOrigin};
 
+use lnfs_gss3::Mechanism;
 use lnfs_operations::ExtraRows;
 
-/// Sessions over journals: a COMPOUND that comes again gets the result that it got, and acts once; every result that
-/// is kept is one that an event of the journal got.
-pub fn sessions<X: ExtraRows>()
+/// Sessions over journals: a COMPOUND that comes again gets the result that it got, and acts once;
+/// every result that is kept is one that an event of the journal got. Each event may be a guest's or
+/// come in a context: what is kept and given again is the result without its wrapping.
+pub fn sessions<X: ExtraRows, M: Mechanism>()
     // The COMPOUND whose result its slot keeps gets that result (RFC 8881 section 2.10.6.1).
-    ensures retry { (p : Policy) (journal : List Event) (event : Event) (level xid : ℕ) (arguments : List ℕ) (c : Compound) (args : Sequence) (x : Session) (slot : Slot) (result : List ℕ) →
-        ComesOnSlot X.extra p journal event level xid arguments c args x slot →
+    ensures retry { (p : Policy) (journal : List Event) (event : Event) (call : Call) (arguments : List ℕ) (c : Compound) (args : Sequence) (x : Session) (slot : Slot) (result : List ℕ) →
+        ComesOnSlot X.extra M.signing p journal event call arguments c args x slot →
         slot ≡ record { sequence = args.sequence; kept = Some (record { arguments = arguments; reply = result }) } →
-        IsAnswered X.extra p journal event xid result }
+        IsAnswered X.extra M.signing p journal event call result }
     // So does the CREATE_SESSION whose result its client's record keeps (RFC 8881 section 18.36.4).
-    ensures created { (p : Policy) (journal : List Event) (event : Event) (level xid : ℕ) (arguments : List ℕ) (c : Compound) (args : CreateSession) (client : Client) (result : List ℕ) →
-        ComesToClient X.extra p journal event level xid arguments c args client →
+    ensures created { (p : Policy) (journal : List Event) (event : Event) (call : Call) (arguments : List ℕ) (c : Compound) (args : CreateSession) (client : Client) (result : List ℕ) →
+        ComesToClient X.extra M.signing p journal event call arguments c args client →
         args.sequence ≡ sequence_before client.sequence → client.kept ≡ Some (record { arguments = arguments; reply = result }) →
-        IsAnswered X.extra p journal event xid result }
+        IsAnswered X.extra M.signing p journal event call result }
     // A new COMPOUND under the next sequence of its slot acts once. Whatever event of its level asks the same
-    // directly behind it, under any transaction and of any class, gets its result, and what stands
-    // is what the first one left.
-    ensures once { (p : Policy) → IsPreorderWithBottom (dominance p) → (journal : List Event) (event again : Event) (level xid other : ℕ) (arguments : List ℕ) (c : Compound) (args : Sequence) (x : Session) (slot : Slot) →
-        ComesOnSlot X.extra p journal event level xid arguments c args x slot → args.sequence ≡ next_sequence slot.sequence →
-        request_with X.extra.grammar p again.class again.message ≡ Asked level other arguments c → length again.message ≤ x.channel.max_request →
-        (result : List ℕ) × (reply_with X.extra p journal event ≡ Some (reply_text xid (plainly SUCCESS) result)) × IsAnswered X.extra p (journal ++ event ∷ []) again other result }
+    // directly behind it, under any transaction, of any class, and in any context or none, gets its result, and what
+    // stands is what the first one left.
+    ensures once { (p : Policy) → IsPreorderWithBottom (dominance p) → (journal : List Event) (event again : Event) (call other : Call) (arguments : List ℕ) (c : Compound) (args : Sequence) (x : Session) (slot : Slot) →
+        ComesOnSlot X.extra M.signing p journal event call arguments c args x slot → args.sequence ≡ next_sequence slot.sequence →
+        Asks X.extra M.signing p (journal ++ event ∷ []) again other arguments c → other.level ≡ call.level → length again.message ≤ x.channel.max_request →
+        (result : List ℕ) × (reply_with X.extra M.signing p journal event ≡ Some (answer_text M.signing call.wrapping call.xid result)) × IsAnswered X.extra M.signing p (journal ++ event ∷ []) again other result }
     // What a slot of a session keeps is what an event of the journal got, of the session's level.
     ensures origin { (p : Policy) → IsPreorderWithBottom (dominance p) → (journal : List Event) (i : Id) (x : Session) (n : ℕ) (slot : Slot) (kept : Kept) →
-        session_at (state_after X.extra p journal).world.sessions i ≡ Some x → slice_get x.slots n ≡ Some slot → slot.kept ≡ Some kept →
-        HasOrigin X.extra p journal i.level kept }
+        session_at (state_after X.extra M.signing p journal).world.sessions i ≡ Some x → slice_get x.slots n ≡ Some slot → slot.kept ≡ Some kept →
+        HasOrigin X.extra M.signing p journal i.level kept }
     // So is what a client's record keeps of its last CREATE_SESSION.
     ensures origin_created { (p : Policy) → IsPreorderWithBottom (dominance p) → (journal : List Event) (i : Id) (client : Client) (kept : Kept) →
-        client_at (state_after X.extra p journal).world.clients i ≡ Some client → client.kept ≡ Some kept →
-        HasOrigin X.extra p journal i.level kept }
-    // The reply to a COMPOUND on a slot has no more bytes than its session's responses, be the COMPOUND new, a
-    // retry or out of order (RFC 8881 section 2.10.6.4).
-    ensures room { (p : Policy) → IsPreorderWithBottom (dominance p) → (journal : List Event) (event : Event) (level xid : ℕ) (arguments : List ℕ) (c : Compound) (args : Sequence) (x : Session) (slot : Slot) →
-        ComesOnSlot X.extra p journal event level xid arguments c args x slot →
-        IfSome (reply_with X.extra p journal event) (λ reply. length reply ≤ x.channel.max_response) }
+        client_at (state_after X.extra M.signing p journal).world.clients i ≡ Some client → client.kept ≡ Some kept →
+        HasOrigin X.extra M.signing p journal i.level kept }
+    // With its wrapping the reply to a COMPOUND on a slot has no more bytes than its session's responses, be the COMPOUND
+    // new, a retry or out of order (RFC 8881 section 2.10.6.4).
+    ensures room { (p : Policy) → IsPreorderWithBottom (dominance p) → (journal : List Event) (event : Event) (call : Call) (arguments : List ℕ) (c : Compound) (args : Sequence) (x : Session) (slot : Slot) →
+        ComesOnSlot X.extra M.signing p journal event call arguments c args x slot →
+        IfSome (reply_with X.extra M.signing p journal event) (λ reply. length reply ≤ x.channel.max_response) }
 {}

@@ -7,6 +7,7 @@ use Rattle.lnfs_world.specs.World.{World}
 use Rattle.lnfs_world.specs.Usage.{bytes_of}
 use Rattle.lnfs_world.specs.Both.{Both, both}
 use Rattle.lnfs_operations.specs.Extra.{Extra}
+use Rattle.lnfs_gss3.specs.Mechanism.{Signing}
 use Rattle.lnfs_site.specs.Site.{first_label, first_dir, first_world}
 use Rattle.lnfs_step.specs.Journal.{state_after, state_from}
 use Rattle.lnfs_world.proofs.FirstTrees.{IsBare, first_empty}
@@ -22,9 +23,9 @@ bare_stands : (w : World) → IsBare w → only_tree (rows_of w) ≡ w
 bare_stands w bare = sym (λ i. record w { clients = bare.clients i; sessions = bare.sessions i; contexts = bare.contexts i; opens = bare.opens i; lasts = record w.lasts { clients = bare.last_clients i; sessions = bare.last_sessions i; contexts = bare.last_contexts i; opens = bare.last_opens i } })
 
 -- the state before all events
-pub begins : (X : Extra) (p : Policy) (rows : Rows) (own : List X.Row) → rows ≡ rows_of (first_world p) → own ≡ [] → both (only_tree rows) own ≡ state_after X p []
+pub begins : (X : Extra) (m : Signing) (p : Policy) (rows : Rows) (own : List X.Row) → rows ≡ rows_of (first_world p) → own ≡ [] → both (only_tree rows) own ≡ state_after X m p []
 unfolding state_from
-begins X p rows own is none = (λ i. both (only_tree (is i)) (none i)) ∙ ap (λ w. both w []) (bare_stands (first_world p) (first_bare p))
+begins X m p rows own is none = (λ i. both (only_tree (is i)) (none i)) ∙ ap (λ w. both w []) (bare_stands (first_world p) (first_bare p))
 
 -- no node has bytes then
 pub no_bytes : (p : Policy) (rows : Rows) → rows ≡ rows_of (first_world p) → AllByRecursion (λ n. bytes_of n n.kind ≡ 0) rows.nodes
@@ -32,6 +33,6 @@ unfolding first_world
 no_bytes p rows is = subst (λ (r : Rows). AllByRecursion (λ n. bytes_of n n.kind ≡ 0) r.nodes) (sym is) (first_empty (dominance p) (first_label p 0) (map (first_dir p) p.dirs))
 
 -- what was said of an event, as the step on the state after the journal
-pub said : (X : Extra) (p q : Policy) (journal : List Event) (event : Event) (place : ℕ) (before after : Both X.Row) (served : Served) → q ≡ p → before ≡ state_after X p journal → SaysServed place after (step_with X q before event) served → SaysServed place after (step_with X p (state_after X p journal) event) served
-said X p q journal event place before after served same is says =
-    subst (λ (b : Both X.Row). SaysServed place after (step_with X p b event) served) is (subst (λ r. SaysServed place after (step_with X r before event) served) same says)
+pub said : (X : Extra) (m : Signing) (p q : Policy) (journal : List Event) (event : Event) (place : ℕ) (before after : Both X.Row) (served : Served) → q ≡ p → before ≡ state_after X m p journal → SaysServed place after (step_with X m q before event) served → SaysServed place after (step_with X m p (state_after X m p journal) event) served
+said X m p q journal event place before after served same is says =
+    subst (λ (b : Both X.Row). SaysServed place after (step_with X m p b event) served) is (subst (λ r. SaysServed place after (step_with X m r before event) served) same says)

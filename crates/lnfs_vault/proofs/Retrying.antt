@@ -2,6 +2,8 @@
 use Rattle.std.proofs.Common.{◌≡◌, ◌+◌, ℕ, List, [], ◌∷◌, ◌++◌, length, Option, Some, None, refl, ◌∙◌}
 use Rattle.lnfs_outside.specs.declared.event.Event.{Event}
 use Rattle.lnfs_operations.specs.Extra.{Extra}
+use Rattle.lnfs_gss3.specs.Mechanism.{Signing}
+use Rattle.lnfs_step.specs.Request.{Call}
 use Rattle.lnfs_step.specs.Step.{Line}
 use Rattle.lnfs_step.specs.Journal.{state_after, reply_with, line_with}
 use Rattle.lnfs_step.specs.Sessions.{HasOrigin, IsAnswered}
@@ -15,12 +17,12 @@ no_line : (event : ℕ) (line : Option Line) (told : Option AuditLine) → IsLin
 no_line event line None is none = refl
 no_line event line (Some l) is none = absurd (let some = is.0 in cc)
 
-pub retried : (X : Extra) (old new : Kept) (event : Event) (level xid : ℕ) (arguments first : List ℕ) (served : Served) →
-    served.reply ≡ reply_with X old.policy old.journal event → IsLineOf (length old.journal + 1) (line_with X old.policy old.journal event) served.line →
-    new.policy ≡ old.policy → new.journal ≡ old.journal ++ event ∷ [] → HasOrigin X old.policy old.journal level (record { arguments = arguments; reply = first }) → IsAnswered X old.policy old.journal event xid first → IsRetried X old new level xid arguments first served
-retried X old new event level xid arguments first served reply line policy journal origin answered = record {
+pub retried : (X : Extra) (m : Signing) (old new : Kept) (event : Event) (call : Call) (arguments first : List ℕ) (served : Served) →
+    served.reply ≡ reply_with X m old.policy old.journal event → IsLineOf (length old.journal + 1) (line_with X m old.policy old.journal event) served.line →
+    new.policy ≡ old.policy → new.journal ≡ old.journal ++ event ∷ [] → HasOrigin X m old.policy old.journal call.level (record { arguments = arguments; reply = first }) → IsAnswered X m old.policy old.journal event call first → IsRetried X m old new call arguments first served
+retried X m old new event call arguments first served reply line policy journal origin answered = record {
   origin = origin;
   reply = reply ∙ answered.reply;
-  line = no_line (length old.journal + 1) (line_with X old.policy old.journal event) served.line line answered.line;
-  state = (λ i. state_after X (policy i) (journal i)) ∙ answered.state;
+  line = no_line (length old.journal + 1) (line_with X m old.policy old.journal event) served.line line answered.line;
+  state = (λ i. state_after X m (policy i) (journal i)) ∙ answered.state;
 }

@@ -1,28 +1,97 @@
 -- What the code's values of a request stand for.
-use Rattle.std.specs.Prelude.{◌≤◌, ℕ, length, Option, Result, Ok, Err, option_map}
+use Rattle.std.specs.Prelude.{◌≡◌, ◌≤◌, ◌<◌, ◌^◌, ℕ, List, [], ◌++◌, length, Option, Some, None, option_map}
+use Rattle.lnfs_xdr.specs.Canon.{word}
+use Rattle.lnfs_rpc.specs.Calls.{OpaqueAuth}
+use Rattle.lnfs_rpc.specs.Replies.{accepted, reply_text}
+use Rattle.lnfs_format.specs.declared.formats.TheConstants.{MAX_SPELLING}
+use Rattle.lnfs_operations.specs.Sizes.{IsRead}
+use Rattle.lnfs_gss3.specs.declared.numbers.TheConstants.{AUTH_NONE, RPCSEC_GSS}
+use Rattle.lnfs_gss3.specs.Mechanism.{Signing}
+use Rattle.lnfs_step.specs.declared.numbers.TheConstants.{SUCCESS}
 use Rattle.lnfs_step.specs.Request as request
 use Rattle.lnfs_step.specs.Request.{Request}
+use Rattle.lnfs_step.specs.Wrapping as wrapping
+use Rattle.lnfs_step.specs.Wrapping.{verifier_in}
 use Rattle.lnfs_vault.specs.declared.request.Asked as code
 use Rattle.lnfs_vault.specs.declared.request.Asked.TheVariants as asked
+use Rattle.lnfs_vault.specs.declared.request.Task as task_code
+use Rattle.lnfs_vault.specs.declared.request.Task.TheVariants as task
+use Rattle.lnfs_vault.specs.declared.request.Call as call_code
+use Rattle.lnfs_vault.specs.declared.request.InContext as context_code
+use Rattle.lnfs_vault.specs.declared.request.Wrapping as wrapping_code
+use Rattle.lnfs_vault.specs.declared.request.Wrapping.TheVariants as wrappings
 use Rattle.lnfs_vault.specs.declared.request.Cause as cause_code
 use Rattle.lnfs_vault.specs.declared.request.Cause.TheVariants as cause
 
-abbrev pub seen_cause : cause_code.Cause → request.Cause
-seen_cause (cause.Caller stat) = request.caller stat
-seen_cause (cause.Called stat) = request.called stat
-seen_cause cause.Version = request.version
+abbrev pub seen_cause : cause_code.Cause → wrapping.Cause
+seen_cause (cause.Caller stat) = wrapping.caller stat
+seen_cause (cause.Called stat) = wrapping.called stat
+seen_cause cause.Version = wrapping.version
 
-abbrev pub seen_user : Result (Option ℕ) cause_code.Cause → Result (Option ℕ) request.Cause
-seen_user (Ok user) = Ok user
-seen_user (Err c) = Err (seen_cause c)
+abbrev pub seen_wrapping : wrapping_code.Wrapping → wrapping.Wrapping
+seen_wrapping wrappings.Plain = wrapping.Plain
+seen_wrapping (wrappings.Signed parent header sequence) = wrapping.Signed parent.now header.now sequence
+
+abbrev pub seen_context : context_code.InContext → request.InContext
+seen_context c = record { parent = c.parent; number = c.number }
+
+abbrev pub seen_call : call_code.Call → request.Call
+seen_call c = record { level = c.level.0; xid = c.xid; wrapping = seen_wrapping c.wrapping; context = option_map seen_context c.context }
+
+abbrev pub seen_task : task_code.Task → request.Task
+seen_task task.Garbled = request.Garbled
+seen_task (task.Run r) = request.Run r.arguments.now r.compound
+seen_task (task.MakeContext c) = request.MakeContext c.parent (record { lfs = c.lfs; pi = c.pi; label = c.label })
+seen_task (task.EndContext c) = request.EndContext c.number
 
 abbrev pub seen_asked : code.Asked → Request
 seen_asked asked.Silent = request.Silent
-seen_asked (asked.Refused level xid c) = request.Refused (option_map (λ l. l.0) level) xid (seen_cause c)
+seen_asked (asked.Refused xid w c) = request.Refused xid (seen_wrapping w) (seen_cause c)
 seen_asked (asked.Nothing xid) = request.Nothing xid
-seen_asked (asked.Run r) = request.Asked r.level.0 r.xid r.arguments.now r.compound
+seen_asked (asked.Asked c t) = request.Asked (seen_call c) (seen_task t)
 
--- what was read has a tag of at most 1,024 bytes, and at most 32 operations
-abbrev pub IsShortly : code.Asked → Type 0
-IsShortly (asked.Run r) = (length r.compound.tag ≤ 1024) × (length r.compound.ops ≤ 32)
-IsShortly _ = Unit {0}
+-- A COMPOUND was read, and a label that is asserted has at most as many bytes as a spelling.
+abbrev pub IsTask : request.Task → Type 0
+IsTask request.Garbled = Unit {0}
+IsTask (request.Run arguments c) = IsRead c
+IsTask (request.MakeContext parent assertion) = length assertion.label ≤ MAX_SPELLING
+IsTask (request.EndContext number) = Unit {0}
+
+abbrev pub IsAsked : Request → Type 0
+IsAsked request.Silent = Unit {0}
+IsAsked (request.Refused xid w c) = Unit {0}
+IsAsked (request.Nothing xid) = Unit {0}
+IsAsked (request.Asked c t) = IsTask t
+
+-- what is run has at most 32 operations, and ends no context
+abbrev pub IsBrief : task_code.Task → Type 0
+IsBrief (task.Run r) = length r.compound.ops ≤ 32
+IsBrief (task.EndContext c) = ⊥
+IsBrief _ = Unit {0}
+
+-- A COMPOUND that is run has at most 32 operations, and a context that ends is the one that the call comes in.
+abbrev pub HasForm : call_code.Call → task_code.Task → Type 0
+HasForm call (task.Run r) = length r.compound.ops ≤ 32
+HasForm call (task.EndContext c) = call.context ≡ Some c
+HasForm call _ = Unit {0}
+
+abbrev pub IsFormed : code.Asked → Type 0
+IsFormed (asked.Asked call t) = HasForm call t
+IsFormed _ = Unit {0}
+
+-- ---- replies
+
+-- the verifier of a signature, or the empty one
+abbrev pub verifier_by : Option (List ℕ) → OpaqueAuth
+verifier_by None = record { flavor = AUTH_NONE; body = [] }
+verifier_by (Some mic) = record { flavor = RPCSEC_GSS; body = mic }
+
+-- what stands before results in the buffer that they are built in
+abbrev pub results_begun : Signing → wrapping.Wrapping → (xid : ℕ) → List ℕ
+results_begun m wrapping.Plain xid = reply_text xid (accepted (verifier_in m wrapping.Plain) SUCCESS) []
+results_begun m (wrapping.Signed parent header sequence) xid = word sequence
+
+-- what is signed has a length that a word spells
+abbrev pub FitsBody : wrapping.Wrapping → (built : List ℕ) → Type 0
+FitsBody wrapping.Plain built = Unit {0}
+FitsBody (wrapping.Signed parent header sequence) built = length built < 2 ^ 32

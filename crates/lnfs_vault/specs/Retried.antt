@@ -1,18 +1,18 @@
 -- What a request that comes again gets.
 use Rattle.std.specs.Prelude.{◌≡◌, ℕ, List, Some, None}
-use Rattle.lnfs_rpc.specs.Replies.{reply_text}
 use Rattle.lnfs_operations.specs.Extra.{Extra}
-use Rattle.lnfs_step.specs.declared.numbers.TheConstants.{SUCCESS}
-use Rattle.lnfs_step.specs.Request.{plainly}
+use Rattle.lnfs_gss3.specs.Mechanism.{Signing}
+use Rattle.lnfs_step.specs.Wrapping.{answer_text}
+use Rattle.lnfs_step.specs.Request.{Call}
 use Rattle.lnfs_step.specs.Journal.{state_after}
 use Rattle.lnfs_step.specs.Sessions.{HasOrigin}
 use Rattle.lnfs_vault.specs.Kept.{Kept}
 use Rattle.lnfs_vault.specs.declared.vault.Served.{Served}
 
 -- The result of the first time, which an event of the journal with the same arguments got, under its own
--- transaction; nothing is refused, and the state stays.
-pub record IsRetried (X : Extra) (old new : Kept) (level xid : ℕ) (arguments first : List ℕ) (served : Served) : Type 0 where
-  pub origin : HasOrigin X old.policy old.journal level (record { arguments = arguments; reply = first })
-  pub reply : served.reply ≡ Some (reply_text xid (plainly SUCCESS) first)
+-- transaction and wrapped as its own call asks; nothing is refused, and the state stays.
+pub record IsRetried (X : Extra) (m : Signing) (old new : Kept) (call : Call) (arguments first : List ℕ) (served : Served) : Type 0 where
+  pub origin : HasOrigin X m old.policy old.journal call.level (record { arguments = arguments; reply = first })
+  pub reply : served.reply ≡ Some (answer_text m call.wrapping call.xid first)
   pub line : served.line ≡ None
-  pub state : state_after X new.policy new.journal ≡ state_after X old.policy old.journal
+  pub state : state_after X m new.policy new.journal ≡ state_after X m old.policy old.journal

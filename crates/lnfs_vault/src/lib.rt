@@ -2,9 +2,11 @@
 #![tactic(auto)]
 
 mod audit;
+mod lines;
 mod request;
 mod step;
 mod vault;
+mod wrapping;
 
 pub use audit::{AuditLine, write_line};
 pub use vault::{Served, Vault, VaultOf};

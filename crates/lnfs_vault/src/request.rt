@@ -1,17 +1,20 @@
 //! What a record asks, and of which level.
-ghost use Rattle.std.specs.Prelude.{◌≡◌, ℕ, Err, IfOk, option_map};
-ghost use Rattle.lnfs_rpc.specs.Calls.{seen_auth, seen_call};
+ghost use Rattle.std.specs.Prelude.{◌≡◌, ℕ, Err, IfOk};
+ghost use Rattle.lnfs_rpc.specs.Calls.{seen_call};
 ghost use Rattle.lnfs_policy.specs.Policy.{Policy};
-ghost use Rattle.lnfs_step.specs.Request.{user_of, null_call, asked_by, asked_in, asked_of, request_with};
-ghost use Rattle.lnfs_vault.specs.Requests.{seen_user, seen_asked, IsShortly};
+ghost use Rattle.lnfs_gss3.specs.Mechanism.{Signing};
+ghost use Rattle.lnfs_step.specs.Request.{wrapping_of, null_call, run_of, run_signed, asked_by, asked_of, request_with};
+ghost use Rattle.lnfs_vault.specs.Requests.{seen_wrapping, seen_task, seen_asked, IsAsked, IsBrief, IsFormed};
 
 use lnfs_arguments::{Compound, CompoundError, ExtraGrammar, read_compound};
 use lnfs_calipso::Level;
-use lnfs_policy::Policy;
-use lnfs_rpc::{Auth, Call, CallError, read_call, read_sys};
-use lnfs_step::numbers::{
-    AUTH_BADCRED, AUTH_NONE, AUTH_SYS, AUTH_TOOWEAK, GARBAGE_ARGS, PROC_NULL,
-};
+use lnfs_format::Codecs;
+use lnfs_gss3::numbers::AUTH_BADCRED;
+use lnfs_gss3::{Caller, Mechanism, body, who};
+use lnfs_lists::Octets;
+use lnfs_policy::{Parent, Policy};
+use lnfs_rpc::{CallError, read_call};
+use lnfs_step::numbers::GARBAGE_ARGS;
 use std::alloc::{AllocError, Global};
 
 /// What refuses a call as a whole.
@@ -25,14 +28,61 @@ pub enum Cause {
     Version,
 }
 
-/// A COMPOUND of a level.
-#[derive(Debug, Drop)]
-pub struct Run<'a> {
+/// How the reply to a call is wrapped.
+#[derive(Clone, Copy, Debug)]
+pub enum Wrapping<'a> {
+    /// By the empty verifier, and with results as they are.
+    Plain,
+    /// Signed under a parent, by the header of the call and the sequence number of its credential.
+    Signed {
+        parent: &'a Parent,
+        header: &'a [u8],
+        seq: u32,
+    },
+}
+
+/// A context of the level of a call.
+#[derive(Clone, Copy, Debug)]
+pub struct InContext {
+    pub parent: u32,
+    pub number: u64,
+}
+
+/// A call of a level.
+#[derive(Clone, Copy, Debug)]
+pub struct Call<'a> {
     pub level: Level,
     pub xid: u32,
-    /// The bytes of its arguments.
+    pub wrapping: Wrapping<'a>,
+    /// The context that it comes in, which has to be there.
+    pub context: Option<InContext>,
+}
+
+/// A COMPOUND with the bytes of its arguments.
+#[derive(Debug, Drop)]
+pub struct Run<'a> {
     pub arguments: &'a [u8],
     pub compound: Compound<'a>,
+}
+
+/// A context that is asked for: its parent, and the label that is asserted, as it was sent.
+#[derive(Debug, Drop)]
+pub struct NewContext {
+    pub parent: u32,
+    pub lfs: u32,
+    pub pi: u32,
+    pub label: Octets,
+}
+
+/// What a call of a level asks.
+#[derive(Debug, Drop)]
+pub enum Task<'a> {
+    /// Nothing that can be read.
+    Garbled,
+    Run(Run<'a>),
+    MakeContext(NewContext),
+    /// The end of the context that the call comes in.
+    EndContext(InContext),
 }
 
 /// What a record asks.
@@ -40,121 +90,183 @@ pub struct Run<'a> {
 pub enum Asked<'a> {
     /// Nothing: it is no call, and no reply is due.
     Silent,
-    /// A call that is refused as a whole, with the level of its caller where it has one.
+    /// A call without a level, which is refused as a whole.
     Refused {
-        level: Option<Level>,
         xid: u32,
+        wrapping: Wrapping<'a>,
         cause: Cause,
     },
     /// NULL.
     Nothing {
         xid: u32,
     },
-    Run(Run<'a>),
+    Asked(Call<'a>, Task<'a>),
 }
 
-/// The user id of a caller: by AUTH_NONE there is none.
-fn user_of(credential: &Auth<'_>) -> Result<Option<u32>, Cause>
-    ensures { seen_user result ≡ user_of (seen_auth credential.now) }
+/// The wrapping under the parent of a number.
+fn wrapping_of<'a>(
+    policy: &'a Policy,
+    call: &lnfs_rpc::Call<'a>,
+    parent: u32,
+    seq: u32,
+) -> Wrapping<'a>
+    ensures { seen_wrapping result ≡ wrapping_of policy.now (seen_call call.now) parent seq }
 {
-    if credential.flavor == AUTH_NONE {
-        return Ok(None);
-    }
-    if credential.flavor != AUTH_SYS {
-        return Err(Cause::Caller { stat: AUTH_TOOWEAK });
-    }
-    match read_sys(credential.body) {
-        Ok(sys) => Ok(Some(sys.uid)),
-        Err(_) => Err(Cause::Caller { stat: AUTH_BADCRED }),
+    match policy.parent(parent) {
+        Some(parent) => Wrapping::Signed {
+            parent,
+            header: call.header,
+            seq,
+        },
+        None => Wrapping::Plain,
     }
 }
 
 /// NULL has no arguments.
 fn null_call<'a>(xid: u32, args: &[u8]) -> Asked<'a>
-    ensures { seen_asked result ≡ null_call xid args.now }
+    ensures asked { seen_asked result ≡ null_call xid args.now }
+    ensures form { IsFormed result }
 {
     if args.is_empty() {
         Asked::Nothing { xid }
     } else {
         Asked::Refused {
-            level: None,
             xid,
+            wrapping: Wrapping::Plain,
             cause: Cause::Called { stat: GARBAGE_ARGS },
         }
     }
 }
 
-/// A COMPOUND of a caller whose level is known, or isn't.
-fn asked_by<'a, E: ExtraGrammar>(
+/// The COMPOUND that arguments are.
+fn run_of<'a, E: ExtraGrammar>(
     alloc: Global,
     extra: &E,
-    level: Option<Level>,
-    xid: u32,
-    args: &'a [u8],
-) -> Result<Asked<'a>, AllocError>
-    ensures asked { IfOk result (λ asked. seen_asked asked ≡ asked_by E.grammar (option_map (λ l. l.0) level) xid args.now) }
-    ensures short { IfOk result IsShortly }
+    arguments: &'a [u8],
+) -> Result<Task<'a>, AllocError>
+    ensures task { IfOk result (λ task. seen_task task ≡ run_of E.grammar arguments.now) }
+    ensures few { IfOk result IsBrief }
 {
-    let Some(level) = level else {
-        return Ok(Asked::Refused {
-            level: None,
-            xid,
-            cause: Cause::Caller { stat: AUTH_TOOWEAK },
-        });
-    };
-    match read_compound(alloc, args, extra) {
-        Ok(compound) => Ok(Asked::Run(Run {
-            level,
-            xid,
-            arguments: args,
+    match read_compound(alloc, arguments, extra) {
+        Ok(compound) => Ok(Task::Run(Run {
+            arguments,
             compound,
         })),
-        Err(CompoundError::Garbage { .. }) => Ok(Asked::Refused {
-            level: Some(level),
-            xid,
-            cause: Cause::Called { stat: GARBAGE_ARGS },
-        }),
+        Err(CompoundError::Garbage { .. }) => Ok(Task::Garbled),
         Err(CompoundError::Memory) => Err(AllocError),
     }
 }
 
-/// What a call asks. The caller is judged before the arguments.
-fn asked_in<'a, E: ExtraGrammar>(
+/// The COMPOUND in a signed body, whose sequence number has to be the credential's.
+fn run_signed<'a, E: ExtraGrammar>(
     alloc: Global,
-    policy: &Policy,
     extra: &E,
-    class: u32,
-    call: &Call<'a>,
-) -> Result<Asked<'a>, AllocError>
-    ensures asked { IfOk result (λ asked. seen_asked asked ≡ asked_in E.grammar policy.now class (seen_call call.now) (user_of (seen_auth call.now.cred))) }
-    ensures short { IfOk result IsShortly }
+    aligned: bool,
+    call: &lnfs_rpc::Call<'a>,
+) -> Result<Task<'a>, AllocError>
+    ensures task { IfOk result (λ task. seen_task task ≡ run_signed E.grammar aligned call.now.args.now) }
+    ensures few { IfOk result IsBrief }
 {
-    let user = match user_of(&call.cred) {
-        Ok(user) => user,
-        Err(cause) => {
-            return Ok(Asked::Refused {
-                level: None,
-                xid: call.xid,
-                cause,
-            });
-        }
-    };
-    if call.proc == PROC_NULL {
-        return Ok(null_call(call.xid, call.args));
+    if !aligned {
+        return Ok(Task::Garbled);
     }
-    asked_by(
-        alloc,
-        extra,
-        policy.guest_level(class, user),
-        call.xid,
-        call.args,
-    )
+    match body(call) {
+        Some(arguments) => run_of(alloc, extra, arguments),
+        None => Ok(Task::Garbled),
+    }
+}
+
+/// What a call asks of whom it comes from. The caller is judged before the arguments.
+fn asked_by<'a, E: ExtraGrammar>(
+    alloc: Global,
+    policy: &'a Policy,
+    extra: &E,
+    call: &lnfs_rpc::Call<'a>,
+    caller: Caller,
+) -> Result<Asked<'a>, AllocError>
+    ensures asked { IfOk result (λ asked. seen_asked asked ≡ asked_by E.grammar policy.now (seen_call call.now) caller) }
+    ensures form { IfOk result IsFormed }
+{
+    let xid = call.xid;
+    let asked = match caller {
+        Caller::Null => null_call(xid, call.args),
+        Caller::Nobody { auth } => Asked::Refused {
+            xid,
+            wrapping: Wrapping::Plain,
+            cause: Cause::Caller { stat: auth },
+        },
+        Caller::Garbage { parent, seq } => Asked::Refused {
+            xid,
+            wrapping: wrapping_of(policy, call, parent, seq),
+            cause: Cause::Called { stat: GARBAGE_ARGS },
+        },
+        Caller::Guest { level } => Asked::Asked(
+            Call {
+                level,
+                xid,
+                wrapping: Wrapping::Plain,
+                context: None,
+            },
+            run_of(alloc, extra, call.args)?,
+        ),
+        Caller::Create {
+            level,
+            parent,
+            seq,
+            lfs,
+            pi,
+            label,
+        } => Asked::Asked(
+            Call {
+                level,
+                xid,
+                wrapping: wrapping_of(policy, call, parent, seq),
+                context: None,
+            },
+            Task::MakeContext(NewContext {
+                parent,
+                lfs,
+                pi,
+                label,
+            }),
+        ),
+        Caller::Data {
+            level,
+            parent,
+            number,
+            seq,
+            aligned,
+        } => Asked::Asked(
+            Call {
+                level,
+                xid,
+                wrapping: wrapping_of(policy, call, parent, seq),
+                context: Some(InContext { parent, number }),
+            },
+            run_signed(alloc, extra, aligned, call)?,
+        ),
+        // no results are signed, so no sequence number is said
+        Caller::Destroy {
+            level,
+            parent,
+            number,
+        } => Asked::Asked(
+            Call {
+                level,
+                xid,
+                wrapping: wrapping_of(policy, call, parent, 0),
+                context: Some(InContext { parent, number }),
+            },
+            Task::EndContext(InContext { parent, number }),
+        ),
+    };
+    Ok(asked)
 }
 
 /// The refusal of a record that is no call that is served.
 fn refused<'a, E: ExtraGrammar>(error: CallError) -> Asked<'a>
-    ensures asked { (policy : Policy) (class : ℕ) → seen_asked result ≡ asked_of E.grammar policy class (Err error) }
-    ensures short { IsShortly result }
+    ensures asked { (m : Signing) (policy : Policy) (class : ℕ) → seen_asked result ≡ asked_of E.grammar m policy class (Err error) }
+    ensures form { IsFormed result }
 {
     let (xid, cause) = match error {
         CallError::NotACall => return Asked::Silent,
@@ -163,26 +275,50 @@ fn refused<'a, E: ExtraGrammar>(error: CallError) -> Asked<'a>
         CallError::BadProgram { xid, stat } => (xid, Cause::Called { stat }),
     };
     Asked::Refused {
-        level: None,
         xid,
+        wrapping: Wrapping::Plain,
         cause,
     }
 }
 
 /// What a record of a class asks under a policy, where further operations are read too.
 #[tactic(auto, unfolding(lnfs_step::specs::Request::request_with))]
-pub fn request_of<'a, E: ExtraGrammar>(
+fn read_request<'a, E: ExtraGrammar, M: Mechanism>(
     alloc: Global,
-    policy: &Policy,
+    policy: &'a Policy,
+    codecs: &Codecs,
+    mechanism: &M,
     extra: &E,
     class: u32,
     message: &'a [u8],
 ) -> Result<Asked<'a>, AllocError>
-    ensures asked { IfOk result (λ asked. seen_asked asked ≡ request_with E.grammar policy.now class message.now) }
-    ensures short { IfOk result IsShortly }
+    ensures asked { IfOk result (λ asked. seen_asked asked ≡ request_with E.grammar M.signing policy.now class message.now) }
+    ensures form { IfOk result IsFormed }
 {
     match read_call(message) {
-        Ok(call) => asked_in(alloc, policy, extra, class, &call),
+        Ok(call) => {
+            let caller = who(alloc, policy, codecs, mechanism, class, &call)?;
+            asked_by(alloc, policy, extra, &call, caller)
+        }
         Err(error) => Ok(refused::<E>(error)),
     }
+}
+
+/// What a record of a class asks under a policy, where further operations are read too. The codecs read the labels that are
+/// asserted, and the mechanism checks what is signed.
+#[tactic(auto, using(crate::proofs::Asking::is_asked))]
+pub fn request_of<'a, E: ExtraGrammar, M: Mechanism>(
+    alloc: Global,
+    policy: &'a Policy,
+    codecs: &Codecs,
+    mechanism: &M,
+    extra: &E,
+    class: u32,
+    message: &'a [u8],
+) -> Result<Asked<'a>, AllocError>
+    ensures asked { IfOk result (λ asked. seen_asked asked ≡ request_with E.grammar M.signing policy.now class message.now) }
+    ensures read { IfOk result (λ asked. IsAsked (seen_asked asked)) }
+    ensures form { IfOk result IsFormed }
+{
+    read_request(alloc, policy, codecs, mechanism, extra, class, message)
 }

@@ -1,31 +1,34 @@
 //! The step that an event makes: its reply and its audit line.
-ghost use Rattle.std.specs.Prelude.{◌≡◌, ◌≤◌, [], Some, None, length, IfOk, option_map};
-ghost use Rattle.lnfs_rpc.specs.Replies.{reply_text, seen_head};
+ghost use Rattle.std.specs.Prelude.{◌≡◌, ◌≤◌, Some, None, true, length, IfOk};
+ghost use Rattle.lnfs_outside.specs.Moments.{Fits};
+ghost use Rattle.lnfs_outside.specs.declared.event.Event.{Event as any_event};
+ghost use Rattle.lnfs_format.specs.declared.formats.TheConstants.{MAX_SPELLING};
+ghost use Rattle.lnfs_policy.specs.Policy.{Policy as any_policy, dominance};
 ghost use Rattle.lnfs_world.specs.Outcome.{begins_at};
 ghost use Rattle.lnfs_world.specs.Both.{both, BothStand};
-ghost use Rattle.lnfs_step.specs.Request.{head_of, results_in, plainly, Asked as asked};
-ghost use Rattle.lnfs_step.specs.Step.{step_with, step_of, rule_name, letter, line_of_cause, line_of};
-ghost use Rattle.lnfs_step.specs.declared.numbers.TheConstants.{SUCCESS};
-ghost use Rattle.lnfs_vault.specs.Lines.{IsLineOf};
-ghost use Rattle.lnfs_vault.specs.Requests.{seen_cause};
-ghost use Rattle.lnfs_vault.specs.Says.{Says};
-ghost use Rattle.lnfs_engine.specs.Runs.{denial_of};
-ghost use Rattle.lnfs_policy.specs.Policy.{dominance};
+ghost use Rattle.lnfs_operations.specs.Sizes.{Sizes, IsRead};
+ghost use Rattle.lnfs_gss3.specs.Contexts.{has_context};
+ghost use Rattle.lnfs_step.specs.Wrapping.{refusal_text, bare_text, Plain};
+ghost use Rattle.lnfs_step.specs.Request.{Run as run_task, MakeContext as make_task, EndContext as end_task, Asked as asked};
+ghost use Rattle.lnfs_step.specs.Contexts.{is_there};
+ghost use Rattle.lnfs_step.specs.Step.{step_with, step_of, done_for, line_of_cause};
 ghost use Rattle.lnfs_step.specs.Journal.{Holds};
-ghost use Rattle.lnfs_outside.specs.Moments.{Fits};
+ghost use Rattle.lnfs_vault.specs.Lines.{IsLineOf};
+ghost use Rattle.lnfs_vault.specs.Requests.{seen_cause, seen_wrapping, seen_context, seen_call, seen_task, IsTask, HasForm};
+ghost use Rattle.lnfs_vault.specs.Says.{Says};
 
 use crate::audit::AuditLine;
-use crate::request::{Asked, Cause, Run, request_of};
-use lnfs_engine::{Denial, Engine, Extra, room_of};
+use crate::lines::{line_of, line_of_cause};
+use crate::request::{Asked, Call, Cause, InContext, NewContext, Run, Task, Wrapping, request_of};
+use crate::wrapping::{bare, begin_results, end_results, refusal};
+use lnfs_engine::{Engine, Extra, Store, room_of};
+use lnfs_format::Codecs;
+use lnfs_gss3::numbers::RPCSEC_GSS_CTXPROBLEM;
+use lnfs_gss3::{ContextError, ContextHandle, Mechanism, put_create_results};
 use lnfs_lists::Octets;
-use lnfs_monitor::Rule;
-use lnfs_operations::Gate;
 use lnfs_outside::Event;
-use lnfs_policy::Policy;
-use lnfs_rpc::{Auth, Head, begin_reply, write_reply};
 use lnfs_site::Site;
-use lnfs_step::numbers::{AUTH_NONE, NFS_VERSION, PROG_MISMATCH, SUCCESS};
-use lnfs_xdr::XdrWriter;
+use lnfs_step::numbers::{GARBAGE_ARGS, SYSTEM_ERR};
 use std::alloc::{AllocError, Global};
 
 /// What a step says, before its event is in the journal.
@@ -35,196 +38,229 @@ pub struct Said {
     pub line: Option<AuditLine>,
 }
 
-/// The head of a reply of a call that was accepted, with the empty verifier.
-fn plainly(stat: u32) -> Head<'static>
-    ensures { seen_head result ≡ plainly stat }
-{
-    Head::Accepted {
-        verf: Auth {
-            flavor: AUTH_NONE,
-            body: &[],
-        },
-        stat,
-    }
-}
-
-/// The head of the reply of a call that is refused as a whole.
-fn head_of(cause: Cause) -> Head<'static>
-    ensures { seen_head result ≡ head_of (seen_cause cause) }
-{
-    match cause {
-        Cause::Caller { stat } => Head::AuthError { stat },
-        Cause::Called { stat } => plainly(stat),
-        Cause::Version => Head::VersionMismatch,
-    }
-}
-
-/// What is behind that head: after `PROG_MISMATCH` the lowest and the highest version.
-fn results_in(alloc: Global, cause: Cause) -> Result<Vec<u8>, AllocError>
-    ensures { IfOk result (λ bytes. bytes.items ≡ results_in (seen_cause cause)) }
-{
-    let mut out = XdrWriter::new(alloc);
-    if let Cause::Called {
-        stat: PROG_MISMATCH,
-    } = cause
-    {
-        out.u32(NFS_VERSION)?;
-        out.u32(NFS_VERSION)?;
-    }
-    Ok(out.into_bytes())
-}
-
-/// The letter and the status of the line of a call that is refused as a whole.
-fn letter_of_cause(cause: Cause) -> (&'static [u8; 1], u32)
-    ensures { record { place = 0; number = 0; gate = result.0.now; status = result.1 } ≡ line_of_cause (seen_cause cause) }
-{
-    match cause {
-        Cause::Caller { stat } => (b"C", stat),
-        Cause::Called { stat } => (b"P", stat),
-        Cause::Version => (b"V", 0),
-    }
+/// An event, and the place in the journal that it gets.
+#[derive(Clone, Copy)]
+pub struct Arrival<'a> {
+    pub at: u64,
+    pub event: &'a Event,
 }
 
 /// The reply and the line of a call that is refused as a whole.
-fn refuse(alloc: Global, at: u64, xid: u32, cause: Cause) -> Result<Said, AllocError>
-    ensures reply { IfOk result (λ said. said.reply ≡ Some (reply_text xid (head_of (seen_cause cause)) (results_in (seen_cause cause)))) }
+fn refuse<M: Mechanism>(
+    alloc: Global,
+    mechanism: &M,
+    at: u64,
+    xid: u32,
+    wrapping: &Wrapping<'_>,
+    cause: Cause,
+) -> Result<Said, AllocError>
+    ensures reply { IfOk result (λ said. said.reply ≡ Some (refusal_text M.signing (seen_wrapping wrapping.now) xid (seen_cause cause))) }
     ensures line { IfOk result (λ said. IsLineOf at (Some (line_of_cause (seen_cause cause))) said.line) }
 {
-    let results = results_in(alloc, cause)?;
-    let reply = write_reply(alloc, xid, &head_of(cause), &results)?;
-    let (gate, status) = letter_of_cause(cause);
+    let reply = refusal(alloc, mechanism, wrapping, xid, cause)?;
+    let line = line_of_cause(alloc, at, cause)?;
     Ok(Said {
-        reply: Some(Octets::new(reply)),
-        line: Some(AuditLine {
-            event: at,
-            place: 0,
-            number: 0,
-            gate: Octets::from_slice(alloc, gate)?,
-            status,
-        }),
+        reply: Some(reply),
+        line: Some(line),
     })
 }
 
 /// The reply of a NULL.
-fn nothing(alloc: Global, xid: u32) -> Result<Said, AllocError>
-    ensures { IfOk result (λ said. (said.reply ≡ Some (reply_text xid (plainly SUCCESS) [])) × (said.line ≡ None)) }
+fn nothing<M: Mechanism>(alloc: Global, mechanism: &M, xid: u32) -> Result<Said, AllocError>
+    ensures { IfOk result (λ said. (said.reply ≡ Some (bare_text M.signing Plain xid)) × (said.line ≡ None)) }
 {
-    let reply = write_reply(alloc, xid, &plainly(SUCCESS), &[])?;
+    let reply = bare(alloc, mechanism, &Wrapping::Plain, xid)?;
     Ok(Said {
-        reply: Some(Octets::new(reply)),
+        reply: Some(reply),
         line: None,
     })
 }
 
-fn rule_name(rule: Rule) -> &'static [u8]
-    ensures { result.now ≡ rule_name rule }
-{
-    match rule {
-        Rule::M1 => b"M1",
-        Rule::M2 => b"M2",
-        Rule::M3 => b"M3",
-        Rule::M4 => b"M4",
-        Rule::M5 => b"M5",
-        Rule::M6 => b"M6",
-        Rule::M7 => b"M7",
-        Rule::M8 => b"M8",
-        Rule::M9 => b"M9",
-    }
-}
-
-fn letter(gate: Gate) -> &'static [u8]
-    ensures { result.now ≡ letter gate }
-{
-    match gate {
-        Gate::Session => b"S",
-        Gate::Room => b"R",
-        Gate::Argument => b"A",
-        Gate::Outside => b"X",
-        Gate::Namespace => b"N",
-        Gate::Monitor(rule) => rule_name(rule),
-        Gate::Open => b"O",
-        Gate::Quota => b"Q",
-    }
-}
-
-/// The line of a COMPOUND, where one of its operations was refused, or it as a whole.
-fn line_of(alloc: Global, at: u64, denial: &Option<Denial>) -> Result<Option<AuditLine>, AllocError>
-    ensures { IfOk result (IsLineOf at (option_map line_of (option_map denial_of denial.now))) }
-{
-    let Some(denial) = denial else {
-        return Ok(None);
-    };
-    Ok(Some(AuditLine {
-        event: at,
-        place: denial.place,
-        number: denial.number,
-        gate: Octets::from_slice(alloc, letter(denial.gate))?,
-        status: denial.status,
-    }))
-}
-
-/// Runs the COMPOUND of an event, and answers it. Its result is built in the reply's buffer.
-fn compound<X: Extra>(
+/// Runs the COMPOUND of an event, and answers it. Its result is built in the reply's buffer, or in that of what is signed.
+fn run<X: Extra, M: Mechanism>(
     alloc: Global,
     site: &Site<'_>,
+    mechanism: &M,
     engine: &mut Engine<X>,
-    at: u64,
-    event: &Event,
+    arrival: Arrival<'_>,
+    call: &Call<'_>,
     run: &Run<'_>,
 ) -> Result<Said, AllocError>
-    requires event { Fits event.now }
-    requires tag { length run.now.compound.tag ≤ 1024 }
+    requires event { Fits arrival.event.now }
+    requires read { IsRead run.now.compound }
     requires few { length run.now.compound.ops ≤ 32 }
-    requires facts { BothStand X.extra.Fact (dominance site.now) (begins_at run.now.level.0 event.now.moment) (both engine.old.store (X.rows engine.old.extra)) }
+    requires facts { BothStand X.extra.Fact (dominance site.now) (begins_at call.now.level.0 arrival.event.now.moment) (both engine.old.store (X.rows engine.old.extra)) }
+    requires sizes { Sizes engine.old.store }
     ensures { IfOk result (λ said.
-        Says at (both engine.new.store (X.rows engine.new.extra)) (step_of X.extra site.now (both engine.old.store (X.rows engine.old.extra)) event.now (asked run.now.level.0 run.now.xid run.now.arguments.now run.now.compound)) said) }
+        Says arrival.entry.at (both engine.new.store (X.rows engine.new.extra)) (done_for X.extra M.signing site.now (both engine.old.store (X.rows engine.old.extra)) arrival.entry.event.now (seen_call call.now) (run_task run.now.arguments.now run.now.compound)) said) }
 {
-    let size = event.message.len() as u32;
+    site.policy().is_preordered();
+    let size = arrival.event.message.len() as u32;
     let room = room_of(&run.compound, &engine.extra);
-    let out = begin_reply(alloc, run.xid, &plainly(SUCCESS), room)?;
+    let out = begin_results(alloc, mechanism, &call.wrapping, call.xid, room)?;
     let ran = engine.run(
         site,
-        run.level,
-        event.moment,
+        call.level,
+        arrival.event.moment,
         size,
         run.arguments,
         &run.compound,
         out,
     )?;
-    let line = line_of(alloc, at, &ran.denial)?;
+    let line = line_of(alloc, arrival.at, &ran.denial)?;
+    let reply = end_results(alloc, mechanism, &call.wrapping, call.xid, ran.reply)?;
     Ok(Said {
-        reply: Some(Octets::new(ran.reply)),
+        reply: Some(reply),
         line,
     })
 }
 
-/// Makes the step of an event.
-#[tactic(auto, unfolding(lnfs_step::specs::Step::step_with))]
-pub fn say<X: Extra>(
+/// The bytes that are granted beside a label: a handle with its length, and seven words.
+const GRANTED: usize = 20 + 28;
+
+/// Makes a context, and answers its handle; or its level is full.
+fn make_context<X: Extra, M: Mechanism>(
     alloc: Global,
-    site: &Site<'_>,
+    mechanism: &M,
     engine: &mut Engine<X>,
     at: u64,
-    event: &Event,
+    call: &Call<'_>,
+    asked: &NewContext,
 ) -> Result<Said, AllocError>
-    requires event { Fits event.now }
+    requires { length asked.now.label ≤ MAX_SPELLING }
+    ensures { (p : any_policy) (event : any_event) → IfOk result (λ said.
+        Says at (both engine.new.store (X.rows engine.new.extra)) (done_for X.extra M.signing p (both engine.old.store (X.rows engine.old.extra)) event (seen_call call.now) (make_task asked.now.parent (record { lfs = asked.now.lfs; pi = asked.now.pi; label = asked.now.label }))) said) }
+{
+    let made = engine.store.make_context(call.level, asked.parent);
+    let number = match made {
+        Ok(number) => number,
+        Err(ContextError::Memory) => return Err(AllocError),
+        Err(ContextError::Full | ContextError::Unknown) => {
+            let cause = Cause::Called { stat: SYSTEM_ERR };
+            return refuse(alloc, mechanism, at, call.xid, &call.wrapping, cause);
+        }
+    };
+    let handle = ContextHandle {
+        parent: asked.parent,
+        level: call.level,
+        number,
+    };
+    let label = asked.label.as_slice();
+    let room = label.len().saturating_add(GRANTED);
+    let mut out = begin_results(alloc, mechanism, &call.wrapping, call.xid, room)?;
+    put_create_results(&mut out, &handle, asked.lfs, asked.pi, label)?;
+    let built = out.into_bytes();
+    let reply = end_results(alloc, mechanism, &call.wrapping, call.xid, built)?;
+    Ok(Said {
+        reply: Some(reply),
+        line: None,
+    })
+}
+
+/// Ends a context, which is there.
+fn end_context<X: Extra, M: Mechanism>(
+    alloc: Global,
+    mechanism: &M,
+    engine: &mut Engine<X>,
+    at: u64,
+    call: &Call<'_>,
+    context: InContext,
+) -> Result<Said, AllocError>
+    requires { has_context engine.old.store.contexts call.now.level.0 context.parent context.number ≡ true }
+    ensures { (p : any_policy) (event : any_event) → IfOk result (λ said.
+        Says at (both engine.new.store (X.rows engine.new.extra)) (done_for X.extra M.signing p (both engine.old.store (X.rows engine.old.extra)) event (seen_call call.now) (end_task context.number)) said) }
+{
+    let _there = engine
+        .store
+        .end_context(call.level, context.parent, context.number);
+    let reply = bare(alloc, mechanism, &call.wrapping, call.xid)?;
+    Ok(Said {
+        reply: Some(reply),
+        line: None,
+    })
+}
+
+/// Whether the context that a call comes in is there, if it comes in one.
+fn is_there(store: &Store, call: &Call<'_>) -> bool
+    ensures { result ≡ is_there store.now.contexts (seen_call call.now).level (seen_call call.now).context }
+{
+    match call.context {
+        Some(context) => store.has_context(call.level, context.parent, context.number),
+        None => true,
+    }
+}
+
+/// Answers a call of a level.
+fn answer<X: Extra, M: Mechanism>(
+    alloc: Global,
+    site: &Site<'_>,
+    mechanism: &M,
+    engine: &mut Engine<X>,
+    arrival: Arrival<'_>,
+    call: &Call<'_>,
+    task: &Task<'_>,
+) -> Result<Said, AllocError>
+    requires event { Fits arrival.event.now }
+    requires task { IsTask (seen_task task.now) }
+    requires form { HasForm call.now task.now }
     requires holds { Holds X.extra site.now (both engine.old.store (X.rows engine.old.extra)) }
+    requires sizes { Sizes engine.old.store }
     ensures { IfOk result (λ said.
-        Says at (both engine.new.store (X.rows engine.new.extra)) (step_with X.extra site.now (both engine.old.store (X.rows engine.old.extra)) event.now) said) }
+        Says arrival.entry.at (both engine.new.store (X.rows engine.new.extra)) (step_of X.extra M.signing site.now (both engine.old.store (X.rows engine.old.extra)) arrival.entry.event.now (asked (seen_call call.now) (seen_task task.now))) said) }
+{
+    let Arrival { at, .. } = arrival;
+    if !is_there(&engine.store, call) {
+        let cause = Cause::Caller {
+            stat: RPCSEC_GSS_CTXPROBLEM,
+        };
+        return refuse(alloc, mechanism, at, call.xid, &call.wrapping, cause);
+    }
+    match task {
+        Task::Garbled => {
+            let cause = Cause::Called { stat: GARBAGE_ARGS };
+            refuse(alloc, mechanism, at, call.xid, &call.wrapping, cause)
+        }
+        Task::Run(compound) => run(alloc, site, mechanism, engine, arrival, call, compound),
+        Task::MakeContext(asked) => make_context(alloc, mechanism, engine, at, call, asked),
+        Task::EndContext(context) => end_context(alloc, mechanism, engine, at, call, *context),
+    }
+}
+
+/// Makes the step of an event. The codecs read the labels that are asserted.
+#[tactic(auto, unfolding(lnfs_step::specs::Step::step_with))]
+pub fn say<X: Extra, M: Mechanism>(
+    alloc: Global,
+    site: &Site<'_>,
+    codecs: &Codecs,
+    mechanism: &M,
+    engine: &mut Engine<X>,
+    arrival: Arrival<'_>,
+) -> Result<Said, AllocError>
+    requires event { Fits arrival.event.now }
+    requires holds { Holds X.extra site.now (both engine.old.store (X.rows engine.old.extra)) }
+    requires sizes { Sizes engine.old.store }
+    ensures { IfOk result (λ said.
+        Says arrival.entry.at (both engine.new.store (X.rows engine.new.extra)) (step_with X.extra M.signing site.now (both engine.old.store (X.rows engine.old.extra)) arrival.entry.event.now) said) }
 {
     match request_of(
         alloc,
         site.policy(),
+        codecs,
+        mechanism,
         &engine.extra,
-        event.class,
-        event.message.as_slice(),
+        arrival.event.class,
+        arrival.event.message.as_slice(),
     )? {
         Asked::Silent => Ok(Said {
             reply: None,
             line: None,
         }),
-        Asked::Refused { xid, cause, .. } => refuse(alloc, at, xid, cause),
-        Asked::Nothing { xid } => nothing(alloc, xid),
-        Asked::Run(run) => compound(alloc, site, engine, at, event, &run),
+        Asked::Refused {
+            xid,
+            wrapping,
+            cause,
+        } => refuse(alloc, mechanism, arrival.at, xid, &wrapping, cause),
+        Asked::Nothing { xid } => nothing(alloc, mechanism, xid),
+        Asked::Asked(call, task) => answer(alloc, site, mechanism, engine, arrival, &call, &task),
     }
 }

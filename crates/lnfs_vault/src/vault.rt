@@ -13,6 +13,8 @@ ghost use Rattle.lnfs_operations.specs.InOrder.{sequence_before};
 ghost use Rattle.lnfs_site.specs.Site.{first_world};
 ghost use Rattle.lnfs_tree.specs.Rows.{rows_of};
 ghost use Rattle.lnfs_engine.specs.Stores.{only_tree};
+ghost use Rattle.lnfs_operations.specs.Sizes.{Sizes};
+ghost use Rattle.lnfs_step.specs.Request.{Call};
 ghost use Rattle.lnfs_step.specs.Step.{step_with};
 ghost use Rattle.lnfs_step.specs.Journal.{Holds, state_after, reply_with, line_with, answer_with};
 ghost use Rattle.lnfs_step.specs.Sessions.{ComesOnSlot, ComesToClient};
@@ -21,9 +23,10 @@ ghost use Rattle.lnfs_vault.specs.Retried.{IsRetried};
 ghost use Rattle.lnfs_vault.specs.Says.{SaysServed};
 
 use crate::audit::AuditLine;
-use crate::step::say;
+use crate::step::{Arrival, say};
 use lnfs_engine::{Engine, Extra, NoExtra};
 use lnfs_format::Codecs;
+use lnfs_gss3::Mechanism;
 use lnfs_lists::Octets;
 use lnfs_outside::Event;
 use lnfs_policy::Policy;
@@ -53,23 +56,27 @@ fn first_engine<X: Extra>(alloc: Global, site: &Site<'_>, extra: X) -> Result<En
 }
 
 /// Makes the step of an event, and puts it into the journal. The journal's place is reserved first.
-fn attempt<X: Extra>(
+fn attempt<X: Extra, M: Mechanism>(
     alloc: Global,
     site: &Site<'_>,
+    codecs: &Codecs,
+    mechanism: &M,
     engine: &mut Engine<X>,
     journal: &mut Vec<Event>,
     event: Event,
 ) -> Result<Served, AllocError>
     requires event { Fits event }
     requires holds { Holds X.extra site.now (both engine.old.store (X.rows engine.old.extra)) }
+    requires sizes { Sizes engine.old.store }
     ensures says { IfOk result (λ served.
-        SaysServed (length journal.old.items + 1) (both engine.new.store (X.rows engine.new.extra)) (step_with X.extra site.now (both engine.old.store (X.rows engine.old.extra)) event) served) }
+        SaysServed (length journal.old.items + 1) (both engine.new.store (X.rows engine.new.extra)) (step_with X.extra M.signing site.now (both engine.old.store (X.rows engine.old.extra)) event) served) }
     ensures ok { OnOk result (journal.new.items ≡ journal.old.items ++ event ∷ []) }
     ensures err { OnErr result (journal.new.items ≡ journal.old.items) }
 {
     journal.reserve(1)?;
     let at = journal.len() as u64 + 1;
-    let said = say(alloc, site, engine, at, &event)?;
+    let arrival = Arrival { at, event: &event };
+    let said = say(alloc, site, codecs, mechanism, engine, arrival)?;
     journal.push(event)?;
     Ok(Served {
         reply: said.reply,
@@ -78,12 +85,13 @@ fn attempt<X: Extra>(
     })
 }
 
-/// Serves events one at a time, with operations beside those of the table, and keeps the journal of all that
-/// it served.
+/// Serves events one at a time, under a mechanism of signatures and with operations beside those of the table, and keeps the
+/// journal of all that it served.
 #[derive(Drop)]
-pub struct VaultOf<X: Extra> {
+pub struct VaultOf<M: Mechanism + Drop, X: Extra> {
     alloc: Global,
     policy: Policy,
+    mechanism: M,
     labels: Labels,
     engine: Engine<X>,
     journal: Vec<Event>,
@@ -91,9 +99,9 @@ pub struct VaultOf<X: Extra> {
 }
 
 /// A vault with the operations of the table alone.
-pub type Vault = VaultOf<NoExtra>;
+pub type Vault<M> = VaultOf<M, NoExtra>;
 
-impl<X: Extra> Model for VaultOf<X> {
+impl<M: Mechanism + Drop, X: Extra> Model for VaultOf<M, X> {
     ghost use Rattle.std.specs.Prelude.{◌≡◌, false};
     ghost use Rattle.lnfs_world.specs.Both.{both};
     ghost use Rattle.lnfs_vault.specs.Kept.{Kept};
@@ -106,10 +114,10 @@ impl<X: Extra> Model for VaultOf<X> {
     ghost view = { λ v. record { policy = v.policy; journal = v.journal.items; stopped = v.stopped } };
 
     // the labels are the policy's, and what stands is the state after the journal
-    ghost invariant = { λ v. (v.labels ≡ spellings v.policy) × (v.stopped ≡ false → both v.engine.store (X.rows v.engine.extra) ≡ state_after X.extra v.policy v.journal.items) };
+    ghost invariant = { λ v. (v.labels ≡ spellings v.policy) × (v.stopped ≡ false → both v.engine.store (X.rows v.engine.extra) ≡ state_after X.extra M.signing v.policy v.journal.items) };
 }
 
-impl<X: Extra> VaultOf<X> {
+impl<M: Mechanism + Drop, X: Extra> VaultOf<M, X> {
     /// A vault of a site with further operations, that was given no event. The codecs write its labels.
     ///
     /// # Errors
@@ -119,8 +127,9 @@ impl<X: Extra> VaultOf<X> {
         alloc: Global,
         policy: Policy,
         codecs: &Codecs,
+        mechanism: M,
         extra: X,
-    ) -> Result<VaultOf<X>, AllocError>
+    ) -> Result<VaultOf<M, X>, AllocError>
         requires { X.rows extra ≡ [] }
         ensures { IfOk result (λ vault. vault ≡ record { policy = policy; journal = []; stopped = false }) }
     {
@@ -129,6 +138,7 @@ impl<X: Extra> VaultOf<X> {
         Ok(VaultOf {
             alloc,
             policy,
+            mechanism,
             labels,
             engine,
             journal: Vec::new(alloc),
@@ -150,32 +160,33 @@ impl<X: Extra> VaultOf<X> {
         &self.journal
     }
 
-    /// Serves an event: makes its step on the state after the journal, and adds it to the journal.
+    /// Serves an event: makes its step on the state after the journal, and adds it to the journal. The codecs read labels that
+    /// are asserted.
     ///
     /// Want of memory is the one error. It stops the vault: each later call answers it too, and changes
     /// nothing.
-    pub fn serve(&mut self, event: Event) -> Result<Served, AllocError>
+    pub fn serve(&mut self, codecs: &Codecs, event: Event) -> Result<Served, AllocError>
         requires { Fits event }
         // The reply and the line are those of the event's step on the state after the journal.
-        ensures reply { IfOk result (λ served. served.reply ≡ reply_with X.extra self.old.policy self.old.journal event) }
-        ensures line { IfOk result (λ served. IsLineOf (length self.old.journal + 1) (line_with X.extra self.old.policy self.old.journal event) served.line) }
+        ensures reply { IfOk result (λ served. served.reply ≡ reply_with X.extra M.signing self.old.policy self.old.journal event) }
+        ensures line { IfOk result (λ served. IsLineOf (length self.old.journal + 1) (line_with X.extra M.signing self.old.policy self.old.journal event) served.line) }
         // The reply is the one that its requester would get with every event outside its dominance
         // purged from the journal.
-        ensures answer { IfOk result (λ served. served.reply ≡ answer_with X.extra self.old.policy self.old.journal event) }
+        ensures answer { IfOk result (λ served. served.reply ≡ answer_with X.extra M.signing self.old.policy self.old.journal event) }
         // A COMPOUND that comes again on its slot, with the arguments that the slot keeps, gets the result of
         // the first time: what an event of the journal got (RFC 8881 section 2.10.6.1).
-        ensures retry { (level xid : ℕ) (arguments : List ℕ) (c : Compound) (args : Sequence) (x : Session) (slot : Slot) (first : List ℕ) →
-            ComesOnSlot X.extra self.old.policy self.old.journal event level xid arguments c args x slot →
+        ensures retry { (call : Call) (arguments : List ℕ) (c : Compound) (args : Sequence) (x : Session) (slot : Slot) (first : List ℕ) →
+            ComesOnSlot X.extra M.signing self.old.policy self.old.journal event call arguments c args x slot →
             slot ≡ record { sequence = args.sequence; kept = Some (record { arguments = arguments; reply = first }) } →
-            IfOk result (IsRetried X.extra self.old self.new level xid arguments first) }
+            IfOk result (IsRetried X.extra M.signing self.old self.new call arguments first) }
         // So does a CREATE_SESSION, with those that its client's record keeps (RFC 8881 section 18.36.4).
-        ensures created { (level xid : ℕ) (arguments : List ℕ) (c : Compound) (args : CreateSession) (client : Client) (first : List ℕ) →
-            ComesToClient X.extra self.old.policy self.old.journal event level xid arguments c args client →
+        ensures created { (call : Call) (arguments : List ℕ) (c : Compound) (args : CreateSession) (client : Client) (first : List ℕ) →
+            ComesToClient X.extra M.signing self.old.policy self.old.journal event call arguments c args client →
             args.sequence ≡ sequence_before client.sequence → client.kept ≡ Some (record { arguments = arguments; reply = first }) →
-            IfOk result (IsRetried X.extra self.old self.new level xid arguments first) }
+            IfOk result (IsRetried X.extra M.signing self.old self.new call arguments first) }
         // The reply to a COMPOUND on a slot has no more bytes than its session's responses.
-        ensures room { (level xid : ℕ) (arguments : List ℕ) (c : Compound) (args : Sequence) (x : Session) (slot : Slot) →
-            ComesOnSlot X.extra self.old.policy self.old.journal event level xid arguments c args x slot →
+        ensures room { (call : Call) (arguments : List ℕ) (c : Compound) (args : Sequence) (x : Session) (slot : Slot) →
+            ComesOnSlot X.extra M.signing self.old.policy self.old.journal event call arguments c args x slot →
             IfOk result (λ served. IfSome served.reply (λ reply. length reply ≤ x.channel.max_response)) }
         ensures short { IfOk result (λ served. IfSome served.reply (λ reply. length reply ≤ RECORD_LIMIT)) }
         ensures at { IfOk result (λ served. served.at ≡ length self.old.journal + 1) }
@@ -183,13 +194,13 @@ impl<X: Extra> VaultOf<X> {
         ensures stops { OnErr result (self.new ≡ record self.old { stopped = true }) }
         ensures stopped { self.old.stopped ≡ true → IsErr result }
         // What stands keeps the facts of every world, and that of the further operations.
-        ensures facts { Holds X.extra self.new.policy (state_after X.extra self.new.policy self.new.journal) }
+        ensures facts { Holds X.extra self.new.policy (state_after X.extra M.signing self.new.policy self.new.journal) }
         // Labels go up alone: a node that stands before and after has a label afterwards that dominates the
         // one that it had.
-        ensures labels { LabelsRise (dominance self.old.policy) (state_after X.extra self.old.policy self.old.journal).world (state_after X.extra self.new.policy self.new.journal).world }
+        ensures labels { LabelsRise (dominance self.old.policy) (state_after X.extra M.signing self.old.policy self.old.journal).world (state_after X.extra M.signing self.new.policy self.new.journal).world }
     {
-        purge::<X>();
-        sessions::<X>();
+        purge::<X, M>();
+        sessions::<X, M>();
         self.policy.is_preordered();
         if self.stopped {
             return Err(AllocError);
@@ -199,6 +210,8 @@ impl<X: Extra> VaultOf<X> {
         let served = attempt(
             self.alloc,
             &site,
+            codecs,
+            &self.mechanism,
             &mut self.engine,
             &mut self.journal,
             event,
@@ -208,15 +221,20 @@ impl<X: Extra> VaultOf<X> {
     }
 }
 
-impl VaultOf<NoExtra> {
+impl<M: Mechanism + Drop> VaultOf<M, NoExtra> {
     /// A vault of a site, that was given no event. The codecs write its labels.
     ///
     /// # Errors
     ///
     /// `AllocError` where there is no memory.
-    pub fn new(alloc: Global, policy: Policy, codecs: &Codecs) -> Result<Vault, AllocError>
+    pub fn new(
+        alloc: Global,
+        policy: Policy,
+        codecs: &Codecs,
+        mechanism: M,
+    ) -> Result<Vault<M>, AllocError>
         ensures { IfOk result (λ vault. vault ≡ record { policy = policy; journal = []; stopped = false }) }
     {
-        VaultOf::with_extra(alloc, policy, codecs, NoExtra)
+        VaultOf::with_extra(alloc, policy, codecs, mechanism, NoExtra)
     }
 }

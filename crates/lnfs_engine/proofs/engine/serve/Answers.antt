@@ -9,7 +9,7 @@ use Rattle.lnfs_engine.specs.Places.{place_of, keeper_of, Stands}
 use Rattle.lnfs_engine.specs.Performs.{site_in, sent_of}
 use Rattle.lnfs_engine.specs.Runs.{denial_of, status_due, EndsBy}
 use Rattle.lnfs_files.specs.Worlds.{with_opens}
-use Rattle.lnfs_engine.specs.Stores.{only_tree}
+use Rattle.lnfs_engine.specs.Stores.{beside}
 use Rattle.lnfs_engine.proofs.Serving.{head_long, denied_is, behind_mark, ran, result, served_result, served_denial, served_state}
 use Rattle.lnfs_engine.proofs.engine.serve.Goals as goal
 
@@ -53,7 +53,7 @@ returns g c =
     let next = c.run_all.new.keeper in
     let q = place_of c.run_all.new.place in
     let w = c.run_all.new.store in
-    let keeps = c.in_ok-keep.ensures q (with_opens (only_tree c.store.inside.tree) c.store.inside.opens) (subst (λ (v : World). Stands q v.sessions next) (sym c.store.view_is) c.in_ok-ended.ensures.stands) in
+    let keeps = c.in_ok-keep.ensures q (with_opens (beside c.store.inside.tree c.store.inside.contexts) c.store.inside.opens) (subst (λ (v : World). Stands q v.sessions next) (sym c.store.view_is) c.in_ok-ended.ensures.stands) in
     record {
       result = text ∙ ap (λ x. c.args.out ++ x) (served_result X (site_in r) (sent_of r) k p b);
       denied = ap (λ d. option_map denial_of d) c.denied.ensures ∙ denied_is r.begin (c.args.out ++ head_text 0 k.tag 0) c.run_all.new.out (status_due k run.results) run.results run.denial run.again c.in_ok-ended.ended by ∙ served_denial X (site_in r) (sent_of r) k p b;

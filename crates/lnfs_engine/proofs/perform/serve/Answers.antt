@@ -22,7 +22,7 @@ use Rattle.lnfs_engine.specs.Behind.{OpensBehind}
 use Rattle.lnfs_engine.specs.Places.{place_of, Stands, Starts, HasToBeFirst, IsOnNodes}
 use Rattle.lnfs_engine.specs.Performs.{site_in, sent_of, turn, Performs}
 use Rattle.lnfs_files.specs.Worlds.{with_opens}
-use Rattle.lnfs_engine.specs.Stores.{only_tree, stored}
+use Rattle.lnfs_engine.specs.Stores.{beside, stored}
 use Rattle.lnfs_engine.proofs.Telling.{told, told_first, told_refused}
 use Rattle.lnfs_engine.proofs.Staying.{stays}
 use Rattle.lnfs_engine.proofs.perform.serve.Goals as goal
@@ -36,19 +36,19 @@ returns-in_ok-answer-in-ExchangeId-clause-performs c =
     let is : c.args.op.now ≡ same = x.is ∙ ap (λ owner. ops.ExchangeId x.verifier owner x.flags x.implementation) (sym c.as_slice.ensures) in
     let answer = c.in_ok-answer-in-ExchangeId in
     told_first r.begin c.args.out.now c.say.new.out c.args.keeper.now (site_in r) (sent_of r) c.args.op.now same p answer.answer is c.say.result c.say.ensures
-    c.args.store.now c.store.inside.clients c.exchange_id.new.clients c.store.inside.tree c.store.inside.opens c.store.view_is
+    c.args.store.now c.store.inside.clients c.exchange_id.new.clients c.store.inside.tree c.store.inside.opens c.store.inside.contexts c.store.view_is
     (subst (λ o. HasToBeFirst o → Starts p c.args.keeper.now) x.is c.requires.first tt)
-    (answer.ensures.acts (site_in r) (sent_of r) x.implementation p.moment (with_opens (only_tree c.store.inside.tree) c.store.inside.opens) (subst (λ (w : World). OpensBehind w.clients w.opens) (sym c.store.view_is) c.requires.opens))
+    (answer.ensures.acts (site_in r) (sent_of r) x.implementation p.moment (with_opens (beside c.store.inside.tree c.store.inside.contexts) c.store.inside.opens) (subst (λ (w : World). OpensBehind w.clients w.opens) (sym c.store.view_is) c.requires.opens))
 
 pub returns-in-CreateSession-clause-performs : goal.returns-in-CreateSession-clause-performs
 returns-in-CreateSession-clause-performs c =
     let r = c.args.request.now in
     let p = place_of c.args.place.now in
     let tree = c.store.inside.tree in
-    let after = stored c.create_session.new.clients tree c.create_session.new.opens in
+    let after = stored c.create_session.new.clients tree c.create_session.new.opens c.store.inside.contexts in
     let Goal : World → Came → Type 0 = λ w came. Performs r.begin c.args.out.now c.create_session.new.out c.args.keeper.now c.create_session.new.keeper p after (turn (site_in r) (sent_of r) c.args.op.now p w) came in
     IfOk-weaker c.create_session.result _ (Goal c.args.store.now)
-    (λ came did. subst (λ w. Goal w came) c.store.view_is (did (only_tree tree)))
+    (λ came did. subst (λ w. Goal w came) c.store.view_is (did (beside tree c.store.inside.contexts)))
     c.create_session.ensures.performs
 
 pub returns-in_ok-answer-in-DestroySession-clause-performs : goal.returns-in_ok-answer-in-DestroySession-clause-performs
@@ -58,9 +58,9 @@ returns-in_ok-answer-in-DestroySession-clause-performs c =
     let x = c.in-DestroySession in
     let answer = c.in_ok-answer-in-DestroySession in
     told_first r.begin c.args.out.now c.say-in-DestroySession.new.out c.args.keeper.now (site_in r) (sent_of r) c.args.op.now (ops.DestroySession x.session) p answer.answer x.is c.say-in-DestroySession.result c.say-in-DestroySession.ensures
-    c.args.store.now c.store.inside.clients c.destroy_session.new.clients c.store.inside.tree c.store.inside.opens c.store.view_is
+    c.args.store.now c.store.inside.clients c.destroy_session.new.clients c.store.inside.tree c.store.inside.opens c.store.inside.contexts c.store.view_is
     (subst (λ o. HasToBeFirst o → Starts p c.args.keeper.now) x.is c.requires.first tt)
-    (answer.ensures.acts (site_in r) (sent_of r) p.moment (with_opens (only_tree c.store.inside.tree) c.store.inside.opens))
+    (answer.ensures.acts (site_in r) (sent_of r) p.moment (with_opens (beside c.store.inside.tree c.store.inside.contexts) c.store.inside.opens))
 
 pub returns-in-Sequence-clause-performs : goal.returns-in-Sequence-clause-performs
 returns-in-Sequence-clause-performs c =
@@ -69,7 +69,7 @@ returns-in-Sequence-clause-performs c =
     let tree = c.store.inside.tree in
     let Goal : World → Came → Type 0 = λ w came. Performs r.begin c.args.out.now c.sequence.new.out c.args.keeper.now c.sequence.new.keeper (place_of c.sequence.new.place) w (turn (site_in r) (sent_of r) c.args.op.now p w) came in
     IfOk-weaker c.sequence.result _ (Goal c.args.store.now)
-    (λ came did. subst (λ w. Goal w came) c.store.view_is (did (with_opens (only_tree tree) c.store.inside.opens)))
+    (λ came did. subst (λ w. Goal w came) c.store.view_is (did (with_opens (beside tree c.store.inside.contexts) c.store.inside.opens)))
     c.sequence.ensures.performs
 
 pub returns-in_ok-answer-in-DestroyClientId-clause-performs : goal.returns-in_ok-answer-in-DestroyClientId-clause-performs
@@ -79,9 +79,9 @@ returns-in_ok-answer-in-DestroyClientId-clause-performs c =
     let x = c.in-DestroyClientId in
     let answer = c.in_ok-answer-in-DestroyClientId in
     told_first r.begin c.args.out.now c.say-in-DestroyClientId.new.out c.args.keeper.now (site_in r) (sent_of r) c.args.op.now (ops.DestroyClientId x.client) p answer.answer x.is c.say-in-DestroyClientId.result c.say-in-DestroyClientId.ensures
-    c.args.store.now c.store.inside.clients c.destroy_clientid.new.clients c.store.inside.tree c.store.inside.opens c.store.view_is
+    c.args.store.now c.store.inside.clients c.destroy_clientid.new.clients c.store.inside.tree c.store.inside.opens c.store.inside.contexts c.store.view_is
     (subst (λ o. HasToBeFirst o → Starts p c.args.keeper.now) x.is c.requires.first tt)
-    (answer.ensures.acts (site_in r) (sent_of r) p.moment (with_opens (only_tree c.store.inside.tree) c.store.inside.opens) refl)
+    (answer.ensures.acts (site_in r) (sent_of r) p.moment (with_opens (beside c.store.inside.tree c.store.inside.contexts) c.store.inside.opens) refl)
 
 pub returns-in_ok-answer-in-ReclaimComplete-clause-performs : goal.returns-in_ok-answer-in-ReclaimComplete-clause-performs
 returns-in_ok-answer-in-ReclaimComplete-clause-performs c =
@@ -90,8 +90,8 @@ returns-in_ok-answer-in-ReclaimComplete-clause-performs c =
     let x = c.in-ReclaimComplete in
     let answer = c.in_ok-answer-in-ReclaimComplete in
     told r.begin c.args.out.now c.say-in-ReclaimComplete.new.out c.args.keeper.now (site_in r) (sent_of r) c.args.op.now (ops.ReclaimComplete x.one_fs) p answer.answer x.is c.say-in-ReclaimComplete.result c.say-in-ReclaimComplete.ensures
-    c.args.store.now c.store.inside.clients c.reclaim_in.new.clients c.store.inside.tree c.store.inside.opens c.store.view_is
-    (answer.ensures.acts (site_in r) (sent_of r) (with_opens (only_tree c.store.inside.tree) c.store.inside.opens))
+    c.args.store.now c.store.inside.clients c.reclaim_in.new.clients c.store.inside.tree c.store.inside.opens c.store.inside.contexts c.store.view_is
+    (answer.ensures.acts (site_in r) (sent_of r) (with_opens (beside c.store.inside.tree c.store.inside.contexts) c.store.inside.opens))
 
 -- the others are on nodes
 record IsOther (op : Op) : Type 0 where
@@ -157,10 +157,10 @@ returns-in-Create-clause-performs c =
     let p = place_of c.args.place.now in
     let q = place_of c.on_names.new.place in
     let clients = c.store.inside.clients in
-    let after = stored clients c.on_names.new.tree c.on_names.new.opens in
+    let after = stored clients c.on_names.new.tree c.on_names.new.opens c.store.inside.contexts in
     let Goal : World → Came → Type 0 = λ w came. Performs r.begin c.args.out.now c.on_names.new.out here here q after (turn (site_in r) (sent_of r) c.args.op.now p w) came in
     IfOk-weaker c.on_names.result _ (Goal c.args.store.now)
-    (λ came did. subst (λ w. Goal w came) c.store.view_is (did here (stored clients c.store.inside.tree c.store.inside.opens)))
+    (λ came did. subst (λ w. Goal w came) c.store.view_is (did here (stored clients c.store.inside.tree c.store.inside.opens c.store.inside.contexts)))
     c.on_names.ensures.performs
 
 pub on_files-requires-clause-opens : goal.on_files-requires-clause-opens
@@ -173,10 +173,10 @@ returns-in-Open-clause-performs c =
     let p = place_of c.args.place.now in
     let q = place_of c.on_files.new.place in
     let clients = c.store.inside.clients in
-    let after = stored clients c.on_files.new.tree c.on_files.new.opens in
+    let after = stored clients c.on_files.new.tree c.on_files.new.opens c.store.inside.contexts in
     let Goal : World → Came → Type 0 = λ w came. Performs r.begin c.args.out.now c.on_files.new.out here here q after (turn (site_in r) (sent_of r) c.args.op.now p w) came in
     IfOk-weaker c.on_files.result _ (Goal c.args.store.now)
-    (λ came did. subst (λ w. Goal w came) c.store.view_is (did here (stored clients c.store.inside.tree c.store.inside.opens)))
+    (λ came did. subst (λ w. Goal w came) c.store.view_is (did here (stored clients c.store.inside.tree c.store.inside.opens c.store.inside.contexts)))
     c.on_files.ensures.performs
 
 pub on_nodes-requires-clause-own : goal.on_nodes-requires-clause-own
@@ -210,12 +210,12 @@ returns-in_default c =
     let p = place_of c.args.place.now in
     let q = place_of c.on_nodes.new.place in
     let clients = c.store.inside.clients in
-    let after = stored clients c.on_nodes.new.tree c.store.inside.opens in
+    let after = stored clients c.on_nodes.new.tree c.store.inside.opens c.store.inside.contexts in
     let sessions = c.args.store.now.sessions in
     let Goal : World → Came → Type 0 = λ w came. Performs r.begin c.args.out.now c.on_nodes.new.out here here q after (turn (site_in r) (sent_of r) c.args.op.now p w) came in
     record {
       performs = IfOk-weaker c.on_nodes.result _ (Goal c.args.store.now)
-          (λ came did. subst (λ w. Goal w came) c.store.view_is (did here (stored clients c.store.inside.tree c.store.inside.opens)))
+          (λ came did. subst (λ w. Goal w came) c.store.view_is (did here (stored clients c.store.inside.tree c.store.inside.opens c.store.inside.contexts)))
           c.on_nodes.ensures.performs;
       stands = IfOk-weaker c.on_nodes.result _ (λ (came : Came). Stands q after.sessions here)
           (λ came moved. stays p q sessions after.sessions here (ap (λ (w : World). w.sessions) c.store.view_is) moved c.requires.stands)

@@ -20,5 +20,5 @@ returns-in_err-put-clause-does g c =
 pub returns-clause-does : goal.returns-clause-does
 returns-clause-does g c =
     let first = does_out (g.A.Sink.taken c.args.audit.now) (c.deref.ensures.value ∙ c.in_ok-bytes.ensures ∙ ap framed c.in_ok-served.ensures.answer) c.in_ok-put.ensures.bytes in
-    let line = audit_is_line _ _ _ _ c.in_ok-served.ensures.line in
+    let line = audit_is_line _ _ _ _ _ c.in_ok-served.ensures.line in
     does_then _ _ first.done (does_line (c.deref-2.ensures.value ∙ c.in_ok-line.ensures ∙ ap (λ l. unwrap_or l []) line) c.put_line.ensures.does)

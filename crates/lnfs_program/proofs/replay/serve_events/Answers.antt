@@ -21,7 +21,7 @@ pub loop-vault-init : goal.loop-vault-init
 loop-vault-init g c =
     let e = c.in_ok-vault.ensures in
     let begun = streams (g.K.Sink.taken c.args.out.now) (g.A.Sink.taken c.args.audit.now) in
-    let writes : List Event → List Write = λ journal. writes_after (answer c.args.policy) (audit_at c.args.policy) journal (parts_of c.args.bytes.now).events in (
+    let writes : List Event → List Write = λ journal. writes_after (answer g.M.Mechanism.signing c.args.policy) (audit_at g.M.Mechanism.signing c.args.policy) journal (parts_of c.args.bytes.now).events in (
       record { part = []; parts = ap writes (sym (ap (λ (v : Kept). v.journal) e)); takes = takes_none begun },
       ap (λ (v : Kept). v.policy) e,
       refl,
@@ -36,7 +36,7 @@ pub returns-in_err-serve_event-clause-does : goal.returns-in_err-serve_event-cla
 returns-in_err-serve_event-clause-does g c =
     let s = rw c.in-Some.is at c.in_ok-event.ensures in
     let e = rw c.loop-vault.invariant.1 at c.serve_event.ensures.does in
-    record { begun = writes_stop (answer c.args.policy) (audit_at c.args.policy) _ _ c.loop-vault.invariant.0 _ _ s e.begun; done = search rules }
+    record { begun = writes_stop (answer g.M.Mechanism.signing c.args.policy) (audit_at g.M.Mechanism.signing c.args.policy) _ _ c.loop-vault.invariant.0 _ _ s e.begun; done = search rules }
 
 pub returns-in_err-serve_event-clause-cause : goal.returns-in_err-serve_event-clause-cause
 returns-in_err-serve_event-clause-cause g c = writes_behind c.in_err-serve_event.field-0.0 (search rules) c.loop-vault.invariant.4 c.in_err-serve_event.ensures.cause
@@ -54,7 +54,7 @@ loop-vault-preserved g c =
     let d = rw c.loop-vault.invariant.1 at e.does in
     let n = c.loop-vault.invariant.4 in
     rw e.state (
-      writes_on (answer c.args.policy) (audit_at c.args.policy) _ _ c.loop-vault.invariant.0 _ _ s d.done,
+      writes_on (answer g.M.Mechanism.signing c.args.policy) (audit_at g.M.Mechanism.signing c.args.policy) _ _ c.loop-vault.invariant.0 _ _ s d.done,
       c.loop-vault.invariant.1,
       c.loop-vault.invariant.2 ∙ ap (λ (p : Parts). p.rest) (parts_some _ _ _ s),
       omega (arith, left_length t.left),
@@ -62,7 +62,7 @@ loop-vault-preserved g c =
     )
 
 pub returns-clause-does : goal.returns-clause-does
-returns-clause-does g c = writes_end (answer c.args.policy) (audit_at c.args.policy) _ _ c.loop-vault.invariant.0 (rw c.in_default.is at c.in_ok-event.ensures)
+returns-clause-does g c = writes_end (answer g.M.Mechanism.signing c.args.policy) (audit_at g.M.Mechanism.signing c.args.policy) _ _ c.loop-vault.invariant.0 (rw c.in_default.is at c.in_ok-event.ensures)
 
 pub returns-clause-left : goal.returns-clause-left
 returns-clause-left g c =

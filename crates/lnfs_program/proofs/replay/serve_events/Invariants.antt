@@ -10,8 +10,8 @@ use Rattle.lnfs_program.proofs.replay.serve_events.Given as goal
 abbrev pub invariant-loop-vault : goal.invariant-loop-vault
 invariant-loop-vault g l =
     TakesBefore (streams (g.K.Sink.taken l.initial.out) (g.A.Sink.taken l.initial.audit)) (streams (g.K.Sink.taken l.out) (g.A.Sink.taken l.audit))
-    (writes_after (answer l.fn.policy) (audit_at l.fn.policy) [] (parts_of l.bytes).events)
-    (writes_after (answer l.fn.policy) (audit_at l.fn.policy) l.vault.journal (parts_of l.rest).events)
+    (writes_after (answer g.M.Mechanism.signing l.fn.policy) (audit_at g.M.Mechanism.signing l.fn.policy) [] (parts_of l.bytes).events)
+    (writes_after (answer g.M.Mechanism.signing l.fn.policy) (audit_at g.M.Mechanism.signing l.fn.policy) l.vault.journal (parts_of l.rest).events)
     × (l.vault.policy ≡ l.fn.policy)
     × ((parts_of l.bytes).rest ≡ (parts_of l.rest).rest)
     × (length l.rest ≤ length l.bytes)

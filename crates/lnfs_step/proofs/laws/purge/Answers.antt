@@ -7,12 +7,13 @@ pub returns : goal.returns
 returns g c =
     let X = g.X.ExtraRows.extra in
     let owed = g.X.ExtraRows.lawful in
+    let m = g.M.Mechanism.signing in
     record {
-      replies = λ p lattice journal event. reply_is_answer X owed p lattice journal event;
-      seen = λ p lattice level s event a b. seen X owed p lattice level s event a b;
-      unseen = λ p lattice level event a. unseen X owed p lattice level event a;
-      facts = λ p lattice journal. holds_after X owed p lattice journal;
-      sizes = λ p lattice journal. sizes_after X owed p lattice journal;
-      labels = λ p lattice journal event. labels_after X owed p lattice journal event;
-      short = λ p lattice journal event. reply_short X owed p lattice journal event;
+      replies = λ p lattice journal event. reply_is_answer X owed m p lattice journal event;
+      seen = λ p lattice level s event a b. seen X owed m p lattice level s event a b;
+      unseen = λ p lattice level event a. unseen X owed m p lattice level event a;
+      facts = λ p lattice journal. holds_after X owed m p lattice journal;
+      sizes = λ p lattice journal. sizes_after X owed m p lattice journal;
+      labels = λ p lattice journal event. labels_after X owed m p lattice journal event;
+      short = λ p lattice journal event. reply_short X owed m p lattice g.M.Mechanism.sized journal event;
     }

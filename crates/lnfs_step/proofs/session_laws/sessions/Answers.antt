@@ -3,11 +3,11 @@ use Rattle.lnfs_step.proofs.Origins.{slot_origin, created_origin}
 use Rattle.lnfs_step.proofs.session_laws.sessions.Goals as goal
 
 pub returns : goal.returns
-returns g c = let X = g.X.ExtraRows.extra in let owed = g.X.ExtraRows.lawful in record {
-  retry = λ p journal event level xid arguments compound args x slot result comes same. retry_answered X p journal event level xid arguments compound args x slot result comes same;
-  created = λ p journal event level xid arguments compound args client result comes last kept. created_answered X p journal event level xid arguments compound args client result comes last kept;
-  once = λ p lattice journal event again level xid other arguments compound args x slot comes next asked size. once_answered X owed p lattice journal event again level xid other arguments compound args x slot comes next asked size;
-  origin = λ p lattice journal i x n slot kept there at is. slot_origin X owed p lattice journal i x n slot kept there at is;
-  origin_created = λ p lattice journal i client kept there is. created_origin X owed p lattice journal i client kept there is;
-  room = λ p lattice journal event level xid arguments compound args x slot comes. room_left X owed p lattice journal event level xid arguments compound args x slot comes;
+returns g c = let X = g.X.ExtraRows.extra in let owed = g.X.ExtraRows.lawful in let m = g.M.Mechanism.signing in record {
+  retry = λ p journal event call arguments compound args x slot result comes same. retry_answered X m p journal event call arguments compound args x slot result comes same;
+  created = λ p journal event call arguments compound args client result comes last kept. created_answered X m p journal event call arguments compound args client result comes last kept;
+  once = λ p lattice journal event again call other arguments compound args x slot comes next asks own size. once_answered X owed m p lattice journal event again call other arguments compound args x slot comes next asks own size;
+  origin = λ p lattice journal i x n slot kept there at is. slot_origin X owed m p lattice journal i x n slot kept there at is;
+  origin_created = λ p lattice journal i client kept there is. created_origin X owed m p lattice journal i client kept there is;
+  room = λ p lattice journal event call arguments compound args x slot comes. room_left X owed m p lattice journal g.M.Mechanism.sized event call arguments compound args x slot comes;
 }
