@@ -1,7 +1,8 @@
 -- Moments and records within their bounds.
-use Rattle.std.specs.Prelude.{ℕ, Bool, ◌≤◌, ◌<◌, ◌&&◌, nat_le, nat_lt, length}
+use Rattle.std.specs.Prelude.{◌≡◌, ℕ, Bool, true, ◌≤◌, ◌<◌, ◌&&◌, nat_le, nat_lt, List, length, Contains}
 use Rattle.lnfs_lists.specs.declared.limits.TheConstants.{RECORD_LIMIT}
 use Rattle.lnfs_outside.specs.declared.event.Event.{Event}
+use Rattle.lnfs_outside.specs.declared.event.Moment.{Moment}
 
 -- an nfstime4 that isn't before 1970: its seconds fit int64_t, and its nanoseconds are below a second (RFC 8881 section 3.3.1)
 abbrev pub is_moment : ℕ → ℕ → Bool
@@ -12,3 +13,10 @@ pub record Fits (e : Event) : Type 0 where
   pub short : length e.message ≤ RECORD_LIMIT
   pub secs : e.moment.secs ≤ 9223372036854775807
   pub nanos : e.moment.nanos < 1000000000
+
+-- a clock over this list may give its moments, each within its bounds
+abbrev pub MayGive : List Moment → Moment → Type 0
+MayGive moments m = Contains moments m × (is_moment m.secs m.nanos ≡ true)
+
+pub given_valid : (moments : List Moment) (m : Moment) → MayGive moments m → is_moment m.secs m.nanos ≡ true
+given_valid moments m may = may.1
