@@ -2,7 +2,7 @@
 pub mod Writing
 pub mod Serving
 pub mod Lines
-pub mod Forms
 pub mod Judging
 pub mod Performing
 pub mod Playing
+pub mod Summing

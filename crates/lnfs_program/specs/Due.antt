@@ -17,7 +17,9 @@ use Rattle.lnfs_program.specs.declared.status.Status.TheVariants as status
 use Rattle.lnfs_program.specs.declared.status.MapCause.TheVariants as cause
 use Rattle.lnfs_program.specs.Ending.{fault_line}
 use Rattle.lnfs_traffic.specs.Parts.{recorded, is_recording, place_of}
-use Rattle.lnfs_program.specs.Words.{Task, check, replay, translate, Form, help, version, under, help_text, version_text}
+use Rattle.lnfs_program.specs.Words.{Task, check, replay, translate, generate, Form, help, version, under, help_text, version_text}
+use Rattle.lnfs_traffic.specs.Generated.{generated}
+use Rattle.lnfs_program.specs.Summary.{summary}
 use Rattle.lnfs_program.specs.Writes.{Write, to_out, to_audit, writes_after}
 
 -- what is due: what is written, but for the ending's line, and the ending
@@ -67,10 +69,15 @@ abbrev pub spelled : Result (List ℕ) MapError → Due
 spelled (Ok bytes) = shown (encode_lower bytes ++ 10 ∷ [])
 spelled (Err error) = only (no_translation error)
 
+-- what generated events come to
+abbrev pub generation_due : Signing → Policy → (seed count : ℕ) → Due
+generation_due m policy seed count = shown (summary m policy (generated policy seed count))
+
 -- a task under a policy
 abbrev pub due_under : Policy → Task → Option (List ℕ) → Due
 due_under policy check file = shown policy.text
 due_under policy (replay traffic) file = enforced policy.mode (given file traffic (replayed keyed_digest policy))
+due_under policy (generate seed count) file = enforced policy.mode (generation_due keyed_digest policy seed count)
 due_under policy (translate source target bytes) file = spelled (translated policy.formats policy.labels source target bytes)
 
 unfoldable pub due : Option Form → Option (List ℕ) → Option (List ℕ) → Due

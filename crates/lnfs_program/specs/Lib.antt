@@ -8,3 +8,4 @@ pub mod Writes
 pub mod Ending
 pub mod Due
 pub mod Runs
+pub mod Summary

@@ -42,6 +42,7 @@ mod status;
 #[cfg(test)]
 mod stories;
 mod streams;
+mod summary;
 #[cfg(test)]
 mod tests;
 mod texts;

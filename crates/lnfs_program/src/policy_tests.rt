@@ -62,6 +62,41 @@ translate no 101 1 00 102 1 | 9 | | fault 9 no file no
 translate level 101 1 00 102 1 | 3 | | fault 3 policy line 4 cause Level
 ";
 
+/// Generated events. The files `one` and `thousand` have what is due for the seed 7, and `twenty` for the seed 0: the digests were
+/// made of the replies to recordings of these events, which another generator wrote.
+const GENERATED: &str = "
+generate p 7 1 | 0 | = one
+generate p 0 20 | 0 | = twenty
+generate p 7 1000 | 0 | = thousand
+generate p 7 0 | 2 | | fault 2 usage
+generate p 7 01 | 2 | | fault 2 usage
+generate p 7 100001 | 2 | | fault 2 usage
+generate p 18446744073709551616 1 | 2 | | fault 2 usage
+generate p -1 1 | 2 | | fault 2 usage
+generate p 7 | 2 | | fault 2 usage
+generate p 7 1 1 | 2 | | fault 2 usage
+generate limited 7 1 | 2 | | fault 2 usage
+generate no 7 1 | 9 | | fault 9 no file no
+generate level 7 1 | 3 | | fault 3 policy line 4 cause Level
+generate p 7 1 ! out 1 | 6 |
+";
+
+/// What generated events come to.
+const SUMMARIES: [(&str, &str); 3] = [
+    (
+        "one",
+        "events 1\nreplies 1\nfailed 0\ndigest d374000e787e39873adaff85ca479f647a10666541df353ad28a098a68bf1204\n",
+    ),
+    (
+        "twenty",
+        "events 20\nreplies 20\nfailed 10\ndigest 1a6d491da9ea7acc7bdcb00f4f05bdfa0a63ac3d2583259350f06c9cd877bd4d\n",
+    ),
+    (
+        "thousand",
+        "events 1000\nreplies 1000\nfailed 571\ndigest 9f5e3a67cc2aaff3fe91ce3f1012ecbb4cf20224e249ffe9deb9cf6607be369e\n",
+    ),
+];
+
 /// The file `two` has an event that is answered and one that is denied, and `none` has no event. The
 /// policy is opened before the recording: of two calls that can't go well, the first is told.
 const FAULTS: &str = "
@@ -100,6 +135,9 @@ fn policies(alloc: Global) -> Result<Vec<MemFile>, AllocError> {
     files.push(file(alloc, "p", POLICY.as_bytes())?)?;
     files.push(file(alloc, "q", BAD_POLICY)?)?;
     files.push(file(alloc, "none", b"LNFSTRC1")?)?;
+    for (name, text) in SUMMARIES {
+        files.push(file(alloc, name, text.as_bytes())?)?;
+    }
     for (name, from, to) in OTHERS {
         let text = POLICY.replace(alloc, from, to)?;
         files.push(file(alloc, name, text.as_bytes())?)?;
@@ -220,7 +258,8 @@ fn check(rt: &impl Abort, alloc: Global, table: &str, count: usize) -> Result<()
 fn command_lines(rt: HostRuntime) -> Result<(), AllocError> {
     check(&rt, rt.alloc(), WORDS, 21)?;
     check(&rt, rt.alloc(), CHECKS, 9)?;
-    check(&rt, rt.alloc(), LABELS, 11)
+    check(&rt, rt.alloc(), LABELS, 11)?;
+    check(&rt, rt.alloc(), GENERATED, 14)
 }
 
 #[test]

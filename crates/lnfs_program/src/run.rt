@@ -51,6 +51,16 @@ fn judge<F: Files, K: Sink, A: Sink>(
             };
             under(alloc, codecs, policy, task, files, out, audit)
         }
+        Some(
+            Command::Generate {
+                policy,
+                seed,
+                count,
+            },
+        ) => {
+            let task = Task::Generate { seed, count };
+            under(alloc, codecs, policy, task, files, out, audit)
+        }
     }
 }
 

@@ -1,8 +1,12 @@
 //! What is done under a policy.
-ghost use Rattle.std.specs.Prelude.{◌≡◌, IfOk, IfErr, OnOk, Some, MatchOption};
+ghost use Rattle.std.specs.Prelude.{◌≡◌, ◌≤◌, ℕ, List, IfOk, IfErr, OnOk, Some, MatchOption};
+ghost use Rattle.std.specs.declared.option.Option.{Option};
+ghost use Rattle.lnfs_gss3.specs.Mechanism.{keyed_digest};
+ghost use Rattle.lnfs_outside.specs.Causes.{Rose};
+ghost use Rattle.lnfs_program.specs.Due.{enforced, generation_due};
 ghost use Rattle.lnfs_program.specs.Ending.{told_by};
 ghost use Rattle.lnfs_program.specs.Refusals.{refusal_of};
-ghost use Rattle.lnfs_program.specs.Runs.{Gives, Judges, Performs};
+ghost use Rattle.lnfs_program.specs.Runs.{Gives, IsExcused, Judges, Performs, Plays};
 ghost use Rattle.lnfs_program.specs.Streams.{counts, streams};
 ghost use Rattle.lnfs_program.specs.Tasks.{task_of};
 ghost use Rattle.lnfs_program.specs.Words.{under, replay};
@@ -10,6 +14,7 @@ ghost use Rattle.lnfs_program.specs.Words.{under, replay};
 use crate::replay::replay;
 use crate::status::{Status, Stop};
 use crate::streams::read_file;
+use crate::summary::sum_up;
 use crate::texts::{check, translate};
 use lnfs_format::Codecs;
 use lnfs_gss3::KeyedDigest;
@@ -17,6 +22,7 @@ use lnfs_lists::Text;
 use lnfs_map::Pair;
 use lnfs_outside::{Files, Sink};
 use lnfs_policy::{Mode, Policy, PolicyError, read_policy};
+use lnfs_traffic::generate;
 use std::alloc::Global;
 
 /// What is asked under a policy.
@@ -30,6 +36,10 @@ pub enum Task<'a> {
         source: Pair,
         target: Pair,
         bytes: &'a [u8],
+    },
+    Generate {
+        seed: u64,
+        count: u32,
     },
 }
 
@@ -76,6 +86,27 @@ fn replay_file<F: Files, K: Sink, A: Sink>(
     replay(alloc, codecs, KeyedDigest, policy, &bytes, out, audit)
 }
 
+/// Serves generated events, and shows what they come to.
+fn serve_generated<K: Sink>(
+    alloc: Global,
+    codecs: &Codecs,
+    policy: Policy,
+    seed: u64,
+    count: u32,
+    out: &mut K,
+) -> Result<Status, Stop>
+    ensures plays { (audit : Option (List ℕ)) → Plays (enforced policy.mode (generation_due keyed_digest policy seed count)) result (streams (K.taken out.old) audit) (streams (K.taken out.new) audit) }
+    ensures later { K.write_faults out.old ≤ K.write_faults out.new }
+    ensures excused { IfErr result (λ stop. IsExcused stop ⊥ (Rose (K.write_faults out.old) (K.write_faults out.new))) }
+{
+    match policy.mode() {
+        Mode::Enforcing => {}
+        Mode::Limited => return Ok(Status::Usage),
+    }
+    let events = generate(alloc, &policy, seed, count)?;
+    sum_up(alloc, codecs, KeyedDigest, policy, events, out)
+}
+
 /// Does a task under a policy that was read.
 fn perform<F: Files, K: Sink, A: Sink>(
     alloc: Global,
@@ -98,6 +129,7 @@ fn perform<F: Files, K: Sink, A: Sink>(
             target,
             bytes,
         } => translate(alloc, codecs, &policy, source, target, bytes, out),
+        Task::Generate { seed, count } => serve_generated(alloc, codecs, policy, seed, count, out),
     }
 }
 

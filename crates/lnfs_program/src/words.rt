@@ -2,20 +2,24 @@
 ghost use Rattle.std.specs.Prelude.{◌≡◌, ◌∷◌, [], IfOk};
 ghost use Rattle.std.specs.Option.{option_map};
 ghost use Rattle.lnfs_program.specs.Runs.{held};
-ghost use Rattle.lnfs_program.specs.Words.{form_of, texts, named, pair_in, bytes_in, translation, help_text, version_text};
+ghost use Rattle.lnfs_program.specs.Words.{form_of, texts, named, pair_in, bytes_in, seed_in, count_in, translation, generation, help_text, version_text};
 
 use lnfs_map::Pair;
-use lnfs_words::number;
+use lnfs_words::{number, number_up_to};
 use std::alloc::{AllocError, Global};
 
 /// The longest word that spells bytes, in digits.
 const MAX_HEX: usize = 2048;
+
+/// The most events that are generated.
+const MOST_EVENTS: u64 = 100_000;
 
 const VERSION: &str = "lnfs 0.1.0\n";
 
 const HELP: &str = "usage: lnfs check POLICY\n\
 usage: lnfs translate POLICY LFS PI HEX LFS PI\n\
 usage: lnfs replay POLICY TRAFFIC\n\
+usage: lnfs generate POLICY SEED N\n\
 usage: lnfs --help\n\
 usage: lnfs --version\n\
 \n\
@@ -30,12 +34,16 @@ server under POLICY. Standard output gets the reply to each, as a record with it
 fragment head (RFC 5531). Standard error gets one audit line for each refusal,\n\
 EVENT PLACE NUMBER GATE STATUS.\n\
 \n\
+generate serves N events, from 1 to 100000, which guests of POLICY might send, drawn by\n\
+SEED, in a new server. It shows how many events and replies there were, how many were\n\
+refused, and the SHA-256 of all replies with their fragment heads.\n\
+\n\
 Standard error gets a line that begins with 'fault' where the run ends with status\n\
 2, 3, 4, 9 or 10.\n\
 \n\
 exit status:\n\
 0 all was written\n\
-2 the words are no form of the above, or POLICY of replay has the mode limited\n\
+2 the words are no form of the above, or POLICY of replay or generate has the mode limited\n\
 3 POLICY is refused\n\
 4 TRAFFIC is damaged; the events before the damage were served\n\
 5 a file could not be read\n\
@@ -62,6 +70,12 @@ pub enum Command<'a> {
         pairs: (Pair, Pair),
         bytes: Vec<u8>,
     },
+    /// So many events by a seed.
+    Generate {
+        policy: &'a str,
+        seed: u64,
+        count: u32,
+    },
 }
 
 /// What the words ask for; none where they are no form of the command line.
@@ -77,6 +91,9 @@ pub fn command_of<'a>(alloc: Global, words: &'a [String]) -> Result<Option<Comma
             policy: policy.as_str(),
             traffic: traffic.as_str(),
         })),
+        [word, policy, seed, count] if word.as_str() == "generate" => {
+            Ok(generation_of(policy, seed, count))
+        }
         [word, policy, lfs, pi, hex, to_lfs, to_pi] if word.as_str() == "translate" => {
             translation_of(alloc, policy, pair_of(lfs, pi), pair_of(to_lfs, to_pi), hex)
         }
@@ -108,6 +125,22 @@ fn translation_of<'a>(
         pairs: (source, target),
         bytes,
     }))
+}
+
+/// Generated events under the policy of a name, where the words spell a seed and how many there are.
+fn generation_of<'a>(policy: &'a str, seed: &str, count: &str) -> Option<Command<'a>>
+    ensures { option_map named result ≡ generation policy.now (seed_in seed.now) (count_in count.now) }
+{
+    let seed = number_up_to(u64::MAX, seed.as_bytes())?;
+    let count = number_up_to(MOST_EVENTS, count.as_bytes())?;
+    if count == 0 {
+        return None;
+    }
+    Some(Command::Generate {
+        policy,
+        seed,
+        count: count as u32,
+    })
 }
 
 /// The format that two words name.

@@ -29,12 +29,12 @@ left_then {a} {b} {c} m n k e p q =
     let l = left_length p in
     record { within = omega (arith, l, q.within, e); rest_is = q.rest_is ∙ ap (drop n) p.rest_is ∙ twice m n k a e }
 
-number_left : (w : Width) (bytes : List ℕ) (x : ℕ × List ℕ) → number_at w bytes ≡ Ok x → Left bytes (byte_len w) x.1
+pub number_left : (w : Width) (bytes : List ℕ) (x : ℕ × List ℕ) → number_at w bytes ≡ Ok x → Left bytes (byte_len w) x.1
 number_left w bytes x e =
     let g = guard_ok (nat_lt (length bytes) (byte_len w)) Short (from_be_bytes w (take (byte_len w) bytes), drop (byte_len w) bytes) x e in
     record { within = let b = g.0 in grind (arith, nat_tests, b); rest_is = let s : (from_be_bytes w (take (byte_len w) bytes), drop (byte_len w) bytes) ≡ x = g.1 in sym (ap (λ (p : ℕ × List ℕ). p.1) s) }
 
-count_left : (max : ℕ) (bytes : List ℕ) (x : ℕ × List ℕ) → count_at max bytes ≡ Ok x → (x.0 ≤ max) × Left bytes 4 x.1
+pub count_left : (max : ℕ) (bytes : List ℕ) (x : ℕ × List ℕ) → count_at max bytes ≡ Ok x → (x.0 ≤ max) × Left bytes 4 x.1
 count_left max bytes x e =
     let a = after_ok (number_at w32 bytes) (λ n rest. cond (nat_lt max n) (Err TooLong) (Ok (n, rest))) x e in
     let g = guard_ok (nat_lt max a.0.0) TooLong (a.0.0, a.0.1) x a.2 in
@@ -56,19 +56,19 @@ steps : {E A B : Type 0} (f : Format E A) (k : A → Format E B) (bytes : List �
 steps f k bytes y e = after_ok (read f bytes) (λ a rest. read (k a) rest) y e
 
 -- the event of these fields, and the formats of what follows each of them
-abbrev made : ℕ → ℕ → ℕ → ℕ → List ℕ → Event
+abbrev pub made : ℕ → ℕ → ℕ → ℕ → List ℕ → Event
 made class link secs nanos message = record { class = class; link = link; moment = record { secs = secs; nanos = nanos }; message = message }
 
-abbrev sized : ℕ → ℕ → ℕ → ℕ → Format (Unit {0}) Event
+abbrev pub sized : ℕ → ℕ → ℕ → ℕ → Format (Unit {0}) Event
 sized class link secs nanos = Count RECORD_LIMIT >>= λ size. Raw size >>= λ message. Done (made class link secs nanos message)
 
-abbrev untimed : Format (Unit {0}) Event
+abbrev pub untimed : Format (Unit {0}) Event
 untimed = Outside tt
 
-abbrev timed : ℕ → ℕ → ℕ → ℕ → Format (Unit {0}) Event
+abbrev pub timed : ℕ → ℕ → ℕ → ℕ → Format (Unit {0}) Event
 timed class link secs nanos = when is_moment secs nanos then sized class link secs nanos else untimed
 
-abbrev linked : ℕ → ℕ → Format (Unit {0}) Event
+abbrev pub linked : ℕ → ℕ → Format (Unit {0}) Event
 linked class link = Long >>= λ secs. Word >>= λ nanos. timed class link secs nanos
 
 -- what an event takes of the bytes

@@ -52,16 +52,16 @@ whole_is bytes fits e =
     subst (IsRecording (recorded bytes)) (ap (λ k. take k bytes) p ∙ take-length bytes) r
 
 -- what is read of a recording, whatever follows it
-record Reads (events : List Event) (rest bytes : List ℕ) : Type 0 where
+pub record Given (events : List Event) (rest bytes : List ℕ) : Type 0 where
   pub begun : begins bytes ≡ true
   pub events_are : (parts_of (drop 8 bytes)).events ≡ events ++ (parts_of rest).events
   pub rest_is : (parts_of (drop 8 bytes)).rest ≡ (parts_of rest).rest
 
-reads : (events : List Event) (front rest bytes : List ℕ) → IsRecording events front → bytes ≡ front ++ rest → Reads events rest bytes
-reads events front rest bytes r e =
+pub given : (events : List Event) (front rest bytes : List ℕ) → IsRecording events front → bytes ≡ front ++ rest → Given events rest bytes
+given events front rest bytes r e =
     let all : bytes ≡ beginning ++ (r.body ++ rest) = e ∙ ap (λ (b : List ℕ). b ++ rest) r.begun ∙ append_assoc beginning r.body rest in
     let p = all_again events r.body rest r.spelled in
-    subst (Reads events rest) (sym all) (record {
+    subst (Given events rest) (sym all) (record {
       begun = begins_so (r.body ++ rest);
       events_are = ap (λ (p : Parts). p.events) p;
       rest_is = ap (λ (p : Parts). p.rest) p;
@@ -70,7 +70,7 @@ reads events front rest bytes r e =
 pub whole_again : (events : List Event) (bytes : List ℕ) → IsRecording events bytes → (is_recording bytes ≡ true) × (events ≡ recorded bytes)
 unfolding parts_behind
 whole_again events bytes r =
-    let s = reads events bytes [] bytes r (sym (append-nil bytes)) in
+    let s = given events bytes [] bytes r (sym (append-nil bytes)) in
     let none : (parts_of (drop 8 bytes)).rest ≡ [] = s.rest_is in
     let all : (parts_of (drop 8 bytes)).events ≡ events = s.events_are ∙ append-nil events in
     (rw (s.begun, none) refl, rw s.begun (sym all))
@@ -81,7 +81,7 @@ whole_found events bytes fits e = subst (λ (es : List Event). IsRecording es by
 -- no front that is a recording ends behind the place
 pub no_longer : (events : List Event) (bytes front rest : List ℕ) → IsBytes bytes → IsRecording events front → bytes ≡ front ++ rest → length front ≤ place_of bytes
 no_longer events bytes front rest fits r e =
-    let s = reads events front rest bytes r e in
+    let s = given events front rest bytes r e in
     let f : Front rest (parts_of rest) = front_of rest (IsBytes-back front rest bytes e fits) in
     let w : length rest ≡ length f.front + length (parts_of rest).rest = ap length f.parts ∙ length-append f.front (parts_of rest).rest in
     let l : length bytes ≡ length front + length rest = ap length e ∙ length-append front rest in
@@ -90,7 +90,7 @@ no_longer events bytes front rest fits r e =
 
 -- a reader that stopped behind these events, with a rest that no event begins
 module _ (bytes body rest : List ℕ) (events : List Event) (b : begins bytes ≡ true) (is_body : body ≡ drop 8 bytes) (es : (parts_of body).events ≡ events ++ (parts_of rest).events) (r : (parts_of body).rest ≡ (parts_of rest).rest) (none : IsErr (read event rest)) where
-  all_events : recorded bytes ≡ events
+  pub all_events : recorded bytes ≡ events
   all_events = rw (b, ← is_body) (es ∙ ap (λ (p : Parts). events ++ p.events) (parts_none rest none) ∙ append-nil events)
 
   all_rest : (parts_of (drop 8 bytes)).rest ≡ rest

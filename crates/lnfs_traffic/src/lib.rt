@@ -5,16 +5,26 @@
 //! seconds, and nothing is padded.
 #![tactic(auto)]
 
+mod asking;
+mod calls;
 mod error;
 mod events;
+mod generator;
+#[cfg(test)]
+mod generator_tests;
+mod guests;
 mod laws;
+mod pieces;
 mod reading;
 #[cfg(test)]
 mod tests;
+mod turns;
 mod writing;
 
 pub use error::TrafficError;
 pub use events::{BEGINNING, next_event};
+pub use generator::generate;
 pub use laws::recordings;
+pub use pieces::TrafficReader;
 pub use reading::read_traffic;
 pub use writing::write_traffic;

@@ -1,8 +1,10 @@
 //! Recordings laid out by hand, read and written.
+ghost use Rattle.std.specs.Prelude.{◌<◌};
+
 use super::*;
 use lnfs_lists::Octets;
 use lnfs_outside::{Event, Moment};
-use std::alloc::AllocError;
+use std::alloc::{AllocError, Global};
 use std::test::Fail;
 
 /// Two events: class 1, link 2, 3 seconds and 4 nanoseconds, with a record of 5 bytes; and class 7,
@@ -70,4 +72,50 @@ fn damage(rt: HostRuntime) {
             "{size} bytes, {place}"
         );
     }
+}
+
+/// The events that a reader gives of the first `size` bytes of the two, in pieces of `length` bytes,
+/// and what it answers at the end.
+fn read_in_pieces(
+    alloc: Global,
+    bytes: &[u8],
+    length: usize,
+) -> Result<(usize, Option<TrafficError>), AllocError>
+    requires { 0 < length }
+{
+    let mut reader = TrafficReader::new(alloc);
+    let mut count = 0usize;
+    for piece in bytes.chunks(length) {
+        reader.feed(piece)?;
+        for _ in 0..3 {
+            match reader.next() {
+                Ok(Some(event)) => count = count.saturating_add(usize::from(event.fits())),
+                Ok(None) => break,
+                Err(error) => return Ok((count, Some(error))),
+            }
+        }
+    }
+    Ok((count, reader.finish().err()))
+}
+
+#[test]
+fn pieces_of_any_length(rt: HostRuntime) -> Result<(), AllocError> {
+    // a byte at a time, pieces that end within the events, and all at once
+    for length in [1, 5, 8, 20, 36, 61, 100] {
+        let got = read_in_pieces(rt.alloc(), TWO.as_slice(), length)?;
+        assert!(rt; got == (2, None), "whole, in pieces of {length}");
+        let got = read_in_pieces(rt.alloc(), &TWO[..60], length)?;
+        let cut = Some(TrafficError::Damaged { at: 37 });
+        assert!(rt; got == (1, cut), "cut, in pieces of {length}");
+        let mut bytes = *TWO;
+        bytes[53] = 0xff;
+        let got = read_in_pieces(rt.alloc(), bytes.as_slice(), length)?;
+        assert!(rt; got == (1, cut), "nanoseconds, in pieces of {length}");
+    }
+    let got = read_in_pieces(rt.alloc(), b"LNFX", 4)?;
+    let none = Some(TrafficError::Damaged { at: 0 });
+    assert!(rt; got == (0, none), "no beginning, before all of it is there");
+    let empty = TrafficReader::new(rt.alloc()).finish();
+    assert!(rt; empty.err() == none, "nothing was fed");
+    Ok(())
 }

@@ -1,0 +1,41 @@
+-- The spelling of a call with zero pad bytes (RFC 5531 section 9), and of the body of an AUTH_SYS credential (appendix A).
+use Rattle.std.specs.Prelude.{◌≡◌, ℕ, List, ◌++◌}
+use Rattle.lnfs_xdr.specs.AuthSys.{AuthSys}
+use Rattle.lnfs_xdr.specs.Canon.{word, opaque}
+use Rattle.lnfs_attrs.specs.Bitmaps.{words_text}
+use Rattle.lnfs_xdr.specs.Format.{Spells}
+use Rattle.lnfs_xdr.specs.Message.{Tells}
+use Rattle.lnfs_rpc.specs.declared.authsys.Sys.{Sys}
+use Rattle.lnfs_rpc.specs.Calls.{OpaqueAuth, CallMessage}
+use Rattle.lnfs_rpc.specs.CallGrammar.{IsCall}
+use Rattle.lnfs_rpc.specs.Sys.{authsys_parms}
+use Rattle.lnfs_rpc.specs.Numbers.{a_call, rpc_version, nfs_program, nfs_version, last_procedure}
+use Rattle.lnfs_arguments.specs.declared.numbers.TheConstants.{AUTH_SYS}
+use Rattle.lnfs_arguments.specs.declared.types.Compound.{Compound}
+use Rattle.lnfs_arguments.specs.Further.{Further, IsLawful}
+use Rattle.lnfs_arguments.specs.Whole.{compound}
+
+unfoldable pub sys_text : AuthSys → List ℕ
+sys_text s = word s.stamp ++ opaque s.machine ++ word s.uid ++ word s.gid ++ words_text s.gids
+
+unfoldable pub auth_text : OpaqueAuth → List ℕ
+auth_text a = word a.flavor ++ opaque a.body
+
+-- a call of NFS version 4 from its start through the credential
+unfoldable pub header_text : (xid procedure : ℕ) → (credential : OpaqueAuth) → List ℕ
+header_text xid procedure credential =
+    word xid ++ word a_call ++ word rpc_version ++ word nfs_program ++ word nfs_version ++ word procedure ++ auth_text credential
+
+unfoldable pub call_text : (xid procedure : ℕ) → (credential verifier : OpaqueAuth) → (arguments : List ℕ) → List ℕ
+call_text xid procedure credential verifier arguments = header_text xid procedure credential ++ auth_text verifier ++ arguments
+
+-- The record is a call of COMPOUND with an AUTH_SYS credential, which is read as that of a user, and with arguments that are read as those of operations, whatever is read beside the table.
+pub record IsRequest (message : List ℕ) : Type 0 where
+  pub call : CallMessage
+  pub is : IsCall call message
+  pub procedure : call.procedure ≡ last_procedure
+  pub flavor : call.credential.flavor ≡ AUTH_SYS
+  pub user : Sys
+  pub by : Spells authsys_parms user call.credential.body
+  pub asked : Compound
+  pub arguments : (x : Further) → IsLawful x → Tells (compound x) asked call.arguments
