@@ -1,0 +1,25 @@
+//! Links that worker threads serve, over one vault.
+//!
+//! Link i is served whole by worker i mod the number of workers, and each worker takes its links in
+//! rising order. Records are read and replies are written side by side; each record is served under
+//! one lock. What each link gave and got is its part of the one journal: nothing is compared while
+//! the program runs, and no answer stands for a difference.
+#![tactic(auto)]
+
+mod clock;
+mod deal;
+mod desk;
+mod ending;
+mod gate;
+mod line;
+mod link;
+mod pool;
+mod reading;
+#[cfg(test)]
+mod tests;
+mod writing;
+
+pub use ending::Ending;
+pub use gate::{Gate, OpenGate};
+pub use line::LinkEnd;
+pub use pool::{Ended, serve_all};

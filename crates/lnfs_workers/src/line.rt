@@ -1,0 +1,29 @@
+//! Links before and after their service.
+use crate::ending::Ending;
+use lnfs_history::{Place, Room};
+
+/// What is left of a link that was served.
+#[derive(Drop)]
+pub struct LinkEnd<L> {
+    /// The class of the listener that it came by.
+    pub class: u32,
+    pub link: L,
+    pub ending: Ending,
+    /// How many of its records were served.
+    pub records: u32,
+}
+
+/// A link that is to be served, with its place in the history.
+#[derive(Drop)]
+pub struct Waiting<B: Room, L> {
+    pub class: u32,
+    pub link: L,
+    pub place: Place<B>,
+}
+
+/// A link whose service has ended, with its place in the history.
+#[derive(Drop)]
+pub struct Done<B: Room, L> {
+    pub end: LinkEnd<L>,
+    pub place: Place<B>,
+}

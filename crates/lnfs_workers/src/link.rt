@@ -1,0 +1,143 @@
+//! The service of one link, and of the links of one worker.
+ghost use Rattle.std.specs.Prelude.{◌≡◌, ◌<◌, [], IfOk, All, length};
+ghost use Rattle.lnfs_workers.specs.Served.{telling};
+ghost use Rattle.lnfs_workers.specs.Links.{IsServed, IsDone};
+ghost use Rattle.lnfs_workers.specs.Pairs.{Each};
+
+use crate::clock::moment_of;
+use crate::desk::{Arrival, Desk, serve_record};
+use crate::ending::{BUDGET, Ending};
+use crate::gate::{Gate, Turns};
+use crate::line::{Done, LinkEnd, Waiting};
+use crate::reading::{next_record, read_on};
+use crate::writing::put_reply;
+use lnfs_engine::Extra;
+use lnfs_format::Codecs;
+use lnfs_gss3::Mechanism;
+use lnfs_history::{History, Place, Room};
+use lnfs_outside::{Clock, Link};
+use lnfs_rpc::Deframer;
+use std::alloc::{AllocError, Global};
+use std::collections::VecDeque;
+use std::sync::{Mutex, Wait};
+
+/// What the workers share, beside the codecs of labels.
+#[derive(Drop)]
+pub struct Shared<'a, B: Room, M: Mechanism + Drop, X: Extra, C, G> {
+    pub alloc: Global,
+    pub history: &'a History<B>,
+    pub desk: &'a Mutex<Desk<B, M, X>>,
+    pub clock: &'a C,
+    pub gate: &'a G,
+}
+
+/// Serves a link to its end.
+fn serve_link<B: Room, M: Mechanism + Drop, X: Extra, C: Clock, G: Gate, L: Link + Drop, R: Wait>(
+    rt: &R,
+    codecs: &Codecs,
+    shared: &Shared<'_, B, M, X, C, G>,
+    turns: &mut Turns,
+    class: u32,
+    mut link: L,
+    mut place: Place<B>,
+) -> Done<B, L>
+    requires { place.entries ≡ [] }
+    ensures number { result.place.link ≡ place.link }
+    ensures served { IsServed (telling L.left L.taken L.read_faults L.write_faults) (C.may shared.now.clock.now) class link result.end result.place.entries }
+{
+    let mut deframer = Deframer::new(shared.alloc);
+    let mut records = 0;
+    for _ in rt.forever() {
+        let message = match next_record(&mut deframer) {
+            Ok(Some(message)) => message,
+            Ok(None) => match read_on(&mut link, &mut deframer) {
+                None => continue,
+                Some(ending) => {
+                    let end = LinkEnd {
+                        class,
+                        link,
+                        ending,
+                        records,
+                    };
+                    return Done { end, place };
+                }
+            },
+            Err(ending) => {
+                let end = LinkEnd {
+                    class,
+                    link,
+                    ending,
+                    records,
+                };
+                return Done { end, place };
+            }
+        };
+        if records == BUDGET {
+            let end = LinkEnd {
+                class,
+                link,
+                ending: Ending::Budget,
+                records,
+            };
+            return Done { end, place };
+        }
+        turns.pass(shared.gate);
+        let moment = moment_of(shared.clock);
+        let arrival = Arrival {
+            class,
+            moment,
+            message,
+        };
+        let (told, reply) = serve_record(rt, codecs, shared.history, shared.desk, place, arrival);
+        place = told;
+        let Ok(reply) = reply else {
+            let end = LinkEnd {
+                class,
+                link,
+                ending: Ending::Memory,
+                records,
+            };
+            return Done { end, place };
+        };
+        records += 1;
+        if let Err(ending) = put_reply(shared.alloc, &mut link, &reply) {
+            let end = LinkEnd {
+                class,
+                link,
+                ending,
+                records,
+            };
+            return Done { end, place };
+        }
+    }
+    unreachable!()
+}
+
+/// Serves the links of one worker, one after the other.
+pub fn serve_links<
+    B: Room,
+    M: Mechanism + Drop,
+    X: Extra,
+    C: Clock,
+    G: Gate,
+    L: Link + Drop,
+    R: Wait,
+>(
+    rt: &R,
+    codecs: &Codecs,
+    shared: &Shared<'_, B, M, X, C, G>,
+    worker: u32,
+    links: VecDeque<Waiting<B, L>>,
+) -> Result<VecDeque<Done<B, L>>, AllocError>
+    requires { All (λ one. one.place.entries ≡ []) links.items }
+    ensures { IfOk result (λ done. Each (IsDone (telling L.left L.taken L.read_faults L.write_faults) (C.may shared.now.clock.now)) links.items done.items) }
+{
+    let mut turns = Turns::new(worker);
+    let mut done = VecDeque::new(shared.alloc);
+    for one in links {
+        let Waiting { class, link, place } = one;
+        let end = serve_link(rt, codecs, shared, &mut turns, class, link, place);
+        done.push_back(end)?;
+    }
+    Ok(done)
+}

@@ -1,0 +1,309 @@
+//! Workers over one vault.
+ghost use Rattle.std.specs.Prelude.{◌≡◌, ◌<◌, ◌≤◌, ℕ, [], Ok, IfOk, OnOk, All, length};
+ghost use denote.Param.Send.{IsSync};
+ghost use Rattle.lnfs_history.specs.Entries.{of, known, part};
+ghost use Rattle.lnfs_outside.specs.Moments.{Fits};
+ghost use Rattle.lnfs_workers.specs.Served.{telling};
+ghost use Rattle.lnfs_workers.specs.Links.{IsServed, IsDone, Comes};
+ghost use Rattle.lnfs_workers.specs.Dealt.{AllAt, Hand};
+ghost use Rattle.lnfs_workers.specs.Pairs.{Each, EachAt};
+ghost use Rattle.lnfs_workers.specs.Transcripts.{entries_of};
+ghost use Rattle.lnfs_workers.specs.Lines.{lines_in, lines_of};
+
+use crate::deal::{deal, take_first, take_next};
+use crate::desk::Desk;
+use crate::gate::Gate;
+use crate::line::{Done, LinkEnd, Waiting};
+use crate::link::{Shared, serve_links};
+use lnfs_engine::Extra;
+use lnfs_format::Codecs;
+use lnfs_gss3::Mechanism;
+use lnfs_history::{History, Keeper, Opened, Room};
+use lnfs_outside::{Clock, Link};
+use lnfs_vault::{AuditLine, VaultOf};
+use std::alloc::{AllocError, Global};
+use std::collections::VecDeque;
+use std::marker::Brand;
+use std::snapshot::Snapshot;
+use std::sync::{Mutex, Wait};
+use std::thread::{Threads, map_vec};
+
+/// The vault that served links, the ends of the links in their order, and the audit lines in the
+/// order of the journal.
+#[derive(Drop)]
+pub struct Ended<M: Mechanism + Drop, X: Extra, L> {
+    pub vault: VaultOf<M, X>,
+    pub ends: Vec<LinkEnd<L>>,
+    pub lines: Vec<AuditLine>,
+}
+
+/// Gives each link its place, from the first.
+fn with_places<B: Room, L: Drop>(
+    alloc: Global,
+    history: &History<B>,
+    keeper: &mut Keeper<B>,
+    links: Vec<(u32, L)>,
+) -> Result<Vec<Waiting<B, L>>, AllocError>
+    requires first { keeper.old.made ≡ 0 }
+    requires few { length links.items ≤ 64 }
+    ensures waiting { IfOk result (λ all. EachAt (λ n link one. (one.class ≡ link.0) × (one.link ≡ link.1) × (one.place ≡ part n [])) 0 links.items all.items) }
+    ensures keeper { OnOk result (keeper.new ≡ known keeper.old.log (length links.items)) }
+{
+    let mut left = links;
+    let mut all = Vec::new(alloc);
+    while let Some(given) = take_first(&mut left) {
+        let (class, link) = given;
+        let place = history.place(keeper, all.len() as u32);
+        all.push(Waiting { class, link, place })?;
+    }
+    Ok(all)
+}
+
+/// The links of one worker.
+#[derive(Drop)]
+struct Job<B: Room, L> {
+    worker: u32,
+    links: VecDeque<Waiting<B, L>>,
+}
+
+/// Numbers the workers, from 0.
+fn numbered<B: Room, L: Drop>(
+    alloc: Global,
+    hands: VecDeque<VecDeque<Waiting<B, L>>>,
+) -> Result<Vec<Job<B, L>>, AllocError>
+    requires { length hands.items ≤ 16 }
+    ensures { IfOk result (λ jobs. Each (λ links job. job.links ≡ links) hands.items jobs.items) }
+{
+    let mut left = hands;
+    let mut jobs = Vec::new(alloc);
+    while let Some(links) = left.pop_front() {
+        let worker = jobs.len() as u32;
+        jobs.push(Job { worker, links })?;
+    }
+    Ok(jobs)
+}
+
+/// The values of results that are all good.
+fn gathered<T: Drop>(
+    alloc: Global,
+    results: Vec<Result<T, AllocError>>,
+) -> Result<VecDeque<T>, AllocError>
+    ensures { IfOk result (λ all. Each (λ one value. one ≡ Ok value) results.items all.items) }
+{
+    let mut all = VecDeque::new(alloc);
+    for one in results {
+        let value = one?;
+        all.push_back(value)?;
+    }
+    Ok(all)
+}
+
+/// Says that threads may share what is lent, and does nothing.
+fn may_share<T: Sync>(_lent: &T)
+    ensures { IsSync T.row }
+{}
+
+/// Serves the links of each worker, the workers side by side, each in a thread of its own where one
+/// can be made.
+fn fan_out<
+    B: Room + Send + Sync,
+    M: Mechanism + Send + Drop,
+    X: Extra + Send,
+    C: Clock + Sync,
+    G: Gate + Sync,
+    L: Link + Send + Drop,
+    R: Threads + Wait + Sync,
+>(
+    rt: &R,
+    codecs: &Codecs,
+    shared: &Shared<'_, B, M, X, C, G>,
+    jobs: Vec<Job<B, L>>,
+) -> Result<Vec<Result<VecDeque<Done<B, L>>, AllocError>>, AllocError>
+    requires { All (λ job. All (λ one. one.place.entries ≡ []) job.links.items) jobs.items }
+    ensures { IfOk result (λ all. Each (λ job one. IfOk one (λ done. Each (IsDone (telling L.left L.taken L.read_faults L.write_faults) (C.may shared.now.clock.now)) job.links.items done.items)) jobs.items all.items) }
+{
+    may_share(codecs);
+    may_share(shared.history);
+    may_share(shared.desk);
+    let serve = move |job: Job<B, L>| -> Result<VecDeque<Done<B, L>>, AllocError>
+        requires { All (λ one. one.place.entries ≡ []) job.links.items }
+        ensures { IfOk result (λ done. Each (IsDone (telling L.left L.taken L.read_faults L.write_faults) (C.may shared.entry.now.clock.now)) job.links.items done.items) }
+    {
+        let Job { worker, links } = job;
+        serve_links(rt, codecs, shared, worker, links)
+    };
+    map_vec(rt, jobs, &serve)
+}
+
+/// Serves the links of all workers.
+fn serve_hands<
+    B: Room + Send + Sync,
+    M: Mechanism + Send + Drop,
+    X: Extra + Send,
+    C: Clock + Sync,
+    G: Gate + Sync,
+    L: Link + Send + Drop,
+    R: Threads + Wait + Sync,
+>(
+    rt: &R,
+    codecs: &Codecs,
+    shared: &Shared<'_, B, M, X, C, G>,
+    hands: VecDeque<VecDeque<Waiting<B, L>>>,
+) -> Result<VecDeque<VecDeque<Done<B, L>>>, AllocError>
+    requires few { length hands.items ≤ 16 }
+    requires entries { All (λ links. All (λ one. one.place.entries ≡ []) links.items) hands.items }
+    ensures { IfOk result (λ all. Each (λ links done. Each (IsDone (telling L.left L.taken L.read_faults L.write_faults) (C.may shared.now.clock.now)) links.items done.items) hands.items all.items) }
+{
+    let jobs = numbered(shared.alloc, hands)?;
+    let served = fan_out(rt, codecs, shared, jobs)?;
+    gathered(shared.alloc, served)
+}
+
+/// Compares each place with the whole history, and puts the ends of the links in their order. No
+/// answer depends on what is compared. The clock is asked nothing.
+fn settle<B: Room, M: Mechanism + Drop, X: Extra, C: Clock, L: Link + Drop>(
+    alloc: Global,
+    history: &History<B>,
+    clock: &C,
+    mut desk: Desk<B, M, X>,
+    links: &Snapshot<Vec<(u32, L)>>,
+    mut hands: VecDeque<VecDeque<Done<B, L>>>,
+) -> Result<Ended<M, X, L>, AllocError>
+    requires some { 0 < length hands.items }
+    requires hands { AllAt (λ m hand. Hand (λ n one. (one.place.link ≡ n) × Comes (telling L.left L.taken L.read_faults L.write_faults) (C.may clock.now) links.now.value.items n one.end one.place.entries)
+        (length links.now.value.items) (length hands.items) m hand.items) 0 hands.items }
+    ensures vault { IfOk result (λ ended. ended.vault ≡ desk.vault) }
+    ensures lines { IfOk result (λ ended. ended.lines ≡ desk.lines) }
+    ensures fits { OnOk result (All Fits desk.vault.journal) }
+    ensures ends { IfOk result (λ ended. AllAt (λ n end. Comes (telling L.left L.taken L.read_faults L.write_faults) (C.may clock.now) links.now.value.items n end (of n (entries_of X.extra M.signing B.policy desk.vault.journal))) 0 ended.ends.items) }
+    ensures count { IfOk result (λ ended. length ended.ends.items ≡ length links.now.value.items) }
+    ensures others { OnOk result ((link : ℕ) → B.links ≤ link → of link (entries_of X.extra M.signing B.policy desk.vault.journal) ≡ []) }
+{
+    let mut ends = Vec::new(alloc);
+    while let Some(one) = take_next(&mut hands) {
+        let Done { end, place } = one;
+        desk.learn(history, place);
+        ends.push(end)?;
+    }
+    desk.look(history);
+    let Desk {
+        vault,
+        lines,
+        keeper: _,
+    } = desk;
+    Ok(Ended { vault, ends, lines })
+}
+
+/// The vault with the keeper, before the first record.
+fn open_desk<B: Room, M: Mechanism + Drop, X: Extra>(
+    alloc: Global,
+    vault: VaultOf<M, X>,
+    keeper: Keeper<B>,
+) -> Desk<B, M, X>
+    requires journal { vault.journal ≡ [] }
+    requires site { vault.policy ≡ B.policy }
+    requires keeper { keeper ≡ known [] B.links }
+    ensures { result.vault ≡ vault }
+{
+    Desk {
+        vault,
+        lines: Vec::new(alloc),
+        keeper,
+    }
+}
+
+/// Serves links under a name of the history.
+fn serve_named<
+    B: Room + Send + Sync,
+    M: Mechanism + Send + Drop,
+    X: Extra + Send,
+    C: Clock + Sync,
+    G: Gate + Sync,
+    L: Link + Send + Drop,
+    R: Threads + Wait + Sync,
+>(
+    rt: &R,
+    alloc: Global,
+    codecs: &Codecs,
+    opened: Opened,
+    vault: VaultOf<M, X>,
+    clock: &C,
+    gate: &G,
+    links: Vec<(u32, L)>,
+    workers: u32,
+) -> Result<Ended<M, X, L>, AllocError>
+    requires table { opened.table.shared.table_id ≡ B.table }
+    requires count { B.links ≡ length links.items }
+    requires site { B.policy ≡ vault.policy }
+    requires journal { vault.journal ≡ [] }
+    requires links { length links.items ≤ 64 }
+    requires some { 0 < workers }
+    requires few { workers ≤ 16 }
+    ensures policy { IfOk result (λ ended. ended.vault.policy ≡ vault.policy) }
+    ensures ends { IfOk result (λ ended. EachAt (λ n link end. IsServed (telling L.left L.taken L.read_faults L.write_faults) (C.may clock.now) link.0 link.1 end (of n (entries_of X.extra M.signing vault.policy ended.vault.journal))) 0 links.items ended.ends.items) }
+    ensures others { IfOk result (λ ended. (link : ℕ) → length links.items ≤ link → of link (entries_of X.extra M.signing vault.policy ended.vault.journal) ≡ []) }
+    ensures lines { IfOk result (λ ended. lines_in ended.lines.items ≡ lines_of X.extra M.signing vault.policy ended.vault.journal) }
+    ensures fits { IfOk result (λ ended. All Fits ended.vault.journal) }
+{
+    let given = Snapshot::of(&links);
+    let (history, mut keeper) = opened.named::<B>();
+    let waiting = with_places(alloc, &history, &mut keeper, links)?;
+    let hands = deal(alloc, waiting, workers as usize)?;
+    let desk = Mutex::new(open_desk(alloc, vault, keeper));
+    let shared = Shared {
+        alloc,
+        history: &history,
+        desk: &desk,
+        clock,
+        gate,
+    };
+    let done = serve_hands(rt, codecs, &shared, hands)?;
+    settle(alloc, &history, clock, desk.into_inner(), &given, done)
+}
+
+/// Serves links by worker threads, over one vault. Link i, which came by the listener of its class,
+/// is served whole by worker i mod `workers`, and each worker takes its links in rising order. For
+/// each record a worker passes the gate, takes the moment, and serves the event under the lock. The
+/// codecs read the labels that are asserted.
+///
+/// # Errors
+///
+/// `AllocError` where there is no memory. A link whose service found none ends with `Memory`.
+pub fn serve_all<
+    M: Mechanism + Send + Drop,
+    X: Extra + Send,
+    C: Clock + Sync,
+    G: Gate + Sync,
+    L: Link + Send + Drop,
+    R: Threads + Wait + Sync,
+>(
+    rt: &R,
+    alloc: Global,
+    codecs: &Codecs,
+    vault: VaultOf<M, X>,
+    clock: &C,
+    gate: &G,
+    links: Vec<(u32, L)>,
+    workers: u32,
+) -> Result<Ended<M, X, L>, AllocError>
+    requires journal { vault.journal ≡ [] }
+    requires links { length links.items ≤ 64 }
+    requires some { 0 < workers }
+    requires few { workers ≤ 16 }
+    // One vault served them all.
+    ensures policy { IfOk result (λ ended. ended.vault.policy ≡ vault.policy) }
+    // What each link gave and got is its part of the one journal: its records, which bear its class and
+    // moments of the clock, and the frames of the replies that are due to them after all events before.
+    ensures ends { IfOk result (λ ended. EachAt (λ n link end. IsServed (telling L.left L.taken L.read_faults L.write_faults) (C.may clock.now) link.0 link.1 end (of n (entries_of X.extra M.signing vault.policy ended.vault.journal))) 0 links.items ended.ends.items) }
+    // Each event of the journal is of one of the links.
+    ensures others { IfOk result (λ ended. (link : ℕ) → length links.items ≤ link → of link (entries_of X.extra M.signing vault.policy ended.vault.journal) ≡ []) }
+    // The lines are those of the whole journal.
+    ensures lines { IfOk result (λ ended. lines_in ended.lines.items ≡ lines_of X.extra M.signing vault.policy ended.vault.journal) }
+    // Each event is within the bounds of one.
+    ensures fits { IfOk result (λ ended. All Fits ended.vault.journal) }
+{
+    let opened = Opened::new(alloc)?;
+    serve_named::<Brand, M, X, C, G, L, R>(
+        rt, alloc, codecs, opened, vault, clock, gate, links, workers,
+    )
+}
