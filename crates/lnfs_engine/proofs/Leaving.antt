@@ -10,7 +10,7 @@ use Rattle.lnfs_world.proofs.Keys.{id_same}
 use Rattle.lnfs_world.proofs.Rows.{all_none, all_weaker, all_find, all_anyway}
 use Rattle.lnfs_world.proofs.Views.{found_by_id}
 use Rattle.lnfs_operations.specs.ExchangeId.{is_pending, dropped}
-use Rattle.lnfs_session.proofs.Mapped.{none_filtered}
+use Rattle.lnfs_counts.proofs.Rows.{none_filtered}
 use Rattle.lnfs_engine.specs.Stores.{opens_left}
 use Rattle.lnfs_engine.specs.Behind.{OpensBehind}
 

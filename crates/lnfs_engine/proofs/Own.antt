@@ -21,9 +21,9 @@ use Rattle.lnfs_operations.proofs.Chains.{demand_any, where_any}
 use Rattle.lnfs_operations.proofs.ExchangeIdLaws.{exchange_id_any}
 use Rattle.lnfs_operations.proofs.CreateSessionLaws.{created_any}
 use Rattle.lnfs_operations.proofs.Once.{reclaim_any}
+use Rattle.lnfs_counts.proofs.Rows.{none_filtered}
 use Rattle.lnfs_session.specs.Standing.{Lists, lists_of, standing}
 use Rattle.lnfs_session.specs.Creates.{other_of}
-use Rattle.lnfs_session.proofs.Mapped.{none_filtered}
 use Rattle.lnfs_engine.specs.Stores.{opens_left}
 use Rattle.lnfs_engine.specs.Behind.{OpensBehind}
 use Rattle.lnfs_engine.proofs.Leaving.{dropped_opens, pending_left}

@@ -33,6 +33,7 @@ guest 1 200 2
 guest 1 300 3
 ";
 
+/// What reads and writes the labels of the three kinds of format.
 pub fn codecs(alloc: Global) -> Result<Codecs, AllocError> {
     let read = move |kind: &Kind, bytes: &[u8]|
         ensures { IfOk result (λ label. label ≡ reads kind.now bytes.now) }
@@ -46,6 +47,7 @@ pub fn codecs(alloc: Global) -> Result<Codecs, AllocError> {
     Ok(Codecs::new(calipso, text, name))
 }
 
+/// The policy of these lines, in a mode.
 pub fn policy(alloc: Global, codecs: &Codecs, mode: &str) -> Result<Policy, Fail> {
     let text = format!(in alloc; "{mode}{LINES}")?;
     Ok(read_policy(alloc, text.as_bytes(), codecs)?)

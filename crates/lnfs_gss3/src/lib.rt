@@ -7,7 +7,6 @@
 
 mod caller;
 mod contexts;
-mod counters;
 mod credential;
 mod digest;
 #[cfg(test)]

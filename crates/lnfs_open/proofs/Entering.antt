@@ -3,15 +3,15 @@ use Rattle.std.proofs.Common.{◌≡◌, ℕ, Bool, true, false, cond, not, ◌&
 use Rattle.std.specs.Str.{bytes_eq}
 use Rattle.lnfs_world.specs.World.{Id, same_id}
 use Rattle.lnfs_world.proofs.Keys.{id_same}
+use Rattle.lnfs_counts.specs.Counters.{Counters, TellSame}
 use Rattle.lnfs_open.specs.declared.finder.Finder.{Finder}
 use Rattle.lnfs_open.specs.Groups.{holds}
 use Rattle.lnfs_open.specs.Owners.{number_at}
-use Rattle.lnfs_open.specs.Counters.{Counters, TellSame}
 use Rattle.lnfs_open.specs.Finding.{Filed, IsEntered, IsLeft, FindSame, index_of}
 use Rattle.lnfs_open.proofs.Indexing.{keyed, SameIndex}
 
 pub index_same : (c d : Counters) (a b : Finder) → TellSame c d → FindSame a b → SameIndex (index_of c a) (index_of d b)
-index_same c d a b counters finder = record { last = counters.last; opens = counters.opens; nodes = finder.nodes; clients = finder.clients; number = finder.numbers }
+index_same c d a b counters finder = record { last = counters.last; opens = counters.count; nodes = finder.nodes; clients = finder.clients; number = finder.numbers }
 
 module _ (f : Filed) (a b d : Finder) (entered : IsEntered f a b) (left : IsLeft f b d) (node : holds a.nodes f.node f.id ≡ false) (client : holds a.clients f.client f.id ≡ false) (number : number_at a.owners f.client f.node f.owner ≡ None) where
   back : (h : Id → Id → Bool) (g : Id) → h g f.id ≡ false → (n j : Id) (k : Bool) → (same_id g n && same_id f.id j) ≡ k → (not k && (k || h n j)) ≡ h n j

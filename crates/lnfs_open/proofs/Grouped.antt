@@ -7,10 +7,11 @@ use Rattle.lnfs_world.specs.Rows.{Rising}
 use Rattle.lnfs_world.specs.World.{Id, Open, open_order, same_id}
 use Rattle.lnfs_world.proofs.Rows.{all_weaker, all_none, any_found}
 use Rattle.lnfs_world.proofs.Keys.{id_same}
+use Rattle.lnfs_counts.proofs.Rows as rows
+use Rattle.lnfs_counts.proofs.Rows.{each_at, found_id}
 use Rattle.lnfs_open.specs.declared.keys.Key.{Key}
 use Rattle.lnfs_open.specs.Listed.{id_of}
-use Rattle.lnfs_open.specs.Indexed.{open_at, passes}
-use Rattle.lnfs_open.proofs.OpenRows.{each_at, found_id}
+use Rattle.lnfs_open.specs.Indexed.{own_id, open_at, passes}
 
 pub some_weaker : {T : Type 0} (P Q : T → Type 0) (o : Option T) → ((x : T) → P x → Q x) → IfSome o P → IfSome o Q
 some_weaker P Q None f h = tt
@@ -20,30 +21,24 @@ pub none_weaker : {T P Q : Type 0} (o : Option T) → (P → Q) → IfNone o P �
 none_weaker None f h = f h
 none_weaker (Some x) f h = tt
 
-all_true : (q : Open → Bool) (xs : List Open) → AllByRecursion (λ x. q x ≡ true) xs → list_all q xs ≡ true
-all_true q [] all = refl
-all_true q (x ∷ xs) all = grind (arith, all.0, all_true q xs all.1)
-
 module _ (opens : List Open) (test : Open → Bool) where
   pub there : (i : Id) → passes test (open_at opens i) ≡ true → list_any (λ o. same_id i o.id) opens ≡ true
   there i is = by (open_at opens i) refl is
     where
       by : (x : Option Open) → open_at opens i ≡ x → passes test x ≡ true → list_any (λ o. same_id i o.id) opens ≡ true
       by None at is = absurd (false≢true is)
-      by (Some o) at is = any_found (λ y. same_id i y.id) (λ y. same_id i y.id) opens o at (found_id opens i o at)
+      by (Some o) at is = any_found (λ y. same_id i y.id) (λ y. same_id i y.id) opens o at (found_id own_id opens i o at)
 
   -- no other open has its identifier
   pub only : Rising open_order opens → (i : Id) → passes test (open_at opens i) ≡ true → list_all (λ o. not (same_id i o.id) || test o) opens ≡ true
-  only rising i is = all_true _ opens (all_weaker _ _ (λ o at. by o at (same_id i o.id) refl) opens (each_at opens rising))
+  only rising i is = by (open_at opens i) refl is
     where
-      by : (o : Open) → open_at opens o.id ≡ Some o → (b : Bool) → same_id i o.id ≡ b → (not (same_id i o.id) || test o) ≡ true
-      by o at false same = grind (arith, same)
-      by o at true same =
-          let passed : test o ≡ true = sym (ap (passes test) (ap (open_at opens) (id_same i o.id same) ∙ at)) ∙ is in
-          grind (arith, same, passed)
+      by : (x : Option Open) → open_at opens i ≡ x → passes test x ≡ true → list_all (λ o. not (same_id i o.id) || test o) opens ≡ true
+      by None at is = absurd (false≢true is)
+      by (Some o) at is = rows.only own_id test opens rising i o at is
 
   pub none : Rising open_order opens → ((i : Id) → passes test (open_at opens i) ≡ false) → list_any test opens ≡ false
-  none rising fails = all_none test opens (all_weaker _ _ (λ o at. sym (ap (passes test) at) ∙ fails o.id) opens (each_at opens rising))
+  none rising fails = all_none test opens (all_weaker _ _ (λ o at. sym (ap (passes test) at) ∙ fails o.id) opens (each_at own_id opens rising))
 
 -- an open of the group is there where one of an identifier is, and each of it is of the group
 pub has : (test : Open → Bool) (i : Id) (opens : List Open) → list_any (λ o. same_id i o.id) opens ≡ true → list_all (λ o. not (same_id i o.id) || test o) opens ≡ true → list_any test opens ≡ true

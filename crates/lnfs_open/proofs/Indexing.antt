@@ -8,15 +8,12 @@ use Rattle.lnfs_world.specs.Rows.{inserted}
 use Rattle.lnfs_world.specs.World.{Id, Open, open_order, level_order, same_id}
 use Rattle.lnfs_world.specs.Change.{is_open_of}
 use Rattle.lnfs_world.proofs.Rows.{all_weaker}
-use Rattle.lnfs_world.proofs.Sorted.{rising_filter}
-use Rattle.lnfs_world.proofs.Keys.{id_same, id_itself, bytes_same, bytes_itself, last_of-inserted}
-use Rattle.lnfs_world.proofs.KeptClients.{row_rises}
+use Rattle.lnfs_world.proofs.Keys.{id_same, id_itself, bytes_same, bytes_itself}
+use Rattle.lnfs_counts.proofs.Rows.{each_at, found_id, passing, none_passes, one_passes, row_at-inserted, row_at-dropped}
+use Rattle.lnfs_counts.proofs.Counted as counting
+use Rattle.lnfs_counts.proofs.Counted.{with_number}
 use Rattle.lnfs_open.specs.Lists.{Lists}
-use Rattle.lnfs_open.specs.Indexed.{open_at, passes, is_matter, Index, IsIndexed}
-use Rattle.lnfs_open.proofs.OpenRows.{each_at, found_id, passing, none_passes, one_passes, open_at-inserted, open_at-dropped, one_if, count-added, count-set, count-dropped}
-
-abbrev pub with_number : ℕ → ℕ → (ℕ → ℕ) → ℕ → ℕ
-with_number level new f l = cond (level == l) new (f l)
+use Rattle.lnfs_open.specs.Indexed.{own_id, open_at, passes, is_matter, Index, IsIndexed}
 
 abbrev pub entered_in : (group i : Id) → (Id → Id → Bool) → Id → Id → Bool
 entered_in group i f g j = same_id group g && same_id i j || f g j
@@ -89,9 +86,9 @@ module _ (s : Lists) (ix : Index) (kept : IsIndexed s ix) where
       passing_all (Some o) is = ap (λ b. cond b (Some o) None) is
 
       by : (n : Option ℕ) → ix.number client node name ≡ n → find (is_matter client node name) s.opens ≡ at_number s.opens client.level n
-      by None is = none_passes (is_matter client node name) s.opens (all_weaker _ _ (λ o there. fails is o (is_matter client node name o) refl there) s.opens (each_at s.opens kept.rise))
+      by None is = none_passes (is_matter client node name) s.opens (all_weaker _ _ (λ o there. fails is o (is_matter client node name o) refl there) s.opens (each_at own_id s.opens kept.counted.rise))
       by (Some number) is =
-          one_passes (is_matter client node name) (record { level = client.level; number = number }) s.opens kept.rise (all_weaker _ _ (λ o there passes. named number is o there passes) s.opens (each_at s.opens kept.rise))
+          one_passes own_id (is_matter client node name) (record { level = client.level; number = number }) s.opens kept.counted.rise (all_weaker _ _ (λ o there passes. named number is o there passes) s.opens (each_at own_id s.opens kept.counted.rise))
           ∙ passing_all _ (kept.there client node name number is)
 
   -- the identifier that such a number leads to is that of an open
@@ -100,7 +97,7 @@ module _ (s : Lists) (ix : Index) (kept : IsIndexed s ix) where
     where
       by : (x : Option Open) → open_at s.opens (record { level = client.level; number = number }) ≡ x → (o : Open) × (find (is_matter client node name) s.opens ≡ Some o) × (o.id ≡ record { level = client.level; number = number })
       by None at = absurd (false≢true (ap (passes (is_matter client node name)) (sym at) ∙ kept.there client node name number is))
-      by (Some o) at = (o, find-matter client node name ∙ ap (at_number s.opens client.level) is ∙ at, sym (id_same (record { level = client.level; number = number }) o.id (found_id s.opens (record { level = client.level; number = number }) o at)))
+      by (Some o) at = (o, find-matter client node name ∙ ap (at_number s.opens client.level) is ∙ at, sym (id_same (record { level = client.level; number = number }) o.id (found_id own_id s.opens (record { level = client.level; number = number }) o at)))
 
   pub none_numbered : (client node : Id) (name : List ℕ) → find (is_matter client node name) s.opens ≡ None → ix.number client node name ≡ None
   none_numbered client node name none = by (ix.number client node name) refl
@@ -116,13 +113,13 @@ module _ (s : Lists) (ix : Index) (kept : IsIndexed s ix) where
     row = record o { access = access; deny = deny; sequence = sequence }
 
     own : o.id ≡ i
-    own = sym (id_same i o.id (found_id s.opens i o found))
+    own = sym (id_same i o.id (found_id own_id s.opens i o found))
 
     at_own : open_at s.opens o.id ≡ Some o
     at_own = ap (open_at s.opens) own ∙ found
 
     set_keeps : (P : Option Open → Type 0) → (P (Some o) → P (Some row)) → (j : Id) → P (open_at s.opens j) → P (open_at (inserted open_order row s.opens) j)
-    set_keeps P stays j before = subst P (sym (open_at-inserted row s.opens j)) (by (same_id j o.id) refl)
+    set_keeps P stays j before = subst P (sym (row_at-inserted own_id row s.opens j)) (by (same_id j o.id) refl)
       where
         by : (b : Bool) → same_id j o.id ≡ b → P (cond b (Some row) (open_at s.opens j))
         by true is = stays (subst P (ap (open_at s.opens) (id_same j o.id is) ∙ at_own) before)
@@ -130,10 +127,7 @@ module _ (s : Lists) (ix : Index) (kept : IsIndexed s ix) where
 
     pub set : IsIndexed (record s { opens = inserted open_order row s.opens }) ix
     set = record {
-      rise = row_rises (λ x. x.id) row s.opens kept.rise;
-      given = λ j. set_keeps (λ x. is_some x ≡ true → j.number ≤ ix.last j.level) (λ h. h) j (kept.given j);
-      lasting = kept.lasting;
-      counted = λ level. kept.counted level ∙ sym (count-set (λ x. x.id.level == level) row o s.opens kept.rise at_own refl);
+      counted = counting.set own_id s.opens s.lasts ix.last ix.opens kept.counted row o at_own;
       nodes = λ node j. set_keeps (λ x. ix.nodes node j ≡ passes (λ y. same_id node y.node) x) (λ h. h) j (kept.nodes node j);
       clients = λ client j. set_keeps (λ x. ix.clients client j ≡ passes (is_open_of client) x) (λ h. h) j (kept.clients client j);
       filed = λ j. set_keeps (λ x. (y : Open) → x ≡ Some y → ix.number (client_of y) y.node y.owner ≡ Some j.number)
@@ -145,11 +139,7 @@ module _ (s : Lists) (ix : Index) (kept : IsIndexed s ix) where
 
   module _ (row : Open) (next : row.id.number ≡ ix.last row.id.level + 1) (none : ix.number (client_of row) row.node row.owner ≡ None) where
     pub absent : open_at s.opens row.id ≡ None
-    absent = by (open_at s.opens row.id) refl
-      where
-        by : (x : Option Open) → open_at s.opens row.id ≡ x → open_at s.opens row.id ≡ None
-        by None is = is
-        by (Some y) is = absurd (omega (arith, kept.given row.id (ap is_some is)))
+    absent = counting.absent own_id s.opens s.lasts ix.last ix.opens kept.counted row next
 
     pub none_of_node : ix.nodes row.node row.id ≡ false
     none_of_node = kept.nodes row.node row.id ∙ ap (passes (λ y. same_id row.node y.node)) absent
@@ -167,7 +157,7 @@ module _ (s : Lists) (ix : Index) (kept : IsIndexed s ix) where
     }
 
     add_keeps : (P : Option Open → Type 0) (j : Id) → (same_id j row.id ≡ true → P (Some row)) → (same_id j row.id ≡ false → P (open_at s.opens j)) → P (open_at (inserted open_order row s.opens) j)
-    add_keeps P j new old = subst P (sym (open_at-inserted row s.opens j)) (by (same_id j row.id) refl)
+    add_keeps P j new old = subst P (sym (row_at-inserted own_id row s.opens j)) (by (same_id j row.id) refl)
       where
         by : (b : Bool) → same_id j row.id ≡ b → P (cond b (Some row) (open_at s.opens j))
         by true is = new is
@@ -175,29 +165,6 @@ module _ (s : Lists) (ix : Index) (kept : IsIndexed s ix) where
 
     turned : (j : Id) → same_id row.id j ≡ same_id j row.id
     turned j = grind (arith, nat_tests)
-
-    given_added : (j : Id) → is_some (open_at (inserted open_order row s.opens) j) ≡ true → j.number ≤ with_number row.id.level row.id.number ix.last j.level
-    given_added j = add_keeps (λ x. is_some x ≡ true → j.number ≤ with_number row.id.level row.id.number ix.last j.level) j
-        (λ is some. own (row.id.level == j.level) refl (id_same j row.id is))
-        (λ is some. other (row.id.level == j.level) refl (kept.given j some))
-      where
-        own : (b : Bool) → (row.id.level == j.level) ≡ b → j ≡ row.id → j.number ≤ cond b row.id.number (ix.last j.level)
-        own true is same = let number : j.number ≡ row.id.number = ap (λ (k : Id). k.number) same in omega arith
-        own false is same = let level : j.level ≡ row.id.level = ap (λ (k : Id). k.level) same in absurd (grind (arith, nat_tests))
-
-        other : (b : Bool) → (row.id.level == j.level) ≡ b → j.number ≤ ix.last j.level → j.number ≤ cond b row.id.number (ix.last j.level)
-        other true is few = let level : ix.last row.id.level ≡ ix.last j.level = ap ix.last (let l : row.id.level ≡ j.level = grind (arith, nat_tests) in l) in omega arith
-        other false is few = few
-
-    counted_added : (level : ℕ) → with_number row.id.level (ix.opens row.id.level + 1) ix.opens level ≡ count_by (λ x. x.id.level == level) (inserted open_order row s.opens)
-    counted_added level = by (row.id.level == level) refl ∙ sym (count-added (λ x. x.id.level == level) row s.opens absent)
-      where
-        by : (b : Bool) → (row.id.level == level) ≡ b → cond b (ix.opens row.id.level + 1) (ix.opens level) ≡ count_by (λ x. x.id.level == level) s.opens + one_if (row.id.level == level)
-        by true is =
-            let l : row.id.level ≡ level = grind (arith, nat_tests) in
-            let one : one_if (row.id.level == level) ≡ 1 = ap one_if is in
-            omega (arith, kept.counted level, ap ix.opens l, one)
-        by false is = let zero_ : one_if (row.id.level == level) ≡ 0 = ap one_if is in omega (arith, kept.counted level, zero_)
 
     -- a group that the new open is in, and no other open of its identifier
     grouped : (f : Id → Id → Bool) (g : Id) (test : Id → Open → Bool) → ((n j : Id) → f n j ≡ passes (test n) (open_at s.opens j)) → ((n : Id) → same_id g n ≡ test n row) → (n j : Id) → entered_in g row.id f n j ≡ passes (test n) (open_at (inserted open_order row s.opens) j)
@@ -238,7 +205,7 @@ module _ (s : Lists) (ix : Index) (kept : IsIndexed s ix) where
             let k = keyed (client_of row) client row.node node row.owner name is in
             let number_is : row.id.number ≡ number = cc in
             let id : record { level = client.level; number = number } ≡ row.id = λ t. record { level = (sym k.0 t).level; number = sym number_is t } in
-            let here : open_at (inserted open_order row s.opens) row.id ≡ Some row = open_at-inserted row s.opens row.id ∙ ap (λ b. cond b (Some row) (open_at s.opens row.id)) (id_itself row.id) in
+            let here : open_at (inserted open_order row s.opens) row.id ≡ Some row = row_at-inserted own_id row s.opens row.id ∙ ap (λ b. cond b (Some row) (open_at s.opens row.id)) (id_itself row.id) in
             let itself : is_matter (client_of row) row.node row.owner row ≡ true = grind (arith, nat_tests, id_itself row.node, bytes_itself row.owner) in
             ap (passes (is_matter client node name)) (ap (open_at (inserted open_order row s.opens)) id ∙ here) ∙ (λ t. is_matter (sym k.0 t) (sym k.1 t) (sym k.2 t) row) ∙ itself
         by false is known = add_keeps (λ x. passes (is_matter client node name) x ≡ true) (record { level = client.level; number = number })
@@ -247,10 +214,7 @@ module _ (s : Lists) (ix : Index) (kept : IsIndexed s ix) where
 
     pub entered : IsIndexed (record { opens = inserted open_order row s.opens; lasts = inserted level_order row.id s.lasts }) Entered
     entered = record {
-      rise = row_rises (λ x. x.id) row s.opens kept.rise;
-      given = given_added;
-      lasting = λ level. last_of-inserted row.id s.lasts level ∙ ap (λ n. cond (row.id.level == level) row.id.number n) (kept.lasting level);
-      counted = counted_added;
+      counted = counting.added own_id s.opens s.lasts ix.last ix.opens kept.counted row next;
       nodes = grouped ix.nodes row.node (λ n y. same_id n y.node) kept.nodes (λ n. grind (arith, nat_tests));
       clients = grouped ix.clients (client_of row) is_open_of kept.clients (λ c. grind (arith, nat_tests));
       filed = filed_added;
@@ -261,7 +225,7 @@ module _ (s : Lists) (ix : Index) (kept : IsIndexed s ix) where
 
   module _ (i : Id) (o : Open) (found : open_at s.opens i ≡ Some o) where
     own_left : o.id ≡ i
-    own_left = sym (id_same i o.id (found_id s.opens i o found))
+    own_left = sym (id_same i o.id (found_id own_id s.opens i o found))
 
     abbrev left : List Open
     left = filter (λ x. not (same_id i x.id)) s.opens
@@ -276,29 +240,11 @@ module _ (s : Lists) (ix : Index) (kept : IsIndexed s ix) where
     }
 
     drop_keeps : (P : Option Open → Type 0) (j : Id) → (same_id j i ≡ true → P None) → (same_id j i ≡ false → P (open_at s.opens j)) → P (open_at left j)
-    drop_keeps P j gone other = subst P (sym (open_at-dropped i s.opens j)) (by (same_id j i) refl)
+    drop_keeps P j gone other = subst P (sym (row_at-dropped own_id i s.opens j)) (by (same_id j i) refl)
       where
         by : (b : Bool) → same_id j i ≡ b → P (cond b None (open_at s.opens j))
         by true is = gone is
         by false is = other is
-
-    counted_left : (level : ℕ) → with_number i.level (ix.opens i.level - 1) ix.opens level ≡ count_by (λ x. x.id.level == level) left
-    counted_left level = by (i.level == level) refl
-      where
-        own_level : o.id.level ≡ i.level
-        own_level = ap (λ (x : Id). x.level) own_left
-
-        count : count_by (λ (x : Open). x.id.level == level) left + one_if (o.id.level == level) ≡ count_by (λ (x : Open). x.id.level == level) s.opens
-        count = count-dropped (λ x. x.id.level == level) i o s.opens kept.rise found
-
-        by : (b : Bool) → (i.level == level) ≡ b → cond b (ix.opens i.level - 1) (ix.opens level) ≡ count_by (λ (x : Open). x.id.level == level) left
-        by true is =
-            let same : i.level ≡ level = grind (arith, nat_tests) in
-            let one : one_if (o.id.level == level) ≡ 1 = grind (arith, nat_tests, own_level, same) in
-            omega (arith, count, one, kept.counted level, ap ix.opens same)
-        by false is =
-            let none : one_if (o.id.level == level) ≡ 0 = grind (arith, nat_tests, own_level, is) in
-            omega (arith, count, none, kept.counted level)
 
     turned_left : (j : Id) → same_id i j ≡ same_id j i
     turned_left j = grind (arith, nat_tests)
@@ -325,7 +271,7 @@ module _ (s : Lists) (ix : Index) (kept : IsIndexed s ix) where
             let mine : ix.number (client_of y) y.node y.owner ≡ Some i.number = (λ t. ix.number (sym k.0 t) (sym k.1 t) (sym k.2 t)) ∙ kept.filed i o found in
             let number : j.number ≡ i.number = let before = kept.filed j y at in cc in
             let level : i.level ≡ y.id.level = ap (λ (x : Id). x.level) (sym own_left) ∙ ap (λ (x : Id). x.level) k.0 in
-            let here : j.level ≡ y.id.level = ap (λ (x : Id). x.level) (id_same j y.id (found_id s.opens j y at)) in
+            let here : j.level ≡ y.id.level = ap (λ (x : Id). x.level) (id_same j y.id (found_id own_id s.opens j y at)) in
             absurd (false≢true (sym is ∙ grind (arith, nat_tests, number, level, here)))
 
     there_left : (client node : Id) (name : List ℕ) (number : ℕ) → numbered (client_of o) o.node o.owner None ix.number client node name ≡ Some number → passes (is_matter client node name) (open_at left (record { level = client.level; number = number })) ≡ true
@@ -343,10 +289,7 @@ module _ (s : Lists) (ix : Index) (kept : IsIndexed s ix) where
 
     pub dropped : IsIndexed (record s { opens = left }) Left
     dropped = record {
-      rise = rising_filter open_order _ s.opens kept.rise;
-      given = λ j. drop_keeps (λ x. is_some x ≡ true → j.number ≤ ix.last j.level) j (λ is some. absurd (false≢true some)) (λ is some. kept.given j some);
-      lasting = kept.lasting;
-      counted = counted_left;
+      counted = counting.dropped own_id s.opens s.lasts ix.last ix.opens kept.counted i o found;
       nodes = grouped_left ix.nodes o.node (λ n y. same_id n y.node) kept.nodes (λ n. grind (arith, nat_tests));
       clients = grouped_left ix.clients (client_of o) is_open_of kept.clients (λ c. grind (arith, nat_tests));
       filed = filed_left;

@@ -4,13 +4,13 @@ use Rattle.std.specs.Prelude.{option_map, bit_or}
 use Rattle.lnfs_world.specs.Rows.{Rising}
 use Rattle.lnfs_world.specs.World.{Id, Open, open_order}
 use Rattle.lnfs_world.proofs.Rows.{all_find}
+use Rattle.lnfs_counts.proofs.Rows.{each_at}
 use Rattle.lnfs_open.specs.declared.keys.OpenRef.{OpenRef}
 use Rattle.lnfs_open.specs.Lists.{Lists}
 use Rattle.lnfs_open.specs.Listed.{open_id}
 use Rattle.lnfs_open.specs.Opening.{Wish, own_open, sequence_after, joined, rows_set, IsJoined, new_open}
 use Rattle.lnfs_world.specs.Facts.{same_opening}
-use Rattle.lnfs_open.specs.Indexed.{open_at, Index, IsIndexed}
-use Rattle.lnfs_open.proofs.OpenRows.{each_at}
+use Rattle.lnfs_open.specs.Indexed.{own_id, open_at, Index, IsIndexed}
 use Rattle.lnfs_open.proofs.Indexing.{set}
 
 abbrev pub id_in : Option Open → Option Id
@@ -24,7 +24,7 @@ own_at s wish i rise known = by (own_open s wish) refl known
     by None is known = absurd (cc)
     by (Some o) is known =
         let same : o.id ≡ i = cc in
-        sym (ap (open_at s.opens) (sym same) ∙ (all_find _ (same_opening (new_open s wish)) s.opens o (each_at s.opens rise) is).0)
+        sym (ap (open_at s.opens) (sym same) ∙ (all_find _ (same_opening (new_open s wish)) s.opens o (each_at own_id s.opens rise) is).0)
 
 pub set_kept : (s : Lists) (ix : Index) → IsIndexed s ix → (i : Id) (access deny : ℕ) → IsIndexed (record s { opens = rows_set (joined access deny) (open_at s.opens i) s.opens }) ix
 set_kept s ix kept i access deny = by (open_at s.opens i) refl

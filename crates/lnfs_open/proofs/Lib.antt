@@ -1,9 +1,6 @@
 pub mod Entries
-pub mod Counting
-pub mod Named
 pub mod Places
 pub mod NamedNumbers
-pub mod OpenRows
 pub mod Indexing
 pub mod Grouped
 pub mod Joining

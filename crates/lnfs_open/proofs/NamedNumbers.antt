@@ -1,22 +1,17 @@
 -- Numbers by name, client and node after a change at one name.
 use Rattle.std.proofs.Common.{◌≡◌, ℕ, Bool, true, false, cond, ◌&&◌, List, Option, None, refl, ap, ◌∙◌}
 use Rattle.std.specs.Ordering.{nat_cmp}
-use Rattle.std.specs.declared.cmp.Ordering.{Ordering}
 use Rattle.std.specs.Cmp.Lexicographic.{slice_cmp}
 use Rattle.std.specs.Str.{bytes_eq}
 use Rattle.std.specs.BTreeMap.{BTreeMap, UpdatesBy}
 use Rattle.std.specs.Global.{Vec}
-use Rattle.lnfs_world.proofs.Keys.{bytes_same}
+use Rattle.lnfs_counts.proofs.Named.{name_cmp, at, name_updated, read_alike}
 use Rattle.lnfs_open.specs.declared.owners.Matter.{Matter}
 use Rattle.lnfs_open.specs.Owners.{number_in}
-use Rattle.lnfs_open.proofs.Named.{at, owners_updated}
-
-abbrev name_cmp : Vec ℕ → Vec ℕ → Ordering
-name_cmp a b = slice_cmp nat_cmp a.items b.items
 
 module _ (m n : BTreeMap (Vec ℕ) (BTreeMap Matter ℕ)) (name : List ℕ) (w : Option (BTreeMap Matter ℕ)) (updates : UpdatesBy name_cmp (λ k. slice_cmp nat_cmp name k.items) m n w) where
   pub number_updated : (o : List ℕ) (k : Matter) → number_in (at n o) k ≡ cond (bytes_eq name o) (number_in w k) (number_in (at m o) k)
-  number_updated o k = ap (λ x. number_in x k) (owners_updated m n name w updates o) ∙ by (bytes_eq name o)
+  number_updated o k = ap (λ x. number_in x k) (name_updated m n name w updates o) ∙ by (bytes_eq name o)
     where
       by : (b : Bool) → number_in (cond b w (at m o)) k ≡ cond b (number_in w k) (number_in (at m o) k)
       by true = refl
@@ -24,11 +19,7 @@ module _ (m n : BTreeMap (Vec ℕ) (BTreeMap Matter ℕ)) (name : List ℕ) (w :
 
   -- a change by which its numbers stay
   pub number_stays : ((k : Matter) → number_in w k ≡ number_in (at m name) k) → (o : List ℕ) (k : Matter) → number_in (at n o) k ≡ number_in (at m o) k
-  number_stays stays o k = number_updated o k ∙ by (bytes_eq name o) refl
-    where
-      by : (b : Bool) → bytes_eq name o ≡ b → cond b (number_in w k) (number_in (at m o) k) ≡ number_in (at m o) k
-      by true is = stays k ∙ ap (λ x. number_in (at m x) k) (bytes_same name o is)
-      by false is = refl
+  number_stays stays o k = read_alike m n name w updates (λ x. number_in x k) (stays k) o
 
 pub put_by : (k b : Bool) (w x z : Option ℕ) → (b ≡ true → x ≡ z) → cond b (cond k w x) z ≡ cond (k && b) w z
 put_by true true w x z same = refl

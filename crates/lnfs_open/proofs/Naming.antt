@@ -5,9 +5,9 @@ use Rattle.std.proofs.lemmas.Bool.Decides.{nat_tests}
 use Rattle.lnfs_world.specs.Rows.{Rising}
 use Rattle.lnfs_world.specs.World.{Id, Open, open_order, same_id}
 use Rattle.lnfs_world.proofs.Rows.{all_anyway}
+use Rattle.lnfs_counts.proofs.Rows.{found_id, passing, one_passes}
 use Rattle.lnfs_open.specs.Opening.{open_named}
-use Rattle.lnfs_open.specs.Indexed.{open_at}
-use Rattle.lnfs_open.proofs.OpenRows.{found_id, passing, one_passes}
+use Rattle.lnfs_open.specs.Indexed.{own_id, open_at}
 use Rattle.lnfs_open.proofs.Indexing.{client_of}
 
 -- one of them that is of a client and a node
@@ -25,12 +25,12 @@ none false = refl
 
 pub named : (opens : List Open) (client node i : Id) → Rising open_order opens → open_named opens client node i ≡ chosen client node (open_at opens i)
 named opens client node i rise =
-    ap (λ x. cond (i.level == client.level) x None) (one_passes (λ o. same_id i o.id && (client.number == o.client && same_id node o.node)) i opens rise (all_anyway _ (λ o is. grind (arith, is)) opens))
+    ap (λ x. cond (i.level == client.level) x None) (one_passes own_id (λ o. same_id i o.id && (client.number == o.client && same_id node o.node)) i opens rise (all_anyway _ (λ o is. grind (arith, is)) opens))
     ∙ by (open_at opens i) refl
   where
     by : (x : Option Open) → open_at opens i ≡ x → cond (i.level == client.level) (passing (λ o. same_id i o.id && (client.number == o.client && same_id node o.node)) x) None ≡ chosen client node x
     by None at = none (i.level == client.level)
     by (Some o) at =
-        let own : same_id i o.id ≡ true = found_id opens i o at in
+        let own : same_id i o.id ≡ true = found_id own_id opens i o at in
         let test : (i.level == client.level && (same_id i o.id && (client.number == o.client && same_id node o.node))) ≡ (same_id client (client_of o) && same_id node o.node) = grind (arith, nat_tests, own) in
         both (i.level == client.level) (same_id i o.id && (client.number == o.client && same_id node o.node)) o ∙ ap (λ b. cond b (Some o) None) test

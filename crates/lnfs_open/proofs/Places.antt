@@ -6,14 +6,12 @@ use Rattle.std.specs.declared.cmp.Ordering.{Ordering}
 use Rattle.std.specs.declared.cmp.Ordering.TheVariants.{Less, Equal, Greater}
 use Rattle.std.proofs.lemmas.Bool.Decides.{nat_tests}
 use Rattle.lnfs_world.specs.World.{Id, id_order, same_id}
+use Rattle.lnfs_counts.proofs.Entries.{ids_same}
 use Rattle.lnfs_open.specs.declared.groups.Place.{Place}
 use Rattle.lnfs_open.specs.declared.keys.Key.{Key}
 use Rattle.lnfs_open.specs.Listed.{id_of}
 use Rattle.lnfs_open.specs.Groups.{place_cmp, place_of}
 use Rattle.lnfs_open.specs.Owners.{matter_cmp, matter_of}
-
-pub ids_same : (a b : Id) → is_eq (id_order a b) ≡ same_id a b
-ids_same a b = grind (arith, nat_tests)
 
 then_same : (o p : Ordering) → is_eq (ordering_then o p) ≡ (is_eq o && is_eq p)
 then_same Less p = refl

@@ -10,14 +10,14 @@ use Rattle.lnfs_world.specs.Rows.{Rising}
 use Rattle.lnfs_world.specs.World.{Id, Open, open_order, same_id}
 use Rattle.lnfs_world.proofs.Rows.{all_weaker, any_row, any_found}
 use Rattle.lnfs_world.proofs.Keys.{id_same, id_itself}
+use Rattle.lnfs_counts.proofs.Rows.{each_at}
 use Rattle.lnfs_open.specs.declared.groups.Groups.{Groups}
 use Rattle.lnfs_open.specs.declared.groups.Place.{Place}
 use Rattle.lnfs_open.specs.Listed.{id_of}
 use Rattle.lnfs_open.specs.Groups.{place_cmp, place_of, holds}
-use Rattle.lnfs_open.specs.Indexed.{open_at, passes}
+use Rattle.lnfs_open.specs.Indexed.{own_id, open_at, passes}
 use Rattle.lnfs_open.specs.Sharing.{has_any, conflicts, is_denied}
 use Rattle.lnfs_open.proofs.Places.{place_same}
-use Rattle.lnfs_open.proofs.OpenRows.{each_at}
 
 abbrev Places : Type 0
 Places = List (Place × Unit {0})
@@ -78,7 +78,7 @@ module _ (opens : List Open) (rise : Rising open_order opens) (nodes : Groups) (
 
   from_opens : list_any (λ o. same_id node o.node && t o) opens ≡ true → list_any (λ e. same_id node (id_of e.0.group) && passes t (open_at opens (id_of e.0.id))) nodes.places.entries ≡ true
   from_opens some =
-      let row = any_row _ (λ o. same_id node o.node && t o) opens (each_at opens rise) some in
+      let row = any_row _ (λ o. same_id node o.node && t o) opens (each_at own_id opens rise) some in
       let o = row.0 in
       let here : same_id node o.node ≡ true = grind (arith, row.2) in
       let test : t o ≡ true = grind (arith, row.2) in

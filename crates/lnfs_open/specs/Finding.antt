@@ -2,12 +2,12 @@
 use Rattle.std.specs.Prelude.{◌≡◌, ℕ, ◌&&◌, ◌||◌, not, cond, List, Some, None}
 use Rattle.std.specs.Str.{bytes_eq}
 use Rattle.lnfs_world.specs.World.{Id, same_id}
+use Rattle.lnfs_counts.specs.Counters.{Counters, last_at, count_at}
 use Rattle.lnfs_open.specs.declared.finder.Finder.{Finder}
 use Rattle.lnfs_open.specs.declared.finder.Filing.{Filing}
 use Rattle.lnfs_open.specs.Listed.{id_of}
 use Rattle.lnfs_open.specs.Groups.{holds}
 use Rattle.lnfs_open.specs.Owners.{number_at}
-use Rattle.lnfs_open.specs.Counters.{Counters, last_at, opens_at}
 use Rattle.lnfs_open.specs.Indexed.{Index}
 
 -- what an open is found by
@@ -40,7 +40,7 @@ pub record FindSame (a b : Finder) : Type 0 where
 abbrev pub index_of : Counters → Finder → Index
 index_of counters finder = record {
   last = last_at counters;
-  opens = opens_at counters;
+  opens = count_at counters;
   nodes = holds finder.nodes;
   clients = holds finder.clients;
   number = number_at finder.owners;

@@ -1,11 +1,14 @@
 -- Opens with what is kept to find them and to count them.
-use Rattle.std.specs.Prelude.{◌≡◌, ◌≤◌, ℕ, ◌==◌, ◌&&◌, Bool, true, false, List, Option, Some, None, is_some, count_by}
+use Rattle.std.specs.Prelude.{◌≡◌, ℕ, ◌==◌, ◌&&◌, Bool, true, false, List, Option, Some, None}
 use Rattle.std.specs.List.{find}
-use Rattle.lnfs_world.specs.Rows.{Rising}
-use Rattle.lnfs_world.specs.World.{Id, Open, open_order, same_id, last_of}
+use Rattle.lnfs_world.specs.World.{Id, Open, same_id}
 use Rattle.lnfs_world.specs.Change.{is_open_of}
 use Rattle.std.specs.Str.{bytes_eq}
+use Rattle.lnfs_counts.specs.Counted.{IsCounted}
 use Rattle.lnfs_open.specs.Lists.{Lists}
+
+abbrev pub own_id : Open → Id
+own_id o = o.id
 
 abbrev pub open_at : List Open → Id → Option Open
 open_at opens i = find (λ o. same_id i o.id) opens
@@ -31,11 +34,7 @@ pub record Index : Type 0 where
   pub number : (client node : Id) → List ℕ → Option ℕ
 
 pub record IsIndexed (s : Lists) (ix : Index) : Type 0 where
-  pub rise : Rising open_order s.opens
-  -- no number is above the last that its level was given
-  pub given : (i : Id) → is_some (open_at s.opens i) ≡ true → i.number ≤ ix.last i.level
-  pub lasting : (level : ℕ) → last_of level s.lasts ≡ ix.last level
-  pub counted : (level : ℕ) → ix.opens level ≡ count_by (λ o. o.id.level == level) s.opens
+  pub counted : IsCounted own_id s.opens s.lasts ix.last ix.opens
   pub nodes : (node i : Id) → ix.nodes node i ≡ passes (λ o. same_id node o.node) (open_at s.opens i)
   pub clients : (client i : Id) → ix.clients client i ≡ passes (is_open_of client) (open_at s.opens i)
   -- an open's number is the one that its client, node and owner lead to, and each such number is that of an open

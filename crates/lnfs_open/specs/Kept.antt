@@ -1,11 +1,11 @@
 -- What holds of all that is kept.
 use Rattle.std.specs.Prelude.{List, map}
+use Rattle.lnfs_counts.specs.Counters.{Counters, lasts_of}
 use Rattle.lnfs_open.specs.declared.keys.Key.{Key}
 use Rattle.lnfs_open.specs.declared.keys.OpenRow.{OpenRow}
 use Rattle.lnfs_open.specs.declared.finder.Finder.{Finder}
 use Rattle.lnfs_open.specs.Lists.{Lists}
 use Rattle.lnfs_open.specs.Listed.{open_of, AreOwn}
-use Rattle.lnfs_open.specs.Counters.{Counters, lasts_of}
 use Rattle.lnfs_open.specs.Indexed.{IsIndexed}
 use Rattle.lnfs_open.specs.Finding.{index_of}
 

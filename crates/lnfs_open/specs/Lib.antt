@@ -2,7 +2,6 @@ pub mod Lists
 pub mod Opening
 pub mod Sharing
 pub mod Listed
-pub mod Counters
 pub mod Groups
 pub mod Owners
 pub mod Indexed

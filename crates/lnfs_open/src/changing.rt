@@ -8,11 +8,11 @@ ghost use Rattle.lnfs_open.specs.Lists.{ran};
 ghost use Rattle.lnfs_open.specs.Listed.{id_of, client_id, node_id, open_id, row_of};
 ghost use Rattle.lnfs_open.specs.Opening.{own_open, has_open_left, opened_of, opened_by, rows_set, joined, IsJoined, Does, found_of, ended_of, Ends};
 
-use crate::counters::{count_off, count_one, last_given, make_counter};
 use crate::finder::Filing;
 use crate::keys::{ClientKey, Key, NodeKey, OpenError, OpenRef, OpenRow};
 use crate::opens::Opens;
 use crate::rows::{add_row, drop_row, join_row, row_at};
+use lnfs_counts::{count_off, count_one, last_given, make_counter};
 use lnfs_lists::Octets;
 use std::alloc::AllocError;
 

@@ -2,9 +2,9 @@
 ghost use Rattle.std.specs.Prelude.{◌≡◌, ◌<◌, None, find};
 ghost use Rattle.lnfs_world.specs.World.{Id, last_of, same_id};
 
-use crate::counters::last_given;
 use crate::opens::Opens;
 use lnfs_calipso::Level;
+use lnfs_counts::last_given;
 
 impl Opens {
     /// The last number that a level was given: before the first, 0. No open of the level has one above it.

@@ -5,7 +5,6 @@
 #![tactic(auto)]
 
 mod changing;
-mod counters;
 mod finder;
 mod groups;
 mod keys;

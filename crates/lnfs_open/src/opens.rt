@@ -10,7 +10,6 @@ ghost use Rattle.lnfs_open.specs.Listed.{id_of, client_id, node_id, open_id, row
 ghost use Rattle.lnfs_open.specs.Opening.{own_open, open_named, found_of, room_at, has_open_left};
 ghost use Rattle.lnfs_open.specs.Sharing.{conflicts, is_denied};
 
-use crate::counters::{Counter, count, last_given};
 use crate::finder::Finder;
 use crate::keys::{ClientKey, Key, NodeKey, OpenError, OpenRef, OpenRow};
 use crate::numbers::OPENS_OF_A_LEVEL;
@@ -18,6 +17,7 @@ use crate::owners::Matter;
 use crate::rows::{is_of, row_at};
 use crate::shares::Share;
 use lnfs_calipso::{Lattice, Level};
+use lnfs_counts::{Counter, count, last_given};
 use lnfs_world::numbers::LAST_NUMBER;
 use std::alloc::Global;
 use std::collections::BTreeMap;
@@ -34,9 +34,9 @@ pub struct Opens {
 
 impl Model for Opens {
     ghost use Rattle.std.specs.Prelude.{map};
+    ghost use Rattle.lnfs_counts.specs.Counters.{lasts_of};
     ghost use Rattle.lnfs_open.specs.Lists.{Lists};
     ghost use Rattle.lnfs_open.specs.Listed.{open_of};
-    ghost use Rattle.lnfs_open.specs.Counters.{lasts_of};
     ghost use Rattle.lnfs_open.specs.Kept.{IsKept};
 
     ghost Value = { Lists };

@@ -1,14 +1,15 @@
 -- What is due for a task under a policy, case by case, and calls that do it.
-use Rattle.std.proofs.Common.{◌≡◌, ℕ, List, [], ◌∷◌, ◌++◌, refl, sym, ap, ◌∙◌, subst}
-use Rattle.std.specs.Prelude.{Result, Ok, Err, OnOk, IfOk}
+use Rattle.std.proofs.Common.{◌≡◌, ℕ, Bool, true, false, List, [], ◌∷◌, ◌++◌, refl, sym, ap, ◌∙◌, subst}
+use Rattle.std.specs.Prelude.{Result, Ok, Err, OnOk, IfOk, IfSome}
 use Rattle.std.specs.declared.option.Option.{Option}
 use Rattle.std.specs.declared.option.Option.TheVariants.{Some, None}
-use Rattle.std.specs.Global.{Vec}
 use Rattle.hex.specs.Hex.{encode_lower}
 use Rattle.lnfs_map.specs.declared.table.MapError.{MapError}
 use Rattle.lnfs_map.specs.declared.table.MapError.TheVariants as error
 use Rattle.lnfs_map.specs.Translated.{IsTranslated}
-use Rattle.lnfs_outside.specs.Bytes.{Told}
+use Rattle.lnfs_outside.specs.Bytes.{Told, Opens}
+use Rattle.lnfs_outside.specs.Nets.{Deal, Back}
+use Rattle.lnfs_outside.specs.declared.event.Moment.{Moment}
 use Rattle.lnfs_policy.specs.Policy.{Policy}
 use Rattle.lnfs_policy.specs.declared.mode.Mode.TheVariants.{Enforcing, Limited}
 use Rattle.lnfs_program.specs.declared.status.Status.{Status}
@@ -16,42 +17,87 @@ use Rattle.lnfs_program.specs.declared.status.Status.TheVariants as statuses
 use Rattle.lnfs_program.specs.declared.status.Stop.{Stop}
 use Rattle.lnfs_program.specs.Ending.{told_by}
 use Rattle.lnfs_gss3.specs.Mechanism.{keyed_digest}
-use Rattle.lnfs_program.specs.Due.{due_under, enforced, given, shown, spelled, no_translation, replayed}
-use Rattle.lnfs_program.specs.Runs.{Holds, Plays, Performs, held}
+use Rattle.lnfs_program.specs.Due.{due_under, enforced, given, shown, spelled, no_translation, replayed, served}
+use Rattle.lnfs_program.specs.Handed.{Dealings, dealings, IsUnder, HandedBy}
+use Rattle.lnfs_program.specs.Replays.{ReplaysLeft}
+use Rattle.lnfs_program.specs.Runs.{Holds, Plays, Performs, Replays, Serves, status_of}
+use Rattle.lnfs_program.specs.Session.{Session, IsSession}
 use Rattle.lnfs_program.specs.Streams.{Streams}
-use Rattle.lnfs_program.specs.Words.{Task, replay, file_of}
+use Rattle.lnfs_program.specs.Words.{Task, replay, serve, file_of}
+use Rattle.lnfs_program.proofs.Dealing.{says, untouched, nothing}
+use Rattle.lnfs_program.proofs.Handing.{served_to}
 use Rattle.lnfs_program.proofs.Judging.{seen, seen_held, gave_up, told_only}
 
-module _ (told : Told) (policy : Policy) {result : Result Status Stop} {s : Streams} where
-  -- whatever the file holds
-  pub performs_with : (task : Task) {t : Streams} → ((file : Option (List ℕ)) → Plays (due_under policy task file) result s t) → Performs told policy task result s t
-  performs_with task plays = record {
+module _ (told : Told) {may : Moment → Type 0} (policy : Policy) {result : Result Status Stop} {s : Streams} (dealt : Option (List Deal)) (backs : Option (List Back)) where
+  -- whatever the file holds, where no links are dealt with
+  pub performs_with : (task : Task) {t : Streams} → ((file : Option (List ℕ)) (session : Option Session) → Plays (due_under policy task file session) result s t) → HandedBy (IsUnder may policy) None (status_of result) task [] [] → Performs told may policy task result s t (dealings dealt dealt backs backs)
+  performs_with task plays links = record {
     file = seen told (file_of task);
+    session = None;
     file_held = seen_held told (file_of task);
-    plays = plays (seen told (file_of task));
+    plays = plays (seen told (file_of task)) None;
+    links = untouched dealt backs links;
   }
 
-  pub performs_gave_up : (task : Task) → OnOk result ⊥ → Performs told policy task result s s
-  performs_gave_up task never = performs_with task (λ file. gave_up (due_under policy task file) never)
+  pub performs_file : (name : List ℕ) {t : Streams} → Replays told policy name result s t → Performs told may policy (replay name) result s t (dealings dealt dealt backs backs)
+  performs_file name {t} p = record {
+    file = p.file;
+    session = None;
+    file_held = p.file_held;
+    plays = p.plays;
+    links = untouched dealt backs nothing;
+  }
+
+-- what was left of a file that was opened is what the file holds
+holds_left : (told : Told) (name : List ℕ) (left : Option (List ℕ)) (traffic : List ℕ) → Opens told name left true → IfSome left (λ bytes. traffic ≡ bytes) → Holds told name (Some traffic)
+holds_left None name left traffic o w = tt
+holds_left (Some look) name None traffic o w = absurd (let some = o.1 in cc)
+holds_left (Some look) name (Some bytes) traffic o w = o.0 ∙ ap Some (sym w)
+
+-- a replay
+module _ (told : Told) (policy : Policy) {result : Result Status Stop} {s : Streams} where
+  pub performs_gave_up : (name : List ℕ) → OnOk result ⊥ → Replays told policy name result s s
+  performs_gave_up name never = record {
+    file = seen told name;
+    file_held = seen_held told name;
+    plays = gave_up (enforced policy.mode (given (seen told name) name (replayed keyed_digest policy))) never;
+  }
 
   -- a policy whose labels the server doesn't enforce
-  pub performs_limited : (name : List ℕ) → policy.mode ≡ Limited → IfOk result (λ status. told_by status ≡ Some statuses.Usage) → Performs told policy (replay name) result s s
-  performs_limited name e h = performs_with (replay name) (λ file. told_only (due_under policy (replay name) file) statuses.Usage (rw e refl) h)
+  pub performs_limited : (name : List ℕ) → policy.mode ≡ Limited → IfOk result (λ status. told_by status ≡ Some statuses.Usage) → Replays told policy name result s s
+  performs_limited name e h = record {
+    file = seen told name;
+    file_held = seen_held told name;
+    plays = told_only (enforced policy.mode (given (seen told name) name (replayed keyed_digest policy))) statuses.Usage (rw e refl) h;
+  }
 
-  module _ (name : List ℕ) (e : policy.mode ≡ Enforcing) (found : Option (Vec ℕ)) (held_found : Holds told name (held found)) where
-    pub performs_no_file : found ≡ None → IfOk result (λ status. told_by status ≡ Some (statuses.NoFile name)) → Performs told policy (replay name) result s s
-    performs_no_file n h = record {
-      file = held found;
-      file_held = held_found;
-      plays = told_only (due_under policy (replay name) (held found)) (statuses.NoFile name) (rw (e, n) refl) h;
+  module _ (name : List ℕ) (e : policy.mode ≡ Enforcing) {left : Option (List ℕ)} where
+    pub performs_no_file : Opens told name left false → IfOk result (λ status. told_by status ≡ Some (statuses.NoFile name)) → Replays told policy name result s s
+    performs_no_file o h = record {
+      file = None;
+      file_held = o.0;
+      plays = told_only (enforced policy.mode (given None name (replayed keyed_digest policy))) (statuses.NoFile name) (rw e refl) h;
     }
 
-    pub performs_replay : {t : Streams} (bytes : Vec ℕ) → found ≡ Some bytes → {read : List ℕ} → read ≡ bytes.items → Plays (replayed keyed_digest policy read) result s t → Performs told policy (replay name) result s t
-    performs_replay {t} bytes n {read} same plays = record {
-      file = held found;
-      file_held = held_found;
-      plays = subst (λ d. Plays d result s t) (sym (ap (λ m. enforced m (given (held found) name (replayed keyed_digest policy))) e ∙ rw n (ap (replayed keyed_digest policy) (sym same)))) plays;
+    pub performs_replay : {t : Streams} (found : Bool) → found ≡ true → Opens told name left found → ReplaysLeft keyed_digest policy left result s t → Replays told policy name result s t
+    performs_replay {t} found is o r = record {
+      file = Some r.traffic;
+      file_held = holds_left told name left r.traffic (subst (Opens told name left) is o) r.was_left;
+      plays = subst (λ d. Plays d result s t) (sym (ap (λ m. enforced m (replayed keyed_digest policy r.traffic)) e)) r.plays;
     }
+
+-- a service under a policy whose labels the server enforces, and under another
+pub performs_service : (told : Told) {may : Moment → Type 0} (policy : Policy) (classes : List ℕ) (workers : ℕ) {result : Result Status Stop} {s t : Streams} {net : Dealings} → policy.mode ≡ Enforcing → Serves may keyed_digest policy classes result s t net → Performs told may policy (serve classes workers) result s t net
+performs_service told {may} policy classes workers {result} {s} {t} e p = record {
+  file = seen told [];
+  session = p.session;
+  file_held = seen_held told [];
+  plays = subst (λ d. Plays d result s t) (sym (ap (λ m. enforced m (served keyed_digest policy p.session)) e)) p.plays;
+  links = says (served_to (IsSession may keyed_digest policy) (IsUnder may policy) (λ session all deals backs is. record { enforces = e; is_session = is }) p.session (status_of result) classes) p.links;
+}
+
+pub performs_no_service : (told : Told) {may : Moment → Type 0} (policy : Policy) (classes : List ℕ) (workers : ℕ) {s : Streams} (dealt : Option (List Deal)) (backs : Option (List Back)) → policy.mode ≡ Limited → Performs told may policy (serve classes workers) (Ok statuses.Usage) s s (dealings dealt dealt backs backs)
+performs_no_service told policy classes workers dealt backs e = performs_with told policy dealt backs (serve classes workers) (λ file session. told_only (enforced policy.mode (served keyed_digest policy session)) statuses.Usage (rw e refl) refl) nothing
 
 -- no status tells want of memory
 never_memory : (status : Status) → told_by status ≡ Some statuses.Memory → ⊥
@@ -64,6 +110,7 @@ never_memory (statuses.Untranslated cause) e = cc
 never_memory statuses.ReadFault e = cc
 never_memory statuses.WriteFault e = cc
 never_memory statuses.Memory e = cc
+never_memory statuses.NetFault e = cc
 
 module _ {result : Result Status Stop} {s : Streams} where
   -- a translation that was told

@@ -1,11 +1,12 @@
 -- What events come to, one event after another.
-use Rattle.std.proofs.Common.{◌≡◌, ◌≤◌, ◌+◌, ℕ, List, [], ◌∷◌, ◌++◌, length, refl, sym, ap, ◌∙◌, arith, append-nil}
+use Rattle.std.proofs.Common.{◌≡◌, ◌≤◌, ◌+◌, ℕ, List, [], ◌∷◌, ◌++◌, length, sym, ap, ◌∙◌, arith, append-nil}
 use Rattle.std.proofs.lemmas.List.{append_assoc}
 use Rattle.std.specs.declared.option.Option.{Option}
 use Rattle.std.specs.declared.option.Option.TheVariants.{Some, None}
 use Rattle.lnfs_outside.specs.declared.event.Event.{Event}
 use Rattle.lnfs_program.specs.Summary.{one_of, count_after}
-use Rattle.lnfs_program.specs.Writes.{framed, frames_after}
+use Rattle.lnfs_workers.specs.Transcripts.{framed}
+use Rattle.lnfs_program.specs.Writes.{frames_after}
 
 one_at_most : {A : Type 0} (o : Option A) → one_of o ≤ 1
 one_at_most None = omega arith

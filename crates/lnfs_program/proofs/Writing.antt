@@ -142,7 +142,7 @@ pub ends : {s t : Streams} {all rest : List Write} → TakesBefore s t all rest 
 ends {s} {t} {all} {rest} p e = subst (λ ws. Takes s t ws) (sym (p.parts ∙ ap (λ r. p.part ++ r) e ∙ append-nil p.part)) p.takes
 
 -- what follows from success
-on_ok : {T E : Type 0} (result : Result T E) {A B : Type 0} → (A → B) → OnOk result A → OnOk result B
+pub on_ok : {T E : Type 0} (result : Result T E) {A B : Type 0} → (A → B) → OnOk result A → OnOk result B
 on_ok {T} {E} result {A} {B} f h = elim result as (λ r. OnOk r A → OnOk r B) [
   | Ok value ↦ λ x. f x
   | Err error ↦ λ x. tt

@@ -1,4 +1,4 @@
--- What is due for a form of the words and for what the two files hold: the policy, and the file of the task.
+-- What is due for a form of the words, for what the two files hold, the policy and the file of the task, and for what a service came to.
 use Rattle.std.specs.Prelude.{ℕ, cond, List, [], ◌∷◌, ◌++◌, Result, Ok, Err}
 use Rattle.std.specs.declared.option.Option.{Option}
 use Rattle.std.specs.declared.option.Option.TheVariants.{Some, None}
@@ -17,10 +17,12 @@ use Rattle.lnfs_program.specs.declared.status.Status.TheVariants as status
 use Rattle.lnfs_program.specs.declared.status.MapCause.TheVariants as cause
 use Rattle.lnfs_program.specs.Ending.{fault_line}
 use Rattle.lnfs_traffic.specs.Parts.{recorded, is_recording, place_of}
-use Rattle.lnfs_program.specs.Words.{Task, check, replay, translate, generate, Form, help, version, under, help_text, version_text}
+use Rattle.lnfs_program.specs.Words.{Task, check, replay, translate, generate, serve, Form, help, version, under, help_text, version_text}
 use Rattle.lnfs_traffic.specs.Generated.{generated}
+use Rattle.lnfs_traffic.specs.Texts.{recording_text}
 use Rattle.lnfs_program.specs.Summary.{summary}
-use Rattle.lnfs_program.specs.Writes.{Write, to_out, to_audit, writes_after}
+use Rattle.lnfs_program.specs.Session.{Session, link_lines}
+use Rattle.lnfs_program.specs.Writes.{Write, to_out, to_audit, writes_after, lines_after}
 
 -- what is due: what is written, but for the ending's line, and the ending
 pub record Due : Type 0 where
@@ -73,18 +75,27 @@ spelled (Err error) = only (no_translation error)
 abbrev pub generation_due : Signing → Policy → (seed count : ℕ) → Due
 generation_due m policy seed count = shown (summary m policy (generated policy seed count))
 
--- a task under a policy
-abbrev pub due_under : Policy → Task → Option (List ℕ) → Due
-due_under policy check file = shown policy.text
-due_under policy (replay traffic) file = enforced policy.mode (given file traffic (replayed keyed_digest policy))
-due_under policy (generate seed count) file = enforced policy.mode (generation_due keyed_digest policy seed count)
-due_under policy (translate source target bytes) file = spelled (translated policy.formats policy.labels source target bytes)
+-- The recording of the journal, then its lines, then the lines of the links. Where nobody was served nothing is written, and no ending is told.
+abbrev pub served : Signing → Policy → Option Session → Due
+served m policy None = only status.NetFault
+served m policy (Some session) = record {
+  writes = to_out (recording_text session.journal) ∷ to_audit (lines_after (audit_at m policy) [] session.journal) ∷ to_audit (link_lines 0 session.ends) ∷ [];
+  ending = status.Ok;
+}
 
-unfoldable pub due : Option Form → Option (List ℕ) → Option (List ℕ) → Due
-due None policy file = only status.Usage
-due (Some help) policy file = shown help_text
-due (Some version) policy file = shown version_text
-due (Some (under name task)) policy file = given policy name (λ text. judged (policy_of text) (λ rules. due_under rules task file))
+-- a task under a policy
+abbrev pub due_under : Policy → Task → Option (List ℕ) → Option Session → Due
+due_under policy check file session = shown policy.text
+due_under policy (replay traffic) file session = enforced policy.mode (given file traffic (replayed keyed_digest policy))
+due_under policy (generate seed count) file session = enforced policy.mode (generation_due keyed_digest policy seed count)
+due_under policy (translate source target bytes) file session = spelled (translated policy.formats policy.labels source target bytes)
+due_under policy (serve links workers) file session = enforced policy.mode (served keyed_digest policy session)
+
+unfoldable pub due : Option Form → Option (List ℕ) → Option (List ℕ) → Option Session → Due
+due None policy file session = only status.Usage
+due (Some help) policy file session = shown help_text
+due (Some version) policy file session = shown version_text
+due (Some (under name task)) policy file session = given policy name (λ text. judged (policy_of text) (λ rules. due_under rules task file session))
 
 -- with the line that tells the ending
 abbrev pub all_writes : Due → List Write

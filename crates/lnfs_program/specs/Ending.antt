@@ -3,7 +3,7 @@ use Rattle.std.specs.Prelude.{ℕ, List, [], ◌∷◌, ◌++◌, codes}
 use Rattle.std.specs.Fmt.{decimal}
 use Rattle.lnfs_policy.specs.Policy.{cause_name}
 use Rattle.lnfs_program.specs.declared.status.Status.{Status}
-use Rattle.lnfs_program.specs.declared.status.Status.TheVariants.{Ok, Usage, PolicyRefused, TrafficDamaged, NoFile, Untranslated, ReadFault, WriteFault, Memory}
+use Rattle.lnfs_program.specs.declared.status.Status.TheVariants.{Ok, Usage, PolicyRefused, TrafficDamaged, NoFile, Untranslated, ReadFault, WriteFault, Memory, NetFault}
 use Rattle.lnfs_program.specs.declared.status.MapCause.{MapCause}
 use Rattle.lnfs_program.specs.declared.status.MapCause.TheVariants.{WrongLfs, BadLabel, NoRow}
 use Rattle.std.specs.declared.option.Option.{Option}
@@ -14,6 +14,7 @@ abbrev pub told_by : Status → Option Status
 told_by ReadFault = None
 told_by WriteFault = None
 told_by Memory = None
+told_by NetFault = None
 told_by Ok = Some Ok
 told_by Usage = Some Usage
 told_by (PolicyRefused line cause) = Some (PolicyRefused line cause)
@@ -38,6 +39,7 @@ fault_line Ok = []
 fault_line ReadFault = []
 fault_line WriteFault = []
 fault_line Memory = []
+fault_line NetFault = []
 
 -- the exit status
 abbrev pub number_of : Status → ℕ
@@ -48,5 +50,6 @@ number_of (TrafficDamaged at) = 4
 number_of ReadFault = 5
 number_of WriteFault = 6
 number_of Memory = 7
+number_of NetFault = 8
 number_of (NoFile name) = 9
 number_of (Untranslated cause) = 10

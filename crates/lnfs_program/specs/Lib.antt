@@ -6,6 +6,10 @@ pub mod Tasks
 pub mod Streams
 pub mod Writes
 pub mod Ending
+pub mod Session
 pub mod Due
+pub mod Handed
+pub mod Links
 pub mod Runs
+pub mod Replays
 pub mod Summary

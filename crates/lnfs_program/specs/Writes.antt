@@ -1,9 +1,8 @@
 -- What is written, on which of the two streams, and in which order.
 use Rattle.std.specs.Prelude.{◌≡◌, ℕ, zero, suc, List, [], ◌∷◌, ◌++◌, take, Result, OnOk, unwrap_or}
-use Rattle.lnfs_rpc.specs.Formats.{frame_of}
 use Rattle.std.specs.Io.KnownBytes.{Appends}
 use Rattle.std.specs.declared.option.Option.{Option}
-use Rattle.std.specs.declared.option.Option.TheVariants.{Some, None}
+use Rattle.lnfs_workers.specs.Transcripts.{framed}
 use Rattle.lnfs_program.specs.Streams.{Streams}
 use Rattle.lnfs_outside.specs.declared.event.Event.{Event}
 
@@ -54,11 +53,6 @@ pub record TakesBefore (before after : Streams) (writes rest : List Write) : Typ
   pub part : List Write
   pub parts : writes ≡ part ++ rest
   pub takes : Takes before after part
-
--- no reply, no frame
-abbrev pub framed : Option (List ℕ) → List ℕ
-framed None = []
-framed (Some reply) = frame_of reply
 
 -- the reply's frame, and then the audit line
 abbrev pub answer_writes : Option (List ℕ) → Option (List ℕ) → List Write

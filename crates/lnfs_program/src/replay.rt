@@ -1,21 +1,20 @@
-//! Serving a recording's events, one after another.
-ghost use Rattle.std.specs.Prelude.{◌≡◌, ◌++◌, ◌∷◌, ◌≤◌, [], IfOk, OnOk, length, unwrap_or};
+//! Serving a recording's events, one after another, as their file is read.
+ghost use Rattle.std.specs.Prelude.{◌≡◌, ◌++◌, ◌∷◌, ◌≤◌, ◌<◌, [], IfOk, OnOk, length, unwrap_or};
 ghost use Rattle.lnfs_outside.specs.Moments.{Fits};
-ghost use Rattle.lnfs_program.specs.Due.{replayed};
-ghost use Rattle.lnfs_program.specs.Runs.{Plays, WritesOnly};
+ghost use Rattle.lnfs_program.specs.Replays.{Feeds, ReplaysLeft, ending_of};
+ghost use Rattle.lnfs_program.specs.Runs.{ReadsAndWrites, ReadsOnly, WritesOnly};
 ghost use Rattle.lnfs_program.specs.Streams.{counts, streams};
 ghost use Rattle.lnfs_step.specs.Journal.{answer, audit_at};
-ghost use Rattle.lnfs_traffic.specs.Parts.{parts_of};
 ghost use Rattle.lnfs_program.specs.Lines.{text_in};
-ghost use Rattle.lnfs_program.specs.Writes.{Does, answer_writes, writes_after};
+ghost use Rattle.lnfs_program.specs.Writes.{Does, answer_writes};
 
 use crate::status::{Status, Stop};
-use crate::streams::{frame, put, put_line};
+use crate::streams::{PIECE, frame, put, put_line};
 use lnfs_format::Codecs;
 use lnfs_gss3::Mechanism;
-use lnfs_outside::{Event, Sink};
+use lnfs_outside::{Event, Files, Sink};
 use lnfs_policy::Policy;
-use lnfs_traffic::{BEGINNING, next_event};
+use lnfs_traffic::{TrafficError, TrafficReader};
 use lnfs_vault::{AuditLine, Vault, write_line};
 use std::alloc::{AllocError, Global};
 
@@ -50,52 +49,94 @@ fn serve_event<M: Mechanism + Drop, K: Sink, A: Sink>(
     put_line(out, audit, &line)
 }
 
-/// Serves the whole events at the front of the bytes, in a new server, and says how many bytes are
-/// left behind them.
-fn serve_events<M: Mechanism + Drop, K: Sink, A: Sink>(
-    alloc: Global,
-    codecs: &Codecs,
-    mechanism: M,
-    policy: Policy,
-    bytes: &[u8],
-    out: &mut K,
-    audit: &mut A,
-) -> Result<usize, Stop>
-    ensures does { Does result (streams (K.taken out.old) (A.taken audit.old)) (streams (K.taken out.new) (A.taken audit.new)) (writes_after (answer M.signing policy) (audit_at M.signing policy) [] (parts_of bytes.now).events) }
-    ensures left { IfOk result (λ left. (left ≡ length (parts_of bytes.now).rest) × (left ≤ length bytes.now)) }
-    ensures cause { WritesOnly result (counts (K.write_faults out.old) (A.write_faults audit.old)) (counts (K.write_faults out.new) (A.write_faults audit.new)) }
+/// How a replay ends with this answer of its reader.
+fn ending_of(answer: Result<(), TrafficError>) -> Result<Status, Stop>
+    ensures { result ≡ ending_of answer }
 {
-    let mut vault = Vault::new(alloc, policy, codecs, mechanism)?;
-    let mut rest = bytes;
-    while let Some((event, others)) = next_event(alloc, rest)? {
-        serve_event(alloc, codecs, &mut vault, event, out, audit)?;
-        rest = others;
+    match answer {
+        Ok(()) => Ok(Status::Ok),
+        Err(TrafficError::Damaged { at }) => Ok(Status::TrafficDamaged { at }),
+        Err(TrafficError::Memory) => Err(Stop::Memory),
     }
-    Ok(rest.len())
 }
 
-/// Replays a recording in a new server, whose callers sign by a mechanism.
-pub fn replay<M: Mechanism + Drop, K: Sink, A: Sink>(
+/// Reads the next piece of the current file through the buffer and feeds it, and says whether there
+/// was one.
+fn feed_piece<F: Files>(
+    files: &mut F,
+    buf: &mut [u8],
+    reader: &mut TrafficReader,
+) -> Result<bool, Stop>
+    requires { 0 < length buf.old }
+    ensures fed { Feeds (F.left files.old) (F.left files.new) result reader.old reader.new }
+    ensures content { F.content files.new ≡ F.content files.old }
+    ensures cause { ReadsOnly result (F.faults files.old) (F.faults files.new) }
+{
+    let Ok(count) = files.read(buf) else {
+        return Err(Stop::ReadFault);
+    };
+    if count == 0 {
+        return Ok(false);
+    }
+    reader.feed(&buf[..count])?;
+    Ok(true)
+}
+
+/// Serves the events that are recorded in what is left of the current file, in a vault that has served
+/// none. Each is served as soon as what was read of the file has all of it, and nothing more is read
+/// where a damage shows.
+fn serve_rest<M: Mechanism + Drop, F: Files, K: Sink, A: Sink>(
     alloc: Global,
     codecs: &Codecs,
-    mechanism: M,
-    policy: Policy,
-    traffic: &[u8],
+    vault: &mut Vault<M>,
+    files: &mut F,
     out: &mut K,
     audit: &mut A,
 ) -> Result<Status, Stop>
-    ensures plays { Plays (replayed M.signing policy traffic.now) result (streams (K.taken out.old) (A.taken audit.old)) (streams (K.taken out.new) (A.taken audit.new)) }
-    ensures cause { WritesOnly result (counts (K.write_faults out.old) (A.write_faults audit.old)) (counts (K.write_faults out.new) (A.write_faults audit.new)) }
+    requires first { vault.old.journal ≡ [] }
+    ensures replays { ReplaysLeft M.signing vault.old.policy (F.left files.old) result (streams (K.taken out.old) (A.taken audit.old)) (streams (K.taken out.new) (A.taken audit.new)) }
+    ensures content { F.content files.new ≡ F.content files.old }
+    ensures cause { ReadsAndWrites result (F.faults files.old) (F.faults files.new) (counts (K.write_faults out.old) (A.write_faults audit.old)) (counts (K.write_faults out.new) (A.write_faults audit.new)) }
 {
-    let Some(body) = traffic.strip_prefix(BEGINNING) else {
-        return Ok(Status::TrafficDamaged { at: 0 });
-    };
-    let left = serve_events(alloc, codecs, mechanism, policy, body, out, audit)?;
-    if left == 0 {
-        Ok(Status::Ok)
-    } else {
-        Ok(Status::TrafficDamaged {
-            at: (traffic.len() - left) as u64,
-        })
+    let mut reader = TrafficReader::new(alloc);
+    let mut buf = [0u8; PIECE];
+    for _ in 0..u64::MAX {
+        let event = match reader.next() {
+            Ok(Some(event)) => event,
+            Ok(None) => {
+                if !feed_piece(files, &mut buf, &mut reader)? {
+                    return ending_of(reader.finish());
+                }
+                continue;
+            }
+            Err(error) => return ending_of(Err(error)),
+        };
+        serve_event(alloc, codecs, vault, event, out, audit)?;
     }
+    Err(Stop::Memory)
+}
+
+/// Replays the recording that is left of the current file in a new server, whose callers sign by a
+/// mechanism. Answers `Ok`, or `TrafficDamaged` with the place of the damage,
+/// in bytes from where the file was read; the events before it were served.
+///
+/// # Errors
+///
+/// `ReadFault` where a call of the files failed, `WriteFault` where one of the streams did, and
+/// `Memory`. The streams took a front of what is due then.
+pub fn replay<M: Mechanism + Drop, F: Files, K: Sink, A: Sink>(
+    alloc: Global,
+    codecs: &Codecs,
+    mechanism: M,
+    policy: Policy,
+    files: &mut F,
+    out: &mut K,
+    audit: &mut A,
+) -> Result<Status, Stop>
+    ensures replays { ReplaysLeft M.signing policy (F.left files.old) result (streams (K.taken out.old) (A.taken audit.old)) (streams (K.taken out.new) (A.taken audit.new)) }
+    ensures content { F.content files.new ≡ F.content files.old }
+    ensures cause { ReadsAndWrites result (F.faults files.old) (F.faults files.new) (counts (K.write_faults out.old) (A.write_faults audit.old)) (counts (K.write_faults out.new) (A.write_faults audit.new)) }
+{
+    let mut vault = Vault::new(alloc, policy, codecs, mechanism)?;
+    serve_rest(alloc, codecs, &mut vault, files, out, audit)
 }

@@ -1,8 +1,9 @@
 //! A run with the codecs of the program.
-ghost use Rattle.std.specs.Prelude.{◌≡◌, ◌≤◌, [], IfOk, IfSome, OnErr};
+ghost use Rattle.std.specs.Prelude.{◌≡◌, ◌≤◌, ◌<◌, ◌^◌, [], IfOk, IfSome, OnErr};
 ghost use Rattle.std.specs.Option.{option_map};
 ghost use Rattle.lnfs_format.specs.Kinds.{reads, writes};
 ghost use Rattle.lnfs_program.specs.Ending.{told_by};
+ghost use Rattle.lnfs_program.specs.Handed.{dealings};
 ghost use Rattle.lnfs_program.specs.Runs.{HasReason, NoneFell, Runs};
 ghost use Rattle.lnfs_program.specs.Streams.{counts, streams};
 ghost use Rattle.lnfs_program.specs.Words.{form_of, texts};
@@ -11,28 +12,36 @@ use crate::run::run;
 use crate::status::Status;
 use lnfs_calipso::Label;
 use lnfs_format::{Codec, Codecs, Kind, read_kind, write_kind};
-use lnfs_outside::{Files, Sink};
+use lnfs_outside::{Clock, Files, Net, Sink};
 use std::alloc::{AllocError, Global};
+use std::sync::Wait;
+use std::thread::Threads;
 
 /// Makes the codecs of the three kinds, and does with them what the words say, as `run`.
 ///
 /// # Errors
 ///
 /// `AllocError` where there is no memory for the codecs. Nothing was read, written or counted then.
-pub fn start<F: Files, K: Sink, A: Sink>(
+pub fn start<F: Files, K: Sink, A: Sink, N: Net, C: Clock + Sync, R: Threads + Wait + Sync>(
+    rt: &R,
     alloc: Global,
     words: &[String],
     files: &mut F,
     out: &mut K,
     audit: &mut A,
+    net: &mut N,
+    clock: &C,
 ) -> Result<Status, AllocError>
-    ensures runs { IfOk result (λ status. Runs (F.content files.old) (form_of (texts words.now)) (told_by status) (streams (K.taken out.old) (A.taken audit.old)) (streams (K.taken out.new) (A.taken audit.new))) }
-    ensures reason { IfOk result (λ status. HasReason status (F.faults files.old) (F.faults files.new) (counts (K.write_faults out.old) (A.write_faults audit.old)) (counts (K.write_faults out.new) (A.write_faults audit.new))) }
+where
+    N::L: Send,
+    ensures runs { IfOk result (λ status. Runs (F.content files.old) (C.may clock.now) (form_of (texts words.now)) status (streams (K.taken out.old) (A.taken audit.old)) (streams (K.taken out.new) (A.taken audit.new)) (dealings (N.dealt net.old) (N.dealt net.new) (N.backs net.old) (N.backs net.new))) }
+    ensures reason { IfOk result (λ status. HasReason status (F.faults files.old) (F.faults files.new) (N.faults net.old) (N.faults net.new) (counts (K.write_faults out.old) (A.write_faults audit.old)) (counts (K.write_faults out.new) (A.write_faults audit.new))) }
     ensures handed { IfOk result (λ status. IfSome (told_by status) (λ _. (K.waiting out.new ≡ []) × (A.waiting audit.new ≡ []))) }
     ensures files { F.faults files.old ≤ F.faults files.new }
     ensures streams { NoneFell (counts (K.write_faults out.old) (A.write_faults audit.old)) (counts (K.write_faults out.new) (A.write_faults audit.new)) }
+    ensures net { N.faults net.old < 2 ^ 64 → N.faults net.old ≤ N.faults net.new }
     ensures content { F.content files.new ≡ F.content files.old }
-    ensures nothing { OnErr result ((files.new ≡ files.old) × (out.new ≡ out.old) × (audit.new ≡ audit.old)) }
+    ensures nothing { OnErr result ((files.new ≡ files.old) × (out.new ≡ out.old) × (audit.new ≡ audit.old) × (net.new ≡ net.old)) }
 {
     let read = move |kind: &Kind, bytes: &[u8]|
         ensures { IfOk result (λ label. label ≡ reads kind.now bytes.now) }
@@ -44,5 +53,5 @@ pub fn start<F: Files, K: Sink, A: Sink>(
     let text = Codec::new(1, Box::new(alloc, read)?, Box::new(alloc, write)?);
     let name = Codec::new(2, Box::new(alloc, read)?, Box::new(alloc, write)?);
     let codecs = Codecs::new(calipso, text, name);
-    Ok(run(alloc, words, files, out, audit, codecs))
+    Ok(run(rt, alloc, words, files, out, audit, net, clock, codecs))
 }

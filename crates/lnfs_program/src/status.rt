@@ -37,7 +37,7 @@ impl MapCause {
 pub enum Status {
     /// All that is due was written.
     Ok,
-    /// The words are no form of the command line, or a replay is asked under a limited policy.
+    /// The words are no form of the command line, or a server is asked for under a limited policy.
     Usage,
     /// The policy's text is refused: the first line that breaks a rule, counted from 1, and the rule.
     PolicyRefused { line: u64, cause: Cause },
@@ -49,6 +49,8 @@ pub enum Status {
     WriteFault,
     /// There was no memory.
     Memory,
+    /// A call of the net failed, before all links were accepted.
+    NetFault,
     /// There is no file of this name.
     NoFile { name: Text },
     /// The bytes have no translation.
@@ -56,7 +58,7 @@ pub enum Status {
 }
 
 impl Status {
-    /// The exit status of the program.
+    /// The exit status of the program: 0 for `Ok`, and from 2 to 10 for the others.
     pub fn number(&self) -> u8
         ensures { result ≡ number_of self.now }
     {
@@ -68,12 +70,18 @@ impl Status {
             Status::ReadFault => 5,
             Status::WriteFault => 6,
             Status::Memory => 7,
+            Status::NetFault => 8,
             Status::NoFile { name: _ } => 9,
             Status::Untranslated { cause: _ } => 10,
         }
     }
 
-    /// The line on the audit stream that tells an ending, and nothing where there is none.
+    /// The line on the audit stream that tells an ending, with its newline; nothing for `Ok`, and where a
+    /// call of the outside failed or there was no memory.
+    ///
+    /// # Errors
+    ///
+    /// `AllocError` where there is no memory for it.
     pub fn line(&self, alloc: Global) -> Result<String, AllocError>
         ensures { IfOk result (λ line. string_bytes line ≡ fault_line self.now) }
     {
@@ -91,9 +99,11 @@ impl Status {
                 let cause = cause.as_str();
                 format!(in alloc; "fault 10 untranslated {cause}\n")
             }
-            Status::Ok | Status::ReadFault | Status::WriteFault | Status::Memory => {
-                Ok(String::new(alloc))
-            }
+            Status::Ok
+            | Status::ReadFault
+            | Status::WriteFault
+            | Status::Memory
+            | Status::NetFault => Ok(String::new(alloc)),
         }
     }
 }
@@ -107,12 +117,17 @@ fn refusal_line(alloc: Global, line: u64, cause: &str) -> Result<String, AllocEr
     Ok(text)
 }
 
-/// Why a run gave up.
+/// Why a run gave up. What the streams took until then is a front of what was due.
 #[derive(Clone, Copy, Debug, Drop)]
 pub enum Stop {
+    /// A call of the files failed.
     ReadFault,
+    /// A write failed, or what was written couldn't be handed on.
     WriteFault,
+    /// There was no memory.
     Memory,
+    /// A call of the net failed, before all links were accepted.
+    NetFault,
 }
 
 impl From<AllocError> for Stop {

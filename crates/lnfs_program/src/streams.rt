@@ -1,11 +1,12 @@
-//! Reading a file whole, and writing to a stream.
+//! Opening a file and reading it whole, and writing to a stream.
 ghost use Rattle.std.specs.Prelude.{◌≡◌, ◌≤◌, ◌∷◌, [], OnOk, IfOk, IfErr, IfSome, Some, length};
 ghost use Rattle.lnfs_outside.specs.Causes.{Rose};
-ghost use Rattle.lnfs_outside.specs.Bytes.{Puts};
+ghost use Rattle.lnfs_outside.specs.Bytes.{Opens, Puts};
 ghost use Rattle.lnfs_program.specs.Ending.{told_by};
 ghost use Rattle.lnfs_program.specs.Runs.{Holds, ReadsOnly, WritesOnly, held};
 ghost use Rattle.lnfs_program.specs.Streams.{counts, streams};
-ghost use Rattle.lnfs_program.specs.Writes.{Does, framed, to_audit};
+ghost use Rattle.lnfs_program.specs.Writes.{Does, to_audit};
+ghost use Rattle.lnfs_workers.specs.Transcripts.{framed};
 
 use crate::status::{Status, Stop};
 use lnfs_lists::{Octets, RECORD_LIMIT};
@@ -13,7 +14,7 @@ use lnfs_outside::{Files, Sink, put_all};
 use std::alloc::{AllocError, Global};
 
 /// The length of a piece that is read at once, in bytes.
-const PIECE: usize = 65_536;
+pub const PIECE: usize = 65_536;
 
 /// Writes all of the bytes.
 pub fn put<K: Sink>(sink: &mut K, bytes: &[u8]) -> Result<(), Stop>
@@ -97,6 +98,18 @@ fn read_rest<F: Files>(alloc: Global, files: &mut F) -> Result<Vec<u8>, Stop>
     Err(Stop::Memory)
 }
 
+/// Opens the file of the name, if there is one.
+pub fn open_file<F: Files>(files: &mut F, name: &str) -> Result<bool, Stop>
+    ensures opened { IfOk result (Opens (F.content files.old) name.now (F.left files.new)) }
+    ensures content { F.content files.new ≡ F.content files.old }
+    ensures cause { ReadsOnly result (F.faults files.old) (F.faults files.new) }
+{
+    match files.open(name) {
+        Ok(found) => Ok(found),
+        Err(_) => Err(Stop::ReadFault),
+    }
+}
+
 /// Reads the file of the name, if there is one.
 pub fn read_file<F: Files>(
     alloc: Global,
@@ -107,14 +120,11 @@ pub fn read_file<F: Files>(
     ensures content { F.content files.new ≡ F.content files.old }
     ensures cause { ReadsOnly result (F.faults files.old) (F.faults files.new) }
 {
-    match files.open(name) {
-        Ok(true) => {
-            let bytes = read_rest(alloc, files)?;
-            Ok(Some(bytes))
-        }
-        Ok(false) => Ok(None),
-        Err(_) => Err(Stop::ReadFault),
+    if !open_file(files, name)? {
+        return Ok(None);
     }
+    let bytes = read_rest(alloc, files)?;
+    Ok(Some(bytes))
 }
 
 /// A reply as the one fragment that it is sent in (RFC 5531 section 11); nothing where there is none.

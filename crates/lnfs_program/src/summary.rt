@@ -11,7 +11,8 @@ ghost use Rattle.lnfs_program.specs.Due.{shown};
 ghost use Rattle.lnfs_program.specs.Runs.{Plays, IsExcused};
 ghost use Rattle.lnfs_program.specs.Streams.{streams};
 ghost use Rattle.lnfs_program.specs.Summary.{one_of, count_after, row, told, summary};
-ghost use Rattle.lnfs_program.specs.Writes.{framed, frames_after};
+ghost use Rattle.lnfs_program.specs.Writes.{frames_after};
+ghost use Rattle.lnfs_workers.specs.Transcripts.{framed};
 
 use crate::status::{Status, Stop};
 use crate::streams::{frame, show};
@@ -130,7 +131,7 @@ pub fn sum_up<M: Mechanism + Drop, K: Sink>(
     requires { AllByRecursion Fits events.items }
     ensures plays { (audit : Option (List ℕ)) → Plays (shown (summary M.signing policy events.items)) result (streams (K.taken out.old) audit) (streams (K.taken out.new) audit) }
     ensures later { K.write_faults out.old ≤ K.write_faults out.new }
-    ensures excused { IfErr result (λ stop. IsExcused stop ⊥ (Rose (K.write_faults out.old) (K.write_faults out.new))) }
+    ensures excused { IfErr result (λ stop. IsExcused stop ⊥ (Rose (K.write_faults out.old) (K.write_faults out.new)) ⊥) }
 {
     let number = events.len() as u64;
     let tally = tally_of(alloc, codecs, mechanism, policy, events)?;

@@ -2,28 +2,34 @@
 ghost use Rattle.std.specs.Prelude.{◌≡◌, ◌≤◌, ℕ, List, IfOk, IfErr, OnOk, Some, MatchOption};
 ghost use Rattle.std.specs.declared.option.Option.{Option};
 ghost use Rattle.lnfs_gss3.specs.Mechanism.{keyed_digest};
+ghost use Rattle.lnfs_outside.specs.Bytes.{Told};
 ghost use Rattle.lnfs_outside.specs.Causes.{Rose};
 ghost use Rattle.lnfs_program.specs.Due.{enforced, generation_due};
 ghost use Rattle.lnfs_program.specs.Ending.{told_by};
+ghost use Rattle.lnfs_program.specs.Handed.{dealings};
 ghost use Rattle.lnfs_program.specs.Refusals.{refusal_of};
-ghost use Rattle.lnfs_program.specs.Runs.{Gives, IsExcused, Judges, Performs, Plays};
+ghost use Rattle.lnfs_program.specs.Runs.{Gives, IsExcused, Judges, Performs, Plays, ReadsAndWrites, Replays, WritesAndNet};
 ghost use Rattle.lnfs_program.specs.Streams.{counts, streams};
 ghost use Rattle.lnfs_program.specs.Tasks.{task_of};
-ghost use Rattle.lnfs_program.specs.Words.{under, replay};
+ghost use Rattle.lnfs_program.specs.Words.{under, serve};
 
 use crate::replay::replay;
+use crate::service::serve;
 use crate::status::{Status, Stop};
-use crate::streams::read_file;
+use crate::streams::{open_file, read_file};
 use crate::summary::sum_up;
+use crate::team::Team;
 use crate::texts::{check, translate};
 use lnfs_format::Codecs;
 use lnfs_gss3::KeyedDigest;
 use lnfs_lists::Text;
 use lnfs_map::Pair;
-use lnfs_outside::{Files, Sink};
+use lnfs_outside::{Clock, Files, Net, Sink};
 use lnfs_policy::{Mode, Policy, PolicyError, read_policy};
 use lnfs_traffic::generate;
 use std::alloc::Global;
+use std::sync::Wait;
+use std::thread::Threads;
 
 /// What is asked under a policy.
 #[derive(Clone, Copy, Debug, Drop)]
@@ -40,6 +46,9 @@ pub enum Task<'a> {
     Generate {
         seed: u64,
         count: u32,
+    },
+    Serve {
+        team: &'a Team,
     },
 }
 
@@ -72,18 +81,18 @@ fn replay_file<F: Files, K: Sink, A: Sink>(
     out: &mut K,
     audit: &mut A,
 ) -> Result<Status, Stop>
-    ensures performs { Performs (F.content files.old) policy (replay traffic.now) result (streams (K.taken out.old) (A.taken audit.old)) (streams (K.taken out.new) (A.taken audit.new)) }
+    ensures performs { Replays (F.content files.old) policy traffic.now result (streams (K.taken out.old) (A.taken audit.old)) (streams (K.taken out.new) (A.taken audit.new)) }
     ensures content { F.content files.new ≡ F.content files.old }
-    ensures cause { Gives result (F.faults files.old) (F.faults files.new) (counts (K.write_faults out.old) (A.write_faults audit.old)) (counts (K.write_faults out.new) (A.write_faults audit.new)) }
+    ensures cause { ReadsAndWrites result (F.faults files.old) (F.faults files.new) (counts (K.write_faults out.old) (A.write_faults audit.old)) (counts (K.write_faults out.new) (A.write_faults audit.new)) }
 {
     match policy.mode() {
         Mode::Enforcing => {}
         Mode::Limited => return Ok(Status::Usage),
     }
-    let Some(bytes) = read_file(alloc, files, traffic)? else {
+    if !open_file(files, traffic)? {
         return no_file(alloc, traffic);
-    };
-    replay(alloc, codecs, KeyedDigest, policy, &bytes, out, audit)
+    }
+    replay(alloc, codecs, KeyedDigest, policy, files, out, audit)
 }
 
 /// Serves generated events, and shows what they come to.
@@ -97,7 +106,7 @@ fn serve_generated<K: Sink>(
 ) -> Result<Status, Stop>
     ensures plays { (audit : Option (List ℕ)) → Plays (enforced policy.mode (generation_due keyed_digest policy seed count)) result (streams (K.taken out.old) audit) (streams (K.taken out.new) audit) }
     ensures later { K.write_faults out.old ≤ K.write_faults out.new }
-    ensures excused { IfErr result (λ stop. IsExcused stop ⊥ (Rose (K.write_faults out.old) (K.write_faults out.new))) }
+    ensures excused { IfErr result (λ stop. IsExcused stop ⊥ (Rose (K.write_faults out.old) (K.write_faults out.new)) ⊥) }
 {
     match policy.mode() {
         Mode::Enforcing => {}
@@ -107,8 +116,44 @@ fn serve_generated<K: Sink>(
     sum_up(alloc, codecs, KeyedDigest, policy, events, out)
 }
 
+/// Serves the links of a team.
+fn serve_links<K: Sink, A: Sink, N: Net, C: Clock + Sync, R: Threads + Wait + Sync>(
+    rt: &R,
+    alloc: Global,
+    codecs: &Codecs,
+    policy: Policy,
+    team: &Team,
+    out: &mut K,
+    audit: &mut A,
+    net: &mut N,
+    clock: &C,
+) -> Result<Status, Stop>
+where
+    N::L: Send,
+    ensures performs { (told : Told) → Performs told (C.may clock.now) policy (serve team.now.links.items team.now.workers) result (streams (K.taken out.old) (A.taken audit.old)) (streams (K.taken out.new) (A.taken audit.new)) (dealings (N.dealt net.old) (N.dealt net.new) (N.backs net.old) (N.backs net.new)) }
+    ensures cause { WritesAndNet result (N.faults net.old) (N.faults net.new) (counts (K.write_faults out.old) (A.write_faults audit.old)) (counts (K.write_faults out.new) (A.write_faults audit.new)) }
+{
+    match policy.mode() {
+        Mode::Enforcing => {}
+        Mode::Limited => return Ok(Status::Usage),
+    }
+    serve(
+        rt,
+        alloc,
+        codecs,
+        KeyedDigest,
+        policy,
+        team,
+        out,
+        audit,
+        net,
+        clock,
+    )
+}
+
 /// Does a task under a policy that was read.
-fn perform<F: Files, K: Sink, A: Sink>(
+fn perform<F: Files, K: Sink, A: Sink, N: Net, C: Clock + Sync, R: Threads + Wait + Sync>(
+    rt: &R,
     alloc: Global,
     codecs: &Codecs,
     policy: Policy,
@@ -116,10 +161,14 @@ fn perform<F: Files, K: Sink, A: Sink>(
     files: &mut F,
     out: &mut K,
     audit: &mut A,
+    net: &mut N,
+    clock: &C,
 ) -> Result<Status, Stop>
-    ensures performs { Performs (F.content files.old) policy (task_of task.entry) result (streams (K.taken out.old) (A.taken audit.old)) (streams (K.taken out.new) (A.taken audit.new)) }
+where
+    N::L: Send,
+    ensures performs { Performs (F.content files.old) (C.may clock.now) policy (task_of task.entry) result (streams (K.taken out.old) (A.taken audit.old)) (streams (K.taken out.new) (A.taken audit.new)) (dealings (N.dealt net.old) (N.dealt net.new) (N.backs net.old) (N.backs net.new)) }
     ensures content { F.content files.new ≡ F.content files.old }
-    ensures cause { Gives result (F.faults files.old) (F.faults files.new) (counts (K.write_faults out.old) (A.write_faults audit.old)) (counts (K.write_faults out.new) (A.write_faults audit.new)) }
+    ensures cause { Gives result (F.faults files.old) (F.faults files.new) (N.faults net.old) (N.faults net.new) (counts (K.write_faults out.old) (A.write_faults audit.old)) (counts (K.write_faults out.new) (A.write_faults audit.new)) }
 {
     match task {
         Task::Check => check(alloc, &policy, out),
@@ -130,11 +179,15 @@ fn perform<F: Files, K: Sink, A: Sink>(
             bytes,
         } => translate(alloc, codecs, &policy, source, target, bytes, out),
         Task::Generate { seed, count } => serve_generated(alloc, codecs, policy, seed, count, out),
+        Task::Serve { team } => serve_links(
+            rt, alloc, codecs, policy, team, out, audit, net, clock,
+        ),
     }
 }
 
 /// Does a task under the policy of a name, which is read before any other file.
-pub fn under<F: Files, K: Sink, A: Sink>(
+pub fn under<F: Files, K: Sink, A: Sink, N: Net, C: Clock + Sync, R: Threads + Wait + Sync>(
+    rt: &R,
     alloc: Global,
     codecs: &Codecs,
     name: &str,
@@ -142,16 +195,22 @@ pub fn under<F: Files, K: Sink, A: Sink>(
     files: &mut F,
     out: &mut K,
     audit: &mut A,
+    net: &mut N,
+    clock: &C,
 ) -> Result<Status, Stop>
-    ensures judges { Judges (F.content files.old) (Some (under name.now (task_of task.entry))) result (streams (K.taken out.old) (A.taken audit.old)) (streams (K.taken out.new) (A.taken audit.new)) }
+where
+    N::L: Send,
+    ensures judges { Judges (F.content files.old) (C.may clock.now) (Some (under name.now (task_of task.entry))) result (streams (K.taken out.old) (A.taken audit.old)) (streams (K.taken out.new) (A.taken audit.new)) (dealings (N.dealt net.old) (N.dealt net.new) (N.backs net.old) (N.backs net.new)) }
     ensures content { F.content files.new ≡ F.content files.old }
-    ensures cause { Gives result (F.faults files.old) (F.faults files.new) (counts (K.write_faults out.old) (A.write_faults audit.old)) (counts (K.write_faults out.new) (A.write_faults audit.new)) }
+    ensures cause { Gives result (F.faults files.old) (F.faults files.new) (N.faults net.old) (N.faults net.new) (counts (K.write_faults out.old) (A.write_faults audit.old)) (counts (K.write_faults out.new) (A.write_faults audit.new)) }
 {
     let Some(text) = read_file(alloc, files, name)? else {
         return no_file(alloc, name);
     };
     match read_policy(alloc, &text, codecs) {
-        Ok(policy) => perform(alloc, codecs, policy, task, files, out, audit),
+        Ok(policy) => perform(
+            rt, alloc, codecs, policy, task, files, out, audit, net, clock,
+        ),
         Err(error) => no_policy(error),
     }
 }

@@ -7,11 +7,12 @@ use Rattle.std.specs.Map.{lookup, set_value, keys_of}
 use Rattle.lnfs_world.specs.Rows.{inserted}
 use Rattle.lnfs_world.specs.World as world
 use Rattle.lnfs_world.specs.World.{client_order, client_at}
+use Rattle.lnfs_counts.proofs.Entries.{find-entries, set-entries}
 use Rattle.lnfs_session.specs.declared.rows.ClientRef.{ClientRef}
 use Rattle.lnfs_session.specs.declared.rows.Client.{Client}
 use Rattle.lnfs_session.specs.Listed.{id_of, client_of}
 use Rattle.lnfs_session.specs.Standing.{clients_set}
-use Rattle.lnfs_session.proofs.Entries.{client_cmp, client_keys, find-entries, set-entries}
+use Rattle.lnfs_session.proofs.Entries.{client_cmp, client_keys}
 
 module _ (g : world.Client → world.Client) (id : ClientRef) (entries new : List (ClientRef × Client)) where
   found : client_at (map client_of entries) (id_of id) ≡ option_map (λ v. client_of (id, v)) (lookup (λ k. is_eq (client_cmp id k)) entries)

@@ -9,13 +9,15 @@ use Rattle.lnfs_world.specs.World.{Id, Client, client_order, same_id, client_at}
 use Rattle.lnfs_world.proofs.Keys.{id_same, id_itself, bytes_itself, bytes_same}
 use Rattle.lnfs_world.proofs.KeptClients.{client_at-dropped}
 use Rattle.lnfs_operations.specs.CreateSession.{is_replaced}
+use Rattle.lnfs_counts.proofs.Rows.{passing}
+use Rattle.lnfs_counts.proofs.Counted.{with_number}
 use Rattle.lnfs_session.specs.declared.levels.OwnerNumbers.{OwnerNumbers}
 use Rattle.lnfs_session.specs.Levels.{number_by, cleared, without}
 use Rattle.lnfs_session.specs.Standing.{clients_left, clients_set}
 use Rattle.lnfs_session.specs.Records.{left_by}
 use Rattle.lnfs_session.specs.Indexed.{IsIndexed}
-use Rattle.lnfs_session.proofs.Indexed.{at_number, passing, there_at, IsOf, find-indexed}
-use Rattle.lnfs_session.proofs.Reindexed.{with_numbers, with_number, same}
+use Rattle.lnfs_session.proofs.Indexed.{at_number, there_at, IsOf, find-indexed}
+use Rattle.lnfs_session.proofs.Reindexed.{with_numbers, same}
 use Rattle.lnfs_session.proofs.Entered.{confirmed}
 use Rattle.lnfs_session.proofs.Replaced.{id_at, ids_at, left_at, ids_found, owner_left, inserted_there, numbers_here, numbers_twice}
 
@@ -43,7 +45,7 @@ module _ (rows : List Client) (lasts : List Id) (last records : ℕ → ℕ) (nu
   pub confirmed_already : c.confirmed ≡ true → inserted client_order (confirm c) (left_by (find (is_replaced c) rows) rows) ≡ rows
   confirmed_already is =
       let already : confirm c ≡ c = λ t. record c { confirmed = sym is t } in
-      (λ t. inserted client_order (already t) (left_by (none_replaced is t) rows)) ∙ inserted_there c rows ix.rise found
+      (λ t. inserted client_order (already t) (left_by (none_replaced is t) rows)) ∙ inserted_there c rows ix.counted.rise found
 
   -- ---- one that is pending
 

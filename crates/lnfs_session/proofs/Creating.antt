@@ -9,12 +9,15 @@ use Rattle.lnfs_world.specs.World.{Id, Client, Session, World, client_order, ses
 use Rattle.lnfs_world.specs.Change.{SetClient, AddSession, is_session_of, apply_all}
 use Rattle.lnfs_world.specs.Outcome.{begins_at}
 use Rattle.lnfs_world.specs.declared.numbers.TheConstants.{LAST_NUMBER}
+use Rattle.lnfs_world.proofs.Keys.{id_same}
 use Rattle.lnfs_operations.specs.declared.numbers.TheConstants.{SESSIONS_OF_A_LEVEL}
 use Rattle.lnfs_operations.specs.Chain.{done}
 use Rattle.lnfs_operations.specs.ExchangeId.{dropped}
 use Rattle.lnfs_operations.specs.CreateSession.{New, Again, create_session, made, is_large_enough, granted_of, is_replaced, new_session, sessions_of}
 use Rattle.lnfs_operations.specs.Identifiers.{client_named}
 use Rattle.lnfs_operations.specs.InOrder.{sequence_before}
+use Rattle.lnfs_counts.proofs.Rows.{found_id}
+use Rattle.lnfs_session.specs.Indexed.{own_id}
 use Rattle.lnfs_session.specs.Arrivals.{arrival, Next}
 use Rattle.lnfs_session.proofs.Arriving.{followed, ordered}
 use Rattle.lnfs_session.specs.Standing.{Lists, standing, lists_of, clients_left, sessions_left, confirmed}
@@ -54,10 +57,7 @@ found_left p q x stays [] found = found
 found_left p q x stays (y ∷ xs) found = grind (arith, found_left p q x stays xs)
 
 pub client-id : (clients : List Client) (i : Id) (c : Client) → client_at clients i ≡ Some c → c.id ≡ i
-client-id clients i c found = same i c.id (found_passes (λ d. same_id i d.id) c clients found)
-  where
-    same : (a b : Id) → same_id a b ≡ true → b ≡ a
-    same a b e = grind (arith, nat_tests)
+client-id clients i c found = sym (id_same i c.id (found_id own_id clients i c found))
 
 -- the record that gives way is another one
 other : (c d : Client) → is_replaced c d ≡ true → same_id c.id d.id ≡ false

@@ -1,21 +1,22 @@
 -- Client records stay indexed where one is entered, or gets another state.
 use Rattle.std.proofs.Common.{◌≡◌, ◌≤◌, ℕ, Bool, true, false, cond, List, Option, Some, None, inl, inr, refl, sym, ap, ◌∙◌, subst, arith}
-use Rattle.std.specs.Prelude.{◌+◌, ◌==◌, ◌&&◌, ◌⊎◌, count_by, is_some}
+use Rattle.std.specs.Prelude.{◌+◌, ◌==◌, ◌&&◌, ◌⊎◌}
 use Rattle.std.specs.Str.{bytes_eq}
 use Rattle.std.proofs.lemmas.Bool.{false≢true}
 use Rattle.std.proofs.lemmas.Bool.Decides.{nat_tests}
-use Rattle.lnfs_world.specs.Rows.{Rising, inserted}
+use Rattle.lnfs_world.specs.Rows.{inserted}
 use Rattle.lnfs_world.specs.World.{Id, Client, client_order, level_order, same_id, client_at}
 use Rattle.lnfs_world.specs.Facts.{same_flag}
-use Rattle.lnfs_world.proofs.Keys.{id_same, last_of-inserted, bytes_itself}
-use Rattle.lnfs_world.proofs.KeptClients.{row_rises, client_at-inserted}
+use Rattle.lnfs_world.proofs.Keys.{id_same, bytes_itself}
+use Rattle.lnfs_world.proofs.KeptClients.{client_at-inserted}
+use Rattle.lnfs_counts.proofs.Rows.{found_id}
+use Rattle.lnfs_counts.proofs.Counted as counting
+use Rattle.lnfs_counts.proofs.Counted.{with_number}
 use Rattle.lnfs_session.specs.declared.levels.OwnerNumbers.{OwnerNumbers}
 use Rattle.lnfs_session.specs.Levels.{number_by}
 use Rattle.lnfs_session.specs.Standing.{clients_set}
-use Rattle.lnfs_session.specs.Indexed.{IsIndexed, is_record_of}
-use Rattle.lnfs_session.proofs.Indexed.{found_id}
-use Rattle.lnfs_session.proofs.Reindexed.{with_numbers, with_number, keyed}
-use Rattle.lnfs_session.proofs.Counted.{one_if, count-added, count-set}
+use Rattle.lnfs_session.specs.Indexed.{own_id, IsIndexed, is_record_of}
+use Rattle.lnfs_session.proofs.Reindexed.{with_numbers, keyed}
 
 module _ (rows : List Client) (lasts : List Id) (last records : ℕ → ℕ) (numbers : ℕ → List ℕ → OwnerNumbers) (ix : IsIndexed rows lasts last records numbers) (row : Client) where
   abbrev new : List Client
@@ -38,9 +39,6 @@ module _ (rows : List Client) (lasts : List Id) (last records : ℕ → ℕ) (nu
   own_key : (row.id.level == row.id.level && bytes_eq row.owner row.owner) ≡ true
   own_key = grind (arith, nat_tests, bytes_itself row.owner)
 
-  rises : Rising client_order new
-  rises = row_rises (λ c. c.id) row rows ix.rise
-
   -- what holds of each row, by its identifier
   by_row : (P : Id → Client → Type 0) → P row.id row → ((j : Id) (d : Client) → same_id j row.id ≡ false → client_at rows j ≡ Some d → P j d) → (j : Id) (d : Client) → client_at new j ≡ Some d → P j d
   by_row P own other j d at = by (found_in j d at)
@@ -60,30 +58,16 @@ module _ (rows : List Client) (lasts : List Id) (last records : ℕ → ℕ) (nu
   -- ---- another state of a record
 
   module _ (c : Client) (found : client_at rows row.id ≡ Some c) where
-    own : c.id ≡ row.id
-    own = sym (id_same row.id c.id (found_id rows row.id c found))
-
-    counted_set : (level : ℕ) → records level ≡ count_by (λ (d : Client). d.id.level == level) new
-    counted_set level = ix.counted level ∙ sym (count-set (λ d. d.id.level == level) row c rows ix.rise found (ap (λ (i : Id). i.level == level) (sym own)))
-
-    given_set : (j : Id) → is_some (client_at new j) ≡ true → j.number ≤ last j.level
-    given_set j = by_place (λ o. is_some o ≡ true → j.number ≤ last j.level) j
-        (λ is some. ix.given j (ap is_some (ap (client_at rows) (id_same j row.id is) ∙ found)))
-        (λ is some. ix.given j some)
-
     -- one by which its owner's records stay
     pub kept : row.owner ≡ c.owner → row.confirmed ≡ c.confirmed → IsIndexed new lasts last records numbers
     kept owner confirmed = record {
-      rise = rises;
+      counted = counting.set own_id rows lasts last records ix.counted row c found;
       filed = by_row (λ j d. number_by d.confirmed (numbers j.level d.owner) ≡ Some j.number) ((λ t. number_by (confirmed t) (numbers row.id.level (owner t))) ∙ ix.filed row.id c found) (λ j d is at. ix.filed j d at);
       there = λ level o flag number known.
           let j : Id = record { level = level; number = number } in
           by_place (λ x. is_record_of o flag x ≡ true) j
           (λ is. (λ t. bytes_eq (owner t) o && same_flag (confirmed t) flag) ∙ sym (ap (is_record_of o flag) (ap (client_at rows) (id_same j row.id is) ∙ found)) ∙ ix.there level o flag number known)
           (λ is. ix.there level o flag number known);
-      lasting = ix.lasting;
-      counted = counted_set;
-      given = given_set;
       few = ix.few;
     }
 
@@ -133,13 +117,10 @@ module _ (rows : List Client) (lasts : List Id) (last records : ℕ → ℕ) (nu
 
       pub confirmed : IsIndexed new lasts last records Confirmed
       confirmed = record {
-        rise = rises;
+        counted = counting.set own_id rows lasts last records ix.counted row c found;
         filed = by_row (λ j d. number_by d.confirmed (Confirmed j.level d.owner) ≡ Some j.number)
             ((λ t. number_by (is_confirmed t) (cond (own_key t) (record { pending = None; confirmed = Some row.id.number }) (numbers row.id.level row.owner)))) filed_other;
         there = there_confirmed;
-        lasting = ix.lasting;
-        counted = counted_set;
-        given = given_set;
         few = ix.few;
       }
 
@@ -153,11 +134,7 @@ module _ (rows : List Client) (lasts : List Id) (last records : ℕ → ℕ) (nu
     Added = with_numbers row.id.level row.owner N numbers
 
     pub absent : client_at rows row.id ≡ None
-    absent = by (client_at rows row.id) refl
-      where
-        by : (o : Option Client) → client_at rows row.id ≡ o → client_at rows row.id ≡ None
-        by None is = is
-        by (Some c) is = absurd (omega (arith, next, ix.given row.id (ap is_some is)))
+    absent = counting.absent own_id rows lasts last records ix.counted row next
 
     filed_beside : (j : Id) (d : Client) → same_id j row.id ≡ false → client_at rows j ≡ Some d → number_by d.confirmed (Added j.level d.owner) ≡ Some j.number
     filed_beside j d is at = by (row.id.level == j.level && bytes_eq row.owner d.owner) d.confirmed refl refl (ix.filed j d at)
@@ -194,18 +171,6 @@ module _ (rows : List Client) (lasts : List Id) (last records : ℕ → ℕ) (nu
             let level_is = k.0 in
             ap (is_record_of o false) (at_own j (grind (arith, nat_tests, level_is, number_is))) ∙ (λ t. bytes_eq row.owner (sym k.1 t) && same_flag (pending t) false) ∙ grind (arith, nat_tests, bytes_itself row.owner)
 
-    counted_added : (level : ℕ) → with_number row.id.level (records row.id.level + 1) records level ≡ count_by (λ (d : Client). d.id.level == level) new
-    counted_added level = by (row.id.level == level) refl
-      where
-        count : count_by (λ (d : Client). d.id.level == level) new ≡ count_by (λ (d : Client). d.id.level == level) rows + one_if (row.id.level == level)
-        count = count-added (λ d. d.id.level == level) row rows absent
-
-        by : (b : Bool) → (row.id.level == level) ≡ b → cond b (records row.id.level + 1) (records level) ≡ count_by (λ (d : Client). d.id.level == level) new
-        by true is =
-            let same : row.id.level ≡ level = grind (arith, nat_tests) in
-            omega (arith, count, ap one_if is, ix.counted level, ap records same)
-        by false is = omega (arith, count, ap one_if is, ix.counted level)
-
     few_added : (level : ℕ) → with_number row.id.level (records row.id.level + 1) records level ≤ with_number row.id.level row.id.number last level
     few_added level = by (row.id.level == level)
       where
@@ -213,25 +178,11 @@ module _ (rows : List Client) (lasts : List Id) (last records : ℕ → ℕ) (nu
         by true = omega (arith, next, ix.few row.id.level)
         by false = ix.few level
 
-    given_added : (j : Id) → is_some (client_at new j) ≡ true → j.number ≤ with_number row.id.level row.id.number last j.level
-    given_added j = by_place (λ o. is_some o ≡ true → j.number ≤ with_number row.id.level row.id.number last j.level) j (λ is some. newest (row.id.level == j.level) refl is) (λ is some. older (row.id.level == j.level) refl (ix.given j some))
-      where
-        newest : (b : Bool) → (row.id.level == j.level) ≡ b → same_id j row.id ≡ true → j.number ≤ cond b row.id.number (last j.level)
-        newest true is same = let id : j.number ≡ row.id.number = ap (λ (i : Id). i.number) (id_same j row.id same) in omega (arith, id)
-        newest false is same = absurd (false≢true (sym is ∙ grind (arith, nat_tests, same)))
-
-        older : (b : Bool) → (row.id.level == j.level) ≡ b → j.number ≤ last j.level → j.number ≤ cond b row.id.number (last j.level)
-        older true is old = let same : row.id.level ≡ j.level = grind (arith, nat_tests) in omega (arith, old, next, ap last same)
-        older false is old = old
-
     pub added : IsIndexed new (inserted level_order row.id lasts) (with_number row.id.level row.id.number last) (with_number row.id.level (records row.id.level + 1) records) Added
     added = record {
-      rise = rises;
+      counted = counting.added own_id rows lasts last records ix.counted row next;
       filed = by_row (λ j d. number_by d.confirmed (Added j.level d.owner) ≡ Some j.number) (λ t. number_by (pending t) (cond (own_key t) N (numbers row.id.level row.owner))) filed_beside;
       there = there_added;
-      lasting = λ level. last_of-inserted row.id lasts level ∙ ap (cond (row.id.level == level) row.id.number) (ix.lasting level);
-      counted = counted_added;
-      given = given_added;
       few = few_added;
     }
 
@@ -242,5 +193,5 @@ set_kept rows lasts last records numbers ix g id owner confirmed i = by (client_
     by : (o : Option Client) → client_at rows i ≡ o → IsIndexed (clients_set g o rows) lasts last records numbers
     by None is = ix
     by (Some c) is =
-        let own : (g c).id ≡ i = id c ∙ sym (id_same i c.id (found_id rows i c is)) in
+        let own : (g c).id ≡ i = id c ∙ sym (id_same i c.id (found_id own_id rows i c is)) in
         kept rows lasts last records numbers ix (g c) c (ap (client_at rows) own ∙ is) (owner c) (confirmed c)

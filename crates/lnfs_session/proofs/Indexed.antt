@@ -3,64 +3,21 @@ use Rattle.std.proofs.Common.{◌≡◌, ℕ, Bool, true, false, cond, not, List
 use Rattle.std.specs.Prelude.{◌+◌, length, ◌==◌, ◌&&◌, find, filter, count_by, is_some, option_map}
 use Rattle.std.specs.List.{AllByRecursion}
 use Rattle.std.specs.Str.{bytes_eq}
-use Rattle.std.specs.declared.cmp.Ordering.TheVariants.{Less}
 use Rattle.std.proofs.lemmas.Bool.Decides.{nat_tests}
 use Rattle.std.proofs.lemmas.Bool.{false≢true}
 use Rattle.std.proofs.lemmas.List.Sums.{length-filter}
 use Rattle.lnfs_world.specs.Rows.{Rising}
-use Rattle.lnfs_world.specs.World.{Id, Client, id_order, client_order, same_id, client_at}
-use Rattle.lnfs_world.proofs.Rows.{all_weaker, all_two}
-use Rattle.lnfs_world.proofs.Keys.{id_itself, id_same, bytes_same, bytes_itself}
+use Rattle.lnfs_world.specs.World.{Id, Client, client_order, same_id, client_at}
+use Rattle.lnfs_world.proofs.Rows.{all_weaker}
+use Rattle.lnfs_world.proofs.Keys.{id_same, bytes_same, bytes_itself}
+use Rattle.lnfs_counts.proofs.Rows.{each_at, found_id, passing, none_passes, one_passes, gone}
+use Rattle.lnfs_counts.proofs.Counts.{counts}
 use Rattle.lnfs_operations.specs.ExchangeId.{is_pending, is_confirmed_as, others_of}
 use Rattle.lnfs_session.specs.declared.levels.OwnerNumbers.{OwnerNumbers}
 use Rattle.lnfs_session.specs.Levels.{number_by, without}
-use Rattle.lnfs_session.specs.Indexed.{IsIndexed, is_record_of}
-
--- ---- rows in the order of their identifiers
-
-pub apart : (a b : Id) → id_order a b ≡ Less → same_id b a ≡ false
-apart a b less = grind (arith, nat_tests)
-
--- each is found at its own
-pub each_at : (rows : List Client) → Rising client_order rows → AllByRecursion (λ c. client_at rows c.id ≡ Some c) rows
-each_at [] rising = tt
-each_at (x ∷ xs) rising = (grind (arith, id_itself x.id), all_two _ _ _ (λ y less there. grind (arith, apart x.id y.id less, there)) xs rising.0 (each_at xs rising.1))
-
--- and what is found there has it
-pub found_id : (rows : List Client) (i : Id) (c : Client) → client_at rows i ≡ Some c → same_id i c.id ≡ true
-found_id [] i c found = absurd (cc)
-found_id (x ∷ xs) i c found = grind (arith, found_id xs i c)
-
--- one that passes a test
-abbrev pub passing : (Client → Bool) → Option Client → Option Client
-passing q None = None
-passing q (Some c) = cond (q c) (Some c) None
-
-pub none_passes : (q : Client → Bool) (rows : List Client) → AllByRecursion (λ c. q c ≡ false) rows → find q rows ≡ None
-none_passes q [] all = refl
-none_passes q (x ∷ xs) all = grind (arith, all.0, none_passes q xs all.1)
-
--- only rows of one identifier pass
-one_passes : (q : Client → Bool) (i : Id) (rows : List Client) → Rising client_order rows → AllByRecursion (λ c. q c ≡ true → same_id i c.id ≡ true) rows → find q rows ≡ passing q (client_at rows i)
-one_passes q i [] rising all = refl
-one_passes q i (x ∷ xs) rising all = by (q x) (same_id i x.id) refl refl (one_passes q i xs rising.1 all.1)
-  where
-    no_other : same_id i x.id ≡ true → find q xs ≡ None
-    no_other same = none_passes q xs (all_two _ _ _ (λ y less passes. fails y (q y) refl less passes) xs rising.0 all.1)
-      where
-        fails : (y : Client) (b : Bool) → q y ≡ b → client_order x y ≡ Less → (q y ≡ true → same_id i y.id ≡ true) → q y ≡ false
-        fails y true is less passes = absurd (grind (arith, nat_tests, apart x.id y.id less, passes is, id_same i x.id same))
-        fails y false is less passes = is
-
-    by : (b here : Bool) → q x ≡ b → same_id i x.id ≡ here → find q xs ≡ passing q (client_at xs i) → find q (x ∷ xs) ≡ passing q (client_at (x ∷ xs) i)
-    by true here is same rest = grind (arith, is, all.0 is)
-    by false true is same rest = grind (arith, is, same, no_other same)
-    by false false is same rest = grind (arith, is, same, rest)
+use Rattle.lnfs_session.specs.Indexed.{own_id, IsIndexed, is_record_of}
 
 -- ---- counts
-
-pub counts : {X : Type 0} (p : X → Bool) (xs : List X) → count_by p xs ≡ length (filter p xs)
-counts p xs = sym (length-filter p xs)
 
 -- rows of which none passes a test
 length-none : (p q : Client → Bool) (rows : List Client) → find q rows ≡ None → length (filter (λ c. p c && not (q c)) rows) ≡ length (filter p rows)
@@ -75,11 +32,8 @@ length-one : (p q : Client → Bool) (i : Id) (rows : List Client) → Rising cl
 length-one p q i [] rising all = refl
 length-one p q i (x ∷ xs) rising all = by (same_id i x.id) refl (length-one p q i xs rising.1 all.1)
   where
-    gone : same_id i x.id ≡ true → client_at xs i ≡ None
-    gone same = none_passes (λ c. same_id i c.id) xs (all_weaker _ _ (λ y less. grind (arith, nat_tests, apart x.id y.id less, id_same i x.id same)) xs rising.0)
-
     by : (b : Bool) → same_id i x.id ≡ b → length (filter (λ c. p c && not (q c)) xs) + cond (is_some (client_at xs i)) 1 0 ≡ length (filter p xs) → length (filter (λ c. p c && not (q c)) (x ∷ xs)) + cond (is_some (client_at (x ∷ xs) i)) 1 0 ≡ length (filter p (x ∷ xs))
-    by true is rest = grind (arith, is, all.0, gone is)
+    by true is rest = grind (arith, is, all.0, gone own_id x i xs rising.0 is)
     by false is rest = grind (arith, is, all.0)
 
 count-but_one : (p q : Client → Bool) (i : Id) (rows : List Client) → Rising client_order rows → (c : Client) → client_at rows i ≡ Some c → AllByRecursion (λ c. (p c && q c) ≡ same_id i c.id) rows → count_by (λ c. p c && not (q c)) rows + 1 ≡ count_by p rows
@@ -117,8 +71,8 @@ module _ (rows : List Client) (lasts : List Id) (last records : ℕ → ℕ) (nu
           grind (arith, nat_tests, same, own)
 
       by : (o : Option ℕ) → number_by confirmed (numbers level owner) ≡ o → find q rows ≡ passing q (at_number rows level o)
-      by None is = none_passes q rows (all_weaker _ _ (λ c there. fails is c (q c) refl there) rows (each_at rows ix.rise))
-      by (Some number) is = one_passes q (record { level = level; number = number }) rows ix.rise (all_weaker _ _ (λ c there passes. named number is c there passes) rows (each_at rows ix.rise))
+      by None is = none_passes q rows (all_weaker _ _ (λ c there. fails is c (q c) refl there) rows (each_at own_id rows ix.counted.rise))
+      by (Some number) is = one_passes own_id q (record { level = level; number = number }) rows ix.counted.rise (all_weaker _ _ (λ c there passes. named number is c there passes) rows (each_at own_id rows ix.counted.rise))
 
   pending_of : (level : ℕ) (owner : List ℕ) (c : Client) → is_pending level owner c ≡ true → IsOf level owner false c
   pending_of level owner c is = (grind (arith, nat_tests, is), bytes_same c.owner owner (grind (arith, nat_tests, is)), grind (arith, nat_tests, is))
@@ -142,7 +96,7 @@ module _ (rows : List Client) (lasts : List Id) (last records : ℕ → ℕ) (nu
       by : (o : Option Client) → client_at rows (record { level = level; number = number }) ≡ o → is_record_of owner confirmed o ≡ true → IsThere level number owner confirmed
       by None is record_of = absurd (cc)
       by (Some c) is record_of =
-          let id : c.id ≡ record { level = level; number = number } = sym (id_same (record { level = level; number = number }) c.id (found_id rows (record { level = level; number = number }) c is)) in
+          let id : c.id ≡ record { level = level; number = number } = sym (id_same (record { level = level; number = number }) c.id (found_id own_id rows (record { level = level; number = number }) c is)) in
           record { row = c; found = is; id = id; of = (ap (λ (i : Id). i.level) id, bytes_same c.owner owner (grind (arith, nat_tests, record_of)), grind (arith, nat_tests, record_of)) }
 
   -- ---- an owner's pending record
@@ -202,9 +156,9 @@ module _ (rows : List Client) (lasts : List Id) (last records : ℕ → ℕ) (nu
       by : (o : Option ℕ) → (numbers level owner).pending ≡ o → others_of level owner rows ≡ without (records level) o
       by None is =
           let none = find-pending level owner ∙ ap (at_number rows level) is in
-          count-none (λ c. c.id.level == level) (is_pending level owner) rows none ∙ sym (ix.counted level)
+          count-none (λ c. c.id.level == level) (is_pending level owner) rows none ∙ sym (ix.counted.counted level)
       by (Some number) is =
           let there = there_at level owner false number is in
           let i : Id = record { level = level; number = number } in
-          let one : others_of level owner rows + 1 ≡ count_by (λ c. c.id.level == level) rows = count-but_one (λ c. c.id.level == level) (is_pending level owner) i rows ix.rise there.row there.found (all_weaker _ _ (λ c found. only number is c found (is_pending level owner c) (same_id i c.id) refl refl) rows (each_at rows ix.rise)) in
-          omega (arith, one, ix.counted level)
+          let one : others_of level owner rows + 1 ≡ count_by (λ c. c.id.level == level) rows = count-but_one (λ c. c.id.level == level) (is_pending level owner) i rows ix.counted.rise there.row there.found (all_weaker _ _ (λ c found. only number is c found (is_pending level owner c) (same_id i c.id) refl refl) rows (each_at own_id rows ix.counted.rise)) in
+          omega (arith, one, ix.counted.counted level)

@@ -8,10 +8,8 @@ pub mod Destroying
 pub mod Arriving
 pub mod Answered
 pub mod Sequencing
-pub mod Owned
 pub mod Levelled
 pub mod Indexed
-pub mod Counted
 pub mod Reindexed
 pub mod Entered
 pub mod Replaced

@@ -1,5 +1,5 @@
 -- Rows that are seen through a view.
-use Rattle.std.proofs.Common.{◌≡◌, Bool, true, false, not, List, [], ◌∷◌, Option, Some, None, refl, sym, ◌∙◌, arith}
+use Rattle.std.proofs.Common.{◌≡◌, Bool, true, false, List, [], ◌∷◌, Option, Some, None, refl, sym, ◌∙◌, arith}
 use Rattle.std.specs.Prelude.{map, filter, find, count_by, length, option_map}
 use Rattle.std.specs.List.{list_any}
 use Rattle.std.proofs.lemmas.List.Sums.{length-filter}
@@ -36,8 +36,3 @@ module _ {X Y : Type 0} (f : X → Y) where
 pub map-map : {X Y Z : Type 0} (f : X → Y) (g : Y → Z) (o : Option X) → option_map g (option_map f o) ≡ option_map (λ x. g (f x)) o
 map-map f g None = refl
 map-map f g (Some x) = refl
-
--- a filter leaves what no row fails
-pub none_filtered : {X : Type 0} (q : X → Bool) (xs : List X) → list_any q xs ≡ false → filter (λ x. not (q x)) xs ≡ xs
-none_filtered q [] none = refl
-none_filtered q (x ∷ xs) none = grind (arith, none_filtered q xs)

@@ -13,7 +13,7 @@ use Rattle.std.proofs.lemmas.Map.Keys.{sorted_head, sorted_tail}
 use Rattle.std.proofs.lemmas.Bool.Decides.{nat_tests}
 use Rattle.lnfs_world.specs.World as world
 use Rattle.lnfs_world.specs.World.{id_order}
-use Rattle.lnfs_session.proofs.Entries.{AreKeys}
+use Rattle.lnfs_counts.proofs.Entries.{AreKeys}
 
 from_level : (level : ℕ) (i : world.Id) → is_le (id_order (record { level = level; number = 0 }) i) ≡ nat_le level i.level
 from_level level i = grind (arith, nat_tests)

@@ -1,26 +1,23 @@
 -- Client records stay indexed where one of them changes, and what is kept of its owner with it.
 use Rattle.std.proofs.Common.{◌≡◌, ◌≤◌, ℕ, Bool, true, false, cond, not, List, Some, None, refl, sym, ap, ◌∙◌, subst, arith}
-use Rattle.std.specs.Prelude.{◌+◌, ◌-◌, ◌==◌, ◌&&◌, filter, count_by, is_some}
+use Rattle.std.specs.Prelude.{◌-◌, ◌==◌, ◌&&◌, filter}
 use Rattle.std.specs.Str.{bytes_eq}
 use Rattle.std.proofs.lemmas.Bool.{false≢true}
 use Rattle.std.proofs.lemmas.Bool.Decides.{nat_tests}
-use Rattle.lnfs_world.specs.World.{Id, Client, client_order, same_id, client_at}
+use Rattle.lnfs_world.specs.World.{Id, Client, same_id, client_at}
 use Rattle.lnfs_world.specs.Facts.{same_flag}
-use Rattle.lnfs_world.proofs.Sorted.{rising_filter}
 use Rattle.lnfs_world.proofs.Keys.{id_same, bytes_same}
 use Rattle.lnfs_world.proofs.KeptClients.{client_at-dropped}
+use Rattle.lnfs_counts.proofs.Rows.{found_id}
+use Rattle.lnfs_counts.proofs.Counted as counting
+use Rattle.lnfs_counts.proofs.Counted.{with_number}
 use Rattle.lnfs_session.specs.declared.levels.OwnerNumbers.{OwnerNumbers}
 use Rattle.lnfs_session.specs.Levels.{number_by, cleared}
-use Rattle.lnfs_session.specs.Indexed.{IsIndexed, is_record_of}
-use Rattle.lnfs_session.proofs.Indexed.{found_id}
-use Rattle.lnfs_session.proofs.Counted.{one_if, count-dropped}
+use Rattle.lnfs_session.specs.Indexed.{own_id, IsIndexed, is_record_of}
 
 -- numbers of a level, with those of one owner changed
 abbrev pub with_numbers : ℕ → List ℕ → OwnerNumbers → (ℕ → List ℕ → OwnerNumbers) → ℕ → List ℕ → OwnerNumbers
 with_numbers level owner new numbers l o = cond (level == l && bytes_eq owner o) new (numbers l o)
-
-abbrev pub with_number : ℕ → ℕ → (ℕ → ℕ) → ℕ → ℕ
-with_number level new f l = cond (level == l) new (f l)
 
 pub keyed : (level l : ℕ) (owner o : List ℕ) → (level == l && bytes_eq owner o) ≡ true → (level ≡ l) × (owner ≡ o)
 keyed level l owner o is = (grind (arith, nat_tests, is), bytes_same owner o (grind (arith, nat_tests, is)))
@@ -53,7 +50,7 @@ module _ (rows : List Client) (lasts : List Id) (last records : ℕ → ℕ) (nu
 
   module _ (i : Id) (c : Client) (found : client_at rows i ≡ Some c) where
     own : c.id ≡ i
-    own = sym (id_same i c.id (found_id rows i c found))
+    own = sym (id_same i c.id (found_id own_id rows i c found))
 
     abbrev N : OwnerNumbers
     N = numbers i.level c.owner
@@ -114,24 +111,6 @@ module _ (rows : List Client) (lasts : List Id) (last records : ℕ → ℕ) (nu
             other ((λ t. number_by confirmed (numbers (sym k.0 t) (sym k.1 t))) ∙ sym (cleared-other confirmed c.confirmed N is) ∙ known) (λ at. grind (arith, is))
         by true true key is known = absurd (let gone = cleared-own confirmed c.confirmed N is in cc)
 
-    counted-left : (level : ℕ) → with_number i.level (records i.level - 1) records level ≡ count_by (λ d. d.id.level == level) left
-    counted-left level = by (i.level == level) refl
-      where
-        own_level : c.id.level ≡ i.level
-        own_level = ap (λ (x : Id). x.level) own
-
-        count : count_by (λ (d : Client). d.id.level == level) left + one_if (c.id.level == level) ≡ count_by (λ (d : Client). d.id.level == level) rows
-        count = count-dropped (λ d. d.id.level == level) i c rows ix.rise found
-
-        by : (b : Bool) → (i.level == level) ≡ b → cond b (records i.level - 1) (records level) ≡ count_by (λ (d : Client). d.id.level == level) left
-        by true is =
-            let same : i.level ≡ level = grind (arith, nat_tests) in
-            let one : one_if (c.id.level == level) ≡ 1 = grind (arith, nat_tests, own_level, same) in
-            omega (arith, count, one, ix.counted level, ap records same)
-        by false is =
-            let none : one_if (c.id.level == level) ≡ 0 = grind (arith, nat_tests, own_level, is) in
-            omega (arith, count, none, ix.counted level)
-
     few-left : (level : ℕ) → with_number i.level (records i.level - 1) records level ≤ last level
     few-left level = by (i.level == level) refl
       where
@@ -141,20 +120,10 @@ module _ (rows : List Client) (lasts : List Id) (last records : ℕ → ℕ) (nu
             omega (arith, ix.few level, ap records same)
         by false is = ix.few level
 
-    given-left : (j : Id) → is_some (client_at left j) ≡ true → j.number ≤ last j.level
-    given-left j some = ix.given j (by (same_id j i) (sym (ap is_some (client_at-dropped i rows j)) ∙ some))
-      where
-        by : (b : Bool) → is_some (cond b None (client_at rows j)) ≡ true → is_some (client_at rows j) ≡ true
-        by true e = absurd (false≢true e)
-        by false e = e
-
     pub dropped : IsIndexed left lasts last (with_number i.level (records i.level - 1) records) Left
     dropped = record {
-      rise = rising_filter client_order _ rows ix.rise;
+      counted = counting.dropped own_id rows lasts last records ix.counted i c found;
       filed = filed-left;
       there = there-left;
-      lasting = ix.lasting;
-      counted = counted-left;
-      given = given-left;
       few = few-left;
     }

@@ -5,53 +5,24 @@ use Rattle.std.specs.List.{AllByRecursion}
 use Rattle.std.specs.Str.{bytes_eq}
 use Rattle.std.specs.declared.cmp.Ordering.{Ordering}
 use Rattle.std.specs.declared.cmp.Ordering.TheVariants.{Less, Equal, Greater}
-use Rattle.std.proofs.lemmas.Bool.{false≢true}
 use Rattle.std.proofs.lemmas.Bool.Decides.{nat_tests}
 use Rattle.lnfs_world.specs.Rows.{Rising, inserted}
 use Rattle.lnfs_world.specs.World.{Id, Client, client_order, level_order, same_id, client_at}
 use Rattle.lnfs_world.proofs.Rows.{all_weaker}
 use Rattle.lnfs_world.proofs.Keys.{id_before, id_equal, id_same, bytes_itself}
 use Rattle.lnfs_operations.specs.ExchangeId.{is_pending}
+use Rattle.lnfs_counts.proofs.Rows.{before, filter-inserted}
+use Rattle.lnfs_counts.proofs.Counted.{with_number}
 use Rattle.lnfs_session.specs.declared.levels.OwnerNumbers.{OwnerNumbers}
 use Rattle.lnfs_session.specs.Levels.{number_by, cleared, without}
 use Rattle.lnfs_session.specs.Standing.{clients_left}
 use Rattle.lnfs_session.specs.Records.{left_by}
-use Rattle.lnfs_session.specs.Indexed.{IsIndexed}
+use Rattle.lnfs_session.specs.Indexed.{own_id, IsIndexed}
 use Rattle.lnfs_session.proofs.Indexed.{at_number, there_at, find-pending}
-use Rattle.lnfs_session.proofs.Reindexed.{with_numbers, with_number, same, dropped}
+use Rattle.lnfs_session.proofs.Reindexed.{with_numbers, same, dropped}
 use Rattle.lnfs_session.proofs.Entered.{added}
 
 -- ---- rows in their order
-
-front : (q : Client → Bool) (row : Client) (xs : List Client) → AllByRecursion (λ y. client_order row y ≡ Less) xs → inserted client_order row (filter q xs) ≡ row ∷ filter q xs
-front q row [] all = refl
-front q row (x ∷ xs) all = by (q x) refl (front q row xs all.1)
-  where
-    by : (b : Bool) → q x ≡ b → inserted client_order row (filter q xs) ≡ row ∷ filter q xs → inserted client_order row (filter q (x ∷ xs)) ≡ row ∷ filter q (x ∷ xs)
-    by true is rest = grind (arith, is, all.0)
-    by false is rest = grind (arith, is)
-
--- one goes and another is set, in either order
-pub filter-inserted : (i : Id) (row : Client) (rows : List Client) → Rising client_order rows → same_id i row.id ≡ false → filter (λ d. not (same_id i d.id)) (inserted client_order row rows) ≡ inserted client_order row (filter (λ d. not (same_id i d.id)) rows)
-filter-inserted i row [] rising apart = grind (arith, apart)
-filter-inserted i row (x ∷ xs) rising apart = by (client_order row x) (same_id i x.id) refl refl (filter-inserted i row xs rising.1 apart)
-  where
-    by : (o : Ordering) (b : Bool) → client_order row x ≡ o → same_id i x.id ≡ b → filter (λ d. not (same_id i d.id)) (inserted client_order row xs) ≡ inserted client_order row (filter (λ d. not (same_id i d.id)) xs) → filter (λ d. not (same_id i d.id)) (inserted client_order row (x ∷ xs)) ≡ inserted client_order row (filter (λ d. not (same_id i d.id)) (x ∷ xs))
-    by Less true is here rest = grind (arith, is, here, apart, front (λ d. not (same_id i d.id)) row xs (all_weaker _ _ (λ y less. id_before row.id x.id y.id is less) xs rising.0))
-    by Less false is here rest = grind (arith, is, here, apart)
-    by Equal true is here rest =
-        let other : row.id ≡ x.id = id_same row.id x.id (id_equal row.id x.id is) in
-        absurd (false≢true (sym apart ∙ ap (same_id i) other ∙ here))
-    by Equal false is here rest = grind (arith, is, here, apart)
-    by Greater true is here rest = grind (arith, is, here, rest)
-    by Greater false is here rest = grind (arith, is, here, rest)
-
-before : (row x : Client) (xs : List Client) → AllByRecursion (λ y. client_order x y ≡ Less) xs → client_order row x ≡ Less → AllByRecursion (λ y. client_order row y ≡ Less) xs
-before row x xs later less = all_weaker _ _ (λ y lt. id_before row.id x.id y.id less lt) xs later
-
-unfound : (row : Client) (xs : List Client) → AllByRecursion (λ y. client_order row y ≡ Less) xs → client_at xs row.id ≡ None
-unfound row [] all = refl
-unfound row (x ∷ xs) all = grind (arith, nat_tests, all.0, unfound row xs all.1)
 
 -- a row that is there is set to what it is
 pub inserted_there : (row : Client) (rows : List Client) → Rising client_order rows → client_at rows row.id ≡ Some row → inserted client_order row rows ≡ rows
@@ -59,7 +30,7 @@ inserted_there row [] rising there = absurd (cc)
 inserted_there row (x ∷ xs) rising there = by (client_order row x) refl (inserted_there row xs rising.1)
   where
     by : (o : Ordering) → client_order row x ≡ o → (client_at xs row.id ≡ Some row → inserted client_order row xs ≡ xs) → inserted client_order row (x ∷ xs) ≡ x ∷ xs
-    by Less is rest = absurd (let none = unfound row (x ∷ xs) (is, before row x xs rising.0 is) in cc)
+    by Less is rest = absurd (let none = before own_id row x xs rising.0 is in cc)
     by Equal is rest = grind (arith, is, id_equal row.id x.id is)
     by Greater is rest = grind (arith, nat_tests, is)
 
@@ -127,12 +98,12 @@ module _ (rows : List Client) (lasts : List Id) (last records : ℕ → ℕ) (nu
 
     commutes : (o : Option ℕ) → N.pending ≡ o → clients_left (ids_at row.id.level o) (inserted client_order row rows) ≡ inserted client_order row (clients_left (ids_at row.id.level o) rows)
     commutes None is = refl
-    commutes (Some number) is = filter-inserted (id_at row.id.level number) row rows ix.rise (by (same_id (id_at row.id.level number) row.id) refl)
+    commutes (Some number) is = filter-inserted own_id (λ d. not (same_id (id_at row.id.level number) d.id)) row (ap not (by (same_id (id_at row.id.level number) row.id) refl)) rows ix.counted.rise
       where
         by : (b : Bool) → same_id (id_at row.id.level number) row.id ≡ b → same_id (id_at row.id.level number) row.id ≡ false
         by true same =
             let there = there_at rows lasts last records numbers ix row.id.level row.owner false number is in
-            let given = ix.given (id_at row.id.level number) (ap is_some there.found) in
+            let given = ix.counted.given (id_at row.id.level number) (ap is_some there.found) in
             let own : number ≡ row.id.number = ap (λ (i : Id). i.number) (id_same (id_at row.id.level number) row.id same) in
             absurd (omega (arith, given, next, own))
         by false same = same

@@ -1,12 +1,15 @@
 -- Client records with what is kept to find them: of each level the last number and how many records it has,
 -- and of each of its owners the numbers of its records.
-use Rattle.std.specs.Prelude.{◌≡◌, ◌≤◌, ℕ, ◌==◌, Bool, true, false, ◌&&◌, List, Option, Some, None, is_some, count_by}
+use Rattle.std.specs.Prelude.{◌≡◌, ◌≤◌, ℕ, Bool, true, false, ◌&&◌, List, Option, Some, None}
 use Rattle.std.specs.Str.{bytes_eq}
-use Rattle.lnfs_world.specs.Rows.{Rising}
-use Rattle.lnfs_world.specs.World.{Id, Client, client_order, client_at, last_of}
+use Rattle.lnfs_world.specs.World.{Id, Client, client_at}
 use Rattle.lnfs_world.specs.Facts.{same_flag}
+use Rattle.lnfs_counts.specs.Counted.{IsCounted}
 use Rattle.lnfs_session.specs.declared.levels.OwnerNumbers.{OwnerNumbers}
 use Rattle.lnfs_session.specs.Levels.{number_by}
+
+abbrev pub own_id : Client → Id
+own_id c = c.id
 
 -- whether there is a record of an owner, confirmed or pending
 abbrev pub is_record_of : List ℕ → Bool → Option Client → Bool
@@ -14,13 +17,10 @@ is_record_of owner confirmed None = false
 is_record_of owner confirmed (Some c) = bytes_eq c.owner owner && same_flag c.confirmed confirmed
 
 pub record IsIndexed (rows : List Client) (lasts : List Id) (last records : ℕ → ℕ) (numbers : ℕ → List ℕ → OwnerNumbers) : Type 0 where
-  pub rise : Rising client_order rows
+  pub counted : IsCounted own_id rows lasts last records
   -- a record is its owner's confirmed one, or its pending one
   pub filed : (i : Id) (c : Client) → client_at rows i ≡ Some c → number_by c.confirmed (numbers i.level c.owner) ≡ Some i.number
   -- and an owner's numbers are those of such records
   pub there : (level : ℕ) (owner : List ℕ) (confirmed : Bool) (number : ℕ) → number_by confirmed (numbers level owner) ≡ Some number → is_record_of owner confirmed (client_at rows (record { level = level; number = number })) ≡ true
-  pub lasting : (level : ℕ) → last_of level lasts ≡ last level
-  pub counted : (level : ℕ) → records level ≡ count_by (λ c. c.id.level == level) rows
-  -- no number is above the last that its level was given, and so there are no more records than numbers
-  pub given : (i : Id) → is_some (client_at rows i) ≡ true → i.number ≤ last i.level
+  -- there are no more records than numbers that were given
   pub few : (level : ℕ) → records level ≤ last level

@@ -1,9 +1,10 @@
 -- What is kept of the levels, read by a level and an owner.
-use Rattle.std.specs.Prelude.{◌≡◌, ℕ, ◌-◌, ◌==◌, Bool, true, false, cond, List, [], ◌∷◌, Option, Some, None}
+use Rattle.std.specs.Prelude.{◌≡◌, ℕ, ◌-◌, Bool, true, false, List, Option, Some, None}
 use Rattle.std.specs.Ordering.{nat_cmp}
 use Rattle.std.specs.Cmp.Lexicographic.{slice_cmp}
 use Rattle.std.specs.BTreeMap.{BTreeMap, get, get_by}
 use Rattle.lnfs_world.specs.World.{Id}
+use Rattle.lnfs_counts.specs.Levels.{told_at, lasts_by}
 use Rattle.lnfs_session.specs.declared.levels.OwnerNumbers.{OwnerNumbers}
 use Rattle.lnfs_session.specs.declared.levels.Level.{Level}
 
@@ -34,23 +35,15 @@ pub record TellSame (a b : Level) : Type 0 where
 
 -- ---- among all levels
 
-abbrev pub last_in : Option Level → ℕ
-last_in None = 0
-last_in (Some x) = x.last
-
-abbrev pub records_in : Option Level → ℕ
-records_in None = 0
-records_in (Some x) = x.records
-
 abbrev pub place_in : Option Level → List ℕ → Option OwnerNumbers
 place_in None owner = None
 place_in (Some x) owner = place_of x owner
 
 abbrev pub last_at : Levels → ℕ → ℕ
-last_at levels level = last_in (get nat_cmp levels level)
+last_at levels level = told_at (λ x. x.last) levels level
 
 abbrev pub records_at : Levels → ℕ → ℕ
-records_at levels level = records_in (get nat_cmp levels level)
+records_at levels level = told_at (λ x. x.records) levels level
 
 abbrev pub place_at : Levels → ℕ → List ℕ → Option OwnerNumbers
 place_at levels level owner = place_in (get nat_cmp levels level) owner
@@ -78,8 +71,7 @@ others_in levels level owner = without (records_at levels level) (numbers_at lev
 
 -- the last numbers of the levels that were given one
 abbrev pub lasts_of : List (ℕ × Level) → List Id
-lasts_of [] = []
-lasts_of (e ∷ es) = cond (e.1.last == 0) (lasts_of es) (record { level = e.0; number = e.1.last } ∷ lasts_of es)
+lasts_of es = lasts_by (λ x. x.last) es
 
 -- two states of the levels that tell the same
 pub record AllTellSame (a b : Levels) : Type 0 where

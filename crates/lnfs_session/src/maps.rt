@@ -110,6 +110,7 @@ pub fn drop_any_sessions(sessions: &mut BTreeMap<SessionRef, Session>, gone: Opt
     }
 }
 
+/// A session goes, if it is there.
 pub fn drop_session(sessions: &mut BTreeMap<SessionRef, Session>, id: SessionRef)
     ensures { map session_of sessions.new.entries ≡ filter (λ x. not (same_id (session_id_of id) x.id)) (map session_of sessions.old.entries) }
 {

@@ -44,6 +44,8 @@ fn put_auth(out: &mut XdrWriter, flavor: u32, body: &[u8]) -> Result<(), AllocEr
     out.opaque(body)
 }
 
+/// A call of a COMPOUND with these arguments, by AUTH_SYS of a user in group 0, from a machine that is called `gen`
+/// (RFC 5531 section 9 and appendix A).
 #[tactic(auto, unfolding(crate::specs::CallTexts::call_text, crate::specs::CallTexts::header_text))]
 pub fn write_call(
     alloc: Global,

@@ -1,9 +1,11 @@
 use Rattle.std.proofs.Common.{◌≡◌, Option, Some, None, refl, sym, ap, ◌∙◌, option_map}
 use Rattle.std.specs.Borrow.{Bor}
 use Rattle.std.specs.Option.{option_copied, IfSome}
+use Rattle.lnfs_counts.proofs.Entries.{find-entries}
 use Rattle.lnfs_open.specs.declared.keys.OpenRow.{OpenRow}
-use Rattle.lnfs_open.specs.Listed.{id_of, row_of, AreOwn}
-use Rattle.lnfs_open.proofs.Entries.{find-entries, own_at, at}
+use Rattle.lnfs_open.specs.Listed.{id_of, row_of, open_of, AreOwn}
+use Rattle.lnfs_open.specs.Indexed.{own_id}
+use Rattle.lnfs_open.proofs.Entries.{key_cmp, keys, own_at, at}
 use Rattle.lnfs_open.proofs.rows.row_at.Goals as goal
 
 copied : {X : Type 0} (f : OpenRow → X) (o : Option (Bor OpenRow)) → option_map (λ x. f x.now) o ≡ option_map f (option_copied o)
@@ -14,7 +16,7 @@ pub returns-clause-row : goal.returns-clause-row
 returns-clause-row c =
     copied (row_of (id_of c.args.id)) c.get.result
     ∙ ap (option_map (row_of (id_of c.args.id))) c.get.ensures.value
-    ∙ sym (find-entries c.args.id c.args.rows.now.entries)
+    ∙ sym (find-entries id_of key_cmp keys open_of own_id (λ e. refl) c.args.id c.args.rows.now.entries)
 
 pub returns-clause-own : goal.returns-clause-own
 returns-clause-own c = λ own. by c.get.result c.get.ensures.value own

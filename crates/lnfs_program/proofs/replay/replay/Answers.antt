@@ -1,19 +1,13 @@
-use Rattle.std.proofs.Common.{arith}
-use Rattle.std.proofs.lemmas.Bool.Decides.{nat_tests}
-use Rattle.lnfs_program.proofs.Judging.{plays_none, plays_damaged, plays_all}
+use Rattle.std.proofs.Common.{rules, ap}
+use Rattle.lnfs_vault.specs.Kept.{Kept}
+use Rattle.lnfs_program.proofs.Replaying.{stops_at_first}
 use Rattle.lnfs_program.proofs.replay.replay.Goals as goal
 
-pub returns-in_default-clause-plays : goal.returns-in_default-clause-plays
-returns-in_default-clause-plays g c = plays_none g.M.Mechanism.signing c.args.policy c.args.traffic.now c.in_default.ensures.cases
+pub returns-in_err-vault-clause-replays : goal.returns-in_err-vault-clause-replays
+returns-in_err-vault-clause-replays g c = stops_at_first _ _ _ (search rules)
 
-pub returns-then-left-eq0-clause-plays : goal.returns-then-left-eq0-clause-plays
-returns-then-left-eq0-clause-plays g c =
-    let s = c.in-Some.ensures.cases in
-    let e = c.in_ok-left.ensures in
-    plays_all g.M.Mechanism.signing c.args.policy c.args.traffic.now s.0 s.1 e.does.done e.left.0 (grind (arith, nat_tests, c.if-left-eq0.true))
+pub serve_rest-requires : goal.serve_rest-requires
+serve_rest-requires g c = record { first = ap (λ (v : Kept). v.journal) c.in_ok-vault.ensures }
 
-pub returns-else-left-eq0-clause-plays : goal.returns-else-left-eq0-clause-plays
-returns-else-left-eq0-clause-plays g c =
-    let s = c.in-Some.ensures.cases in
-    let e = c.in_ok-left.ensures in
-    plays_damaged g.M.Mechanism.signing c.args.policy c.args.traffic.now s.0 s.1 e.does.done e.left.0 (grind (arith, nat_tests, c.if-left-eq0.false))
+pub returns-clause-replays : goal.returns-clause-replays
+returns-clause-replays g c = rw (ap (λ (v : Kept). v.policy) c.in_ok-vault.ensures) at c.serve_rest.ensures.replays

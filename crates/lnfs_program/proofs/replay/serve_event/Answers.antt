@@ -1,5 +1,5 @@
 use Rattle.std.proofs.Common.{rules, ◌∙◌, ap, unwrap_or, []}
-use Rattle.lnfs_program.specs.Writes.{framed}
+use Rattle.lnfs_workers.specs.Transcripts.{framed}
 use Rattle.lnfs_program.proofs.Lines.{audit_is_line}
 use Rattle.lnfs_program.proofs.Writing.{does_none, does_out, does_line, does_then, does_first}
 use Rattle.lnfs_program.proofs.replay.serve_event.Goals as goal

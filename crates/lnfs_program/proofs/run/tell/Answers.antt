@@ -1,15 +1,17 @@
 use Rattle.std.proofs.Common.{rules, ◌∙◌}
-use Rattle.lnfs_program.proofs.Playing.{runs_early, runs_cut, runs_told}
+use Rattle.lnfs_program.specs.declared.status.Stop.TheVariants as stops
+use Rattle.lnfs_program.proofs.Playing.{told_as, runs_early, runs_short, runs_cut, runs_told}
 use Rattle.lnfs_program.proofs.run.tell.Goals as goal
 
 pub returns-in_err-status-clause-runs : goal.returns-in_err-status-clause-runs
-returns-in_err-status-clause-runs g c = runs_early _ (search rules) c.judge.ensures.judges
+returns-in_err-status-clause-runs g c = told_as c.in_err-status.field-0.0 {result = c.from_residual.result} (search rules) (runs_early _ c.in_err-status.ensures.judges)
 
 pub returns-in_err-line-clause-runs : goal.returns-in_err-line-clause-runs
-returns-in_err-line-clause-runs g c = runs_early _ (search rules) c.in_ok-status.ensures.judges
+returns-in_err-line-clause-runs g c = told_as stops.Memory {result = c.from_residual-in_err-line.result} (search rules) (runs_short _ c.in_ok-status.ensures.judges)
 
 pub returns-in_err-put_line-clause-runs : goal.returns-in_err-put_line-clause-runs
-returns-in_err-put_line-clause-runs g c = runs_cut _ (search rules) _ c.in_ok-status.ensures.judges (c.as_bytes.ensures.value ∙ c.in_ok-line.ensures) c.put_line.ensures.does
+returns-in_err-put_line-clause-runs g c =
+    told_as c.in_err-put_line.field-0.0 {result = c.from_residual-in_err-put_line.result} (search rules) (runs_cut _ c.in_err-put_line.ensures.cause _ c.in_ok-status.ensures.judges (c.as_bytes.ensures.value ∙ c.in_ok-line.ensures) c.put_line.ensures.does)
 
 pub returns-clause-runs : goal.returns-clause-runs
 returns-clause-runs g c = runs_told _ c.in_ok-status.ensures.judges (c.as_bytes.ensures.value ∙ c.in_ok-line.ensures) c.in_ok-put_line.ensures.does

@@ -1,4 +1,4 @@
-use Rattle.std.proofs.Common.{◌≡◌, ◌+◌, [], ◌∷◌, ◌++◌, length, sym, ap, ◌∙◌, subst, arith}
+use Rattle.std.proofs.Common.{◌+◌, [], ◌∷◌, ◌++◌, length, sym, ap, ◌∙◌, subst, arith}
 use Rattle.std.proofs.lemmas.List.{length-append, append_assoc}
 use Rattle.std.specs.List.{AllByRecursion}
 use Rattle.sha2.specs.Hashers.{Holds256}
@@ -6,7 +6,8 @@ use Rattle.lnfs_outside.specs.Moments.{Fits}
 use Rattle.lnfs_step.specs.Journal.{answer, line_at}
 use Rattle.lnfs_vault.specs.Kept.{Kept}
 use Rattle.lnfs_program.specs.Summary.{one_of, count_after}
-use Rattle.lnfs_program.specs.Writes.{framed, frames_after}
+use Rattle.lnfs_workers.specs.Transcripts.{framed}
+use Rattle.lnfs_program.specs.Writes.{frames_after}
 use Rattle.lnfs_program.proofs.Summing.{count_more, count_few, frames_more}
 use Rattle.lnfs_program.proofs.summary.tally_of.Goals as goal
 

@@ -2,9 +2,10 @@ use Rattle.std.proofs.Common.{ℕ, List, false, None, map, refl, ap, ◌∙◌}
 use Rattle.lnfs_world.specs.Rows.{inserted}
 use Rattle.lnfs_world.specs.World.{client_order}
 use Rattle.lnfs_operations.specs.ExchangeId.{new_client}
+use Rattle.lnfs_counts.proofs.Entries.{inserted-entries}
 use Rattle.lnfs_session.specs.declared.rows.Client.{Client}
 use Rattle.lnfs_session.specs.Listed.{id_of, client_of}
-use Rattle.lnfs_session.proofs.Entries.{client_cmp, client_keys, inserted-entries}
+use Rattle.lnfs_session.proofs.Entries.{client_cmp, client_keys}
 use Rattle.lnfs_session.proofs.client_rows.add_new.Goals as goal
 
 pub returns-clause-added : goal.returns-clause-added

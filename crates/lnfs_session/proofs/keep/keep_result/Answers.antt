@@ -2,10 +2,11 @@ use Rattle.std.proofs.Common.{◌≡◌, Some, None, map, refl, ap, sym, ◌∙�
 use Rattle.std.specs.Option.{option_map}
 use Rattle.lnfs_world.specs.Rows.{inserted}
 use Rattle.lnfs_world.specs.World.{session_order, session_at}
+use Rattle.lnfs_counts.proofs.Entries.{find-entries, set-entries}
 use Rattle.lnfs_session.specs.declared.rows.Session.{Session}
 use Rattle.lnfs_session.specs.Listed.{session_id_of, session_of, slot_of}
 use Rattle.lnfs_session.specs.Standing.{settled, sessions_set}
-use Rattle.lnfs_session.proofs.Entries.{session_cmp, session_keys, find-entries, set-entries}
+use Rattle.lnfs_session.proofs.Entries.{session_cmp, session_keys}
 use Rattle.lnfs_session.proofs.keep.keep_result.Goals as goal
 
 pub returns-in_default : goal.returns-in_default

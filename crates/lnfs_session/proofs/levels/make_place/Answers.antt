@@ -1,6 +1,7 @@
 use Rattle.std.proofs.Common.{ap, sym, ◌∙◌}
+use Rattle.lnfs_counts.proofs.Levels.{lasts-same}
 use Rattle.lnfs_session.specs.Levels.{lasts_of}
-use Rattle.lnfs_session.proofs.Levelled.{lasts-same, told_same, told_twice}
+use Rattle.lnfs_session.proofs.Levelled.{told_same, told_twice}
 use Rattle.lnfs_session.proofs.levels.make_place.Goals as goal
 
 pub returns-clause-same : goal.returns-clause-same
@@ -9,6 +10,6 @@ returns-clause-same c =
     let new = c.get_mut.follows.lender c.make_place.new.self in
     let found = c.in-Some.found.now in
     let holds = c.get_mut.follows.holds c.make_place.new.self in
+    let lasts = ap lasts_of holds.0 ∙ lasts-same (λ x. x.last) c.args.level found c.make_place.new.self old.entries (sym c.in-Some.ensures.value) c.make_place.ensures.same.last in
     told_twice c.args.levels.now old new c.in_ok-make_level.ensures.same
-    (told_same old new c.args.level found c.make_place.new.self (sym c.in-Some.ensures.value) (holds.3 c.in_ok-make_level.ensures.there) c.make_place.ensures.same
-    (ap lasts_of holds.0 ∙ lasts-same c.args.level found c.make_place.new.self old.entries (sym c.in-Some.ensures.value) c.make_place.ensures.same.last))
+    (told_same old new c.args.level c.make_place.new.self (holds.3 c.in_ok-make_level.ensures.there) lasts found (sym c.in-Some.ensures.value) c.make_place.ensures.same)

@@ -1,6 +1,7 @@
 use Rattle.std.proofs.Common.{refl}
+use Rattle.lnfs_counts.proofs.Entries.{removed-entries}
 use Rattle.lnfs_session.specs.Listed.{id_of, client_of}
-use Rattle.lnfs_session.proofs.Entries.{client_cmp, client_keys, removed-entries}
+use Rattle.lnfs_session.proofs.Entries.{client_cmp, client_keys}
 use Rattle.lnfs_session.proofs.maps.drop_client.Goals as goal
 
 pub returns : goal.returns

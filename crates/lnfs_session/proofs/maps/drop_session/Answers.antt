@@ -1,6 +1,7 @@
 use Rattle.std.proofs.Common.{refl}
+use Rattle.lnfs_counts.proofs.Entries.{removed-entries}
 use Rattle.lnfs_session.specs.Listed.{session_id_of, session_of}
-use Rattle.lnfs_session.proofs.Entries.{session_cmp, session_keys, removed-entries}
+use Rattle.lnfs_session.proofs.Entries.{session_cmp, session_keys}
 use Rattle.lnfs_session.proofs.maps.drop_session.Goals as goal
 
 pub returns : goal.returns

@@ -1,7 +1,8 @@
 use Rattle.std.proofs.Common.{refl, ap, sym, ◌∙◌}
 use Rattle.std.specs.Option.{option_map}
+use Rattle.lnfs_counts.proofs.Entries.{find-entries}
 use Rattle.lnfs_session.specs.Listed.{id_of, client_of}
-use Rattle.lnfs_session.proofs.Entries.{client_cmp, client_keys, find-entries, at_copied}
+use Rattle.lnfs_session.proofs.Entries.{client_cmp, client_keys, at_copied}
 use Rattle.lnfs_session.proofs.named.client_at.Goals as goal
 
 pub returns : goal.returns

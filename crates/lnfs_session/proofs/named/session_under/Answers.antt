@@ -4,10 +4,11 @@ use Rattle.std.specs.Str.{bytes_eq}
 use Rattle.std.specs.Ordering.{is_eq}
 use Rattle.std.specs.Map.{lookup}
 use Rattle.lnfs_world.specs.World.{session_at}
+use Rattle.lnfs_counts.proofs.Entries.{find-entries}
 use Rattle.lnfs_session.specs.declared.rows.SessionRef.{SessionRef}
 use Rattle.lnfs_operations.specs.Identifiers.{session_named}
 use Rattle.lnfs_session.specs.Listed.{session_id_of, session_of, session_key}
-use Rattle.lnfs_session.proofs.Entries.{session_cmp, session_keys, find-entries, at_copied}
+use Rattle.lnfs_session.proofs.Entries.{session_cmp, session_keys, at_copied}
 use Rattle.lnfs_session.proofs.named.session_under.Goals as goal
 
 pub returns : goal.returns

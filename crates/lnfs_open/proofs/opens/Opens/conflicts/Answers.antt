@@ -17,7 +17,7 @@ returns-clause-exact c =
     let deny = c.args.deny in
     let node = id_of c.key.result in
     c.is_stopped.ensures
-    ∙ any-places s.opens c.self.invariant.indexed.rise c.self.inside.finder.nodes c.self.invariant.indexed.nodes node (λ o. stands_in_way dom subject own o.node access deny o)
+    ∙ any-places s.opens c.self.invariant.indexed.counted.rise c.self.inside.finder.nodes c.self.invariant.indexed.nodes node (λ o. stands_in_way dom subject own o.node access deny o)
     ∙ by_node node (λ n o. stands_in_way dom subject own n access deny o) s.opens
     ∙ ap (λ n. conflicts dom subject own n access deny s.opens) c.key.ensures
     ∙ ap (λ (k : Lists). conflicts dom subject own (node_id c.args.node) access deny k.opens) c.self.view_is

@@ -21,7 +21,7 @@ enter-requires-clause-node c =
     let old = c.self.inside.finder in
     let ix = index_of c.self.inside.counters old in
     let row : Open = row_of i c.args.row in
-    let next : row.id.number ≡ ix.last row.id.level + 1 = ap (λ (j : Id). j.number) c.requires.next ∙ ap (λ (k : Lists). last_of i.level k.lasts + 1) (sym c.self.view_is) ∙ ap (λ (n : ℕ). n + 1) (c.self.invariant.indexed.lasting i.level) in
+    let next : row.id.number ≡ ix.last row.id.level + 1 = ap (λ (j : Id). j.number) c.requires.next ∙ ap (λ (k : Lists). last_of i.level k.lasts + 1) (sym c.self.view_is) ∙ ap (λ (n : ℕ). n + 1) (c.self.invariant.indexed.counted.lasting i.level) in
     let none : ix.number (client_of row) row.node row.owner ≡ None = none_numbered s ix c.self.invariant.indexed (client_of row) row.node row.owner (ap (λ (k : Lists). find (same_opening row) k.opens) c.self.view_is ∙ c.requires.absent) in
     let client : id_of c.key.result ≡ client_of row = c.key.ensures ∙ (λ t. record { level = c.requires.level t; number = row.client }) in
     let node : id_of c.key-2.result ≡ row.node = c.key-2.ensures in
@@ -36,7 +36,7 @@ enter-requires-clause-client c =
     let old = c.self.inside.finder in
     let ix = index_of c.self.inside.counters old in
     let row : Open = row_of i c.args.row in
-    let next : row.id.number ≡ ix.last row.id.level + 1 = ap (λ (j : Id). j.number) c.requires.next ∙ ap (λ (k : Lists). last_of i.level k.lasts + 1) (sym c.self.view_is) ∙ ap (λ (n : ℕ). n + 1) (c.self.invariant.indexed.lasting i.level) in
+    let next : row.id.number ≡ ix.last row.id.level + 1 = ap (λ (j : Id). j.number) c.requires.next ∙ ap (λ (k : Lists). last_of i.level k.lasts + 1) (sym c.self.view_is) ∙ ap (λ (n : ℕ). n + 1) (c.self.invariant.indexed.counted.lasting i.level) in
     let none : ix.number (client_of row) row.node row.owner ≡ None = none_numbered s ix c.self.invariant.indexed (client_of row) row.node row.owner (ap (λ (k : Lists). find (same_opening row) k.opens) c.self.view_is ∙ c.requires.absent) in
     let client : id_of c.key.result ≡ client_of row = c.key.ensures ∙ (λ t. record { level = c.requires.level t; number = row.client }) in
     let node : id_of c.key-2.result ≡ row.node = c.key-2.ensures in
@@ -60,7 +60,7 @@ invariant_of-self-in-Err c =
     let old = c.self.inside.finder in
     let ix = index_of c.self.inside.counters old in
     let row : Open = row_of i c.args.row in
-    let next : row.id.number ≡ ix.last row.id.level + 1 = ap (λ (j : Id). j.number) c.requires.next ∙ ap (λ (k : Lists). last_of i.level k.lasts + 1) (sym c.self.view_is) ∙ ap (λ (n : ℕ). n + 1) (c.self.invariant.indexed.lasting i.level) in
+    let next : row.id.number ≡ ix.last row.id.level + 1 = ap (λ (j : Id). j.number) c.requires.next ∙ ap (λ (k : Lists). last_of i.level k.lasts + 1) (sym c.self.view_is) ∙ ap (λ (n : ℕ). n + 1) (c.self.invariant.indexed.counted.lasting i.level) in
     let none : ix.number (client_of row) row.node row.owner ≡ None = none_numbered s ix c.self.invariant.indexed (client_of row) row.node row.owner (ap (λ (k : Lists). find (same_opening row) k.opens) c.self.view_is ∙ c.requires.absent) in
     let client : id_of c.key.result ≡ client_of row = c.key.ensures ∙ (λ t. record { level = c.requires.level t; number = row.client }) in
     let node : id_of c.key-2.result ≡ row.node = c.key-2.ensures in
@@ -81,7 +81,7 @@ invariant_of-self-2 c =
     let old = c.self.inside.finder in
     let ix = index_of c.self.inside.counters old in
     let row : Open = row_of i c.args.row in
-    let next : row.id.number ≡ ix.last row.id.level + 1 = ap (λ (j : Id). j.number) c.requires.next ∙ ap (λ (k : Lists). last_of i.level k.lasts + 1) (sym c.self.view_is) ∙ ap (λ (n : ℕ). n + 1) (c.self.invariant.indexed.lasting i.level) in
+    let next : row.id.number ≡ ix.last row.id.level + 1 = ap (λ (j : Id). j.number) c.requires.next ∙ ap (λ (k : Lists). last_of i.level k.lasts + 1) (sym c.self.view_is) ∙ ap (λ (n : ℕ). n + 1) (c.self.invariant.indexed.counted.lasting i.level) in
     let none : ix.number (client_of row) row.node row.owner ≡ None = none_numbered s ix c.self.invariant.indexed (client_of row) row.node row.owner (ap (λ (k : Lists). find (same_opening row) k.opens) c.self.view_is ∙ c.requires.absent) in
     let client : id_of c.key.result ≡ client_of row = c.key.ensures ∙ (λ t. record { level = c.requires.level t; number = row.client }) in
     let node : id_of c.key-2.result ≡ row.node = c.key-2.ensures in
@@ -95,7 +95,7 @@ invariant_of-self-2 c =
       indexed = told_same _ _ _ _ (λ t. record { opens = c.in_default.ensures.added t; lasts = (one.lasts ∙ ap (inserted level_order i) told.lasts) t })
           (record {
             last = λ l. one.last l ∙ ap (λ (n : ℕ). cond (i.level == l) i.number n) (told.last l);
-            opens = λ l. one.opens l ∙ (λ t. cond (i.level == l) (told.opens i.level t + 1) (told.opens l t));
+            opens = λ l. one.count l ∙ (λ t. cond (i.level == l) (told.count i.level t + 1) (told.count l t));
             nodes = λ n j. new.nodes n j ∙ (λ t. same_id (node t) n && same_id i j || holds old.nodes n j);
             clients = λ d j. new.clients d j ∙ (λ t. same_id (client t) d && same_id i j || holds old.clients d j);
             number = λ d n o. new.numbers d n o ∙ (λ t. cond ((same_id (client t) d && same_id (node t) n) && bytes_eq (sym c.requires.owner t) o) (Some i.number) (number_at old.owners d n o));

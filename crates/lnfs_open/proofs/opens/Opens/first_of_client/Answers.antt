@@ -21,11 +21,11 @@ returns-clause-only c =
     let s = lists_in c.self.inside.rows.entries c.self.inside.counters in
     let test : Open → Bool = (is_open_of (id_of c.args.client)) in
     subst (λ (lists : Lists). IfSome c.first.result (λ id. list_all (λ o. not (same_id (id_of id) o.id) || test o) lists.opens ≡ true)) c.self.view_is
-    (some_weaker _ _ c.first.result (λ id held. only s.opens test c.self.invariant.indexed.rise (id_of id) (sym (c.self.invariant.indexed.clients (id_of c.args.client) (id_of id)) ∙ held)) c.first.ensures.some)
+    (some_weaker _ _ c.first.result (λ id held. only s.opens test c.self.invariant.indexed.counted.rise (id_of id) (sym (c.self.invariant.indexed.clients (id_of c.args.client) (id_of id)) ∙ held)) c.first.ensures.some)
 
 pub returns-clause-none : goal.returns-clause-none
 returns-clause-none c =
     let s = lists_in c.self.inside.rows.entries c.self.inside.counters in
     let test : Open → Bool = (is_open_of (id_of c.args.client)) in
     subst (λ (lists : Lists). IfNone c.first.result (list_any test lists.opens ≡ false)) c.self.view_is
-    (none_weaker c.first.result (λ free. none s.opens test c.self.invariant.indexed.rise (λ i. sym (c.self.invariant.indexed.clients (id_of c.args.client) i) ∙ free i)) c.first.ensures.none)
+    (none_weaker c.first.result (λ free. none s.opens test c.self.invariant.indexed.counted.rise (λ i. sym (c.self.invariant.indexed.clients (id_of c.args.client) i) ∙ free i)) c.first.ensures.none)

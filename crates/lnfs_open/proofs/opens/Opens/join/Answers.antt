@@ -17,7 +17,7 @@ returns-in_err-seq-clause-answer c =
     let wish : Wish = record { client = client_id c.args.client; owner = c.args.owner.now; node = node_id c.args.node; access = c.args.access; deny = c.args.deny } in
     let i = id_of c.in_ok-id.id in
     let known : Some i ≡ id_in (own_open s wish) = c.in_ok-id.ensures ∙ sym (ap (λ (lists : Lists). id_in (own_open lists wish)) c.self.view_is) in
-    let own : own_open s wish ≡ open_at s.opens i = own_at s wish i c.self.invariant.indexed.rise known in
+    let own : own_open s wish ≡ open_at s.opens i = own_at s wish i c.self.invariant.indexed.counted.rise known in
     absurd (clash (λ (o : Open). o.id) (λ (o : Open). sequence_after o.sequence) (open_at s.opens i) i (known ∙ ap id_in own) c.in_err-seq.ensures.sequence)
 
 pub returns-in_err-seq-clause-lists : goal.returns-in_err-seq-clause-lists
@@ -26,7 +26,7 @@ returns-in_err-seq-clause-lists c =
     let wish : Wish = record { client = client_id c.args.client; owner = c.args.owner.now; node = node_id c.args.node; access = c.args.access; deny = c.args.deny } in
     let i = id_of c.in_ok-id.id in
     let known : Some i ≡ id_in (own_open s wish) = c.in_ok-id.ensures ∙ sym (ap (λ (lists : Lists). id_in (own_open lists wish)) c.self.view_is) in
-    let own : own_open s wish ≡ open_at s.opens i = own_at s wish i c.self.invariant.indexed.rise known in
+    let own : own_open s wish ≡ open_at s.opens i = own_at s wish i c.self.invariant.indexed.counted.rise known in
     absurd (clash (λ (o : Open). o.id) (λ (o : Open). sequence_after o.sequence) (open_at s.opens i) i (known ∙ ap id_in own) c.in_err-seq.ensures.sequence)
 
 pub invariant_of-self-2 : goal.invariant_of-self-2
@@ -45,7 +45,7 @@ returns-clause-answer c =
     let wish : Wish = record { client = client_id c.args.client; owner = c.args.owner.now; node = node_id c.args.node; access = c.args.access; deny = c.args.deny } in
     let i = id_of c.in_ok-id.id in
     let known : Some i ≡ id_in (own_open s wish) = c.in_ok-id.ensures ∙ sym (ap (λ (lists : Lists). id_in (own_open lists wish)) c.self.view_is) in
-    let own : own_open s wish ≡ open_at s.opens i = own_at s wish i c.self.invariant.indexed.rise known in
+    let own : own_open s wish ≡ open_at s.opens i = own_at s wish i c.self.invariant.indexed.counted.rise known in
     let told : Some c.in_ok-seq.seq ≡ option_map (λ (o : Open). sequence_after o.sequence) (own_open s wish) = c.in_ok-seq.ensures.sequence ∙ ap (option_map (λ (o : Open). sequence_after o.sequence)) (sym own) in
     subst (λ (k : Lists). IsJoined c.args.access c.args.deny (own_open k wish) (Some c.at.result)) c.self.view_is
     (answered c.args.access c.args.deny (own_open s wish) i c.at.result c.in_ok-seq.seq known told c.at.ensures.id c.at.ensures.seq)
@@ -56,6 +56,6 @@ returns-clause-lists c =
     let wish : Wish = record { client = client_id c.args.client; owner = c.args.owner.now; node = node_id c.args.node; access = c.args.access; deny = c.args.deny } in
     let i = id_of c.in_ok-id.id in
     let known : Some i ≡ id_in (own_open s wish) = c.in_ok-id.ensures ∙ sym (ap (λ (lists : Lists). id_in (own_open lists wish)) c.self.view_is) in
-    let own : own_open s wish ≡ open_at s.opens i = own_at s wish i c.self.invariant.indexed.rise known in
+    let own : own_open s wish ≡ open_at s.opens i = own_at s wish i c.self.invariant.indexed.counted.rise known in
     let new = c.join_row.ensures.joined ∙ ap (λ x. rows_set (joined c.args.access c.args.deny) x s.opens) (sym own) in
     subst (λ (k : Lists). lists_in c.join_row.new.rows.entries c.self.inside.counters ≡ record k { opens = rows_set (joined c.args.access c.args.deny) (own_open k wish) k.opens }) c.self.view_is (λ t. record s { opens = new t })

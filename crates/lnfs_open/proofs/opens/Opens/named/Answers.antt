@@ -16,7 +16,7 @@ returns-in_err-row-clause-row c =
     let i = id_of c.args.id in
     ap (option_map (λ row. row_of i row.now)) c.from_residual.ensures
     ∙ ap (chosen client node) c.in_err-row.ensures.row
-    ∙ sym (named s.opens client node i c.self.invariant.indexed.rise)
+    ∙ sym (named s.opens client node i c.self.invariant.indexed.counted.rise)
     ∙ ap (λ (k : Lists). open_named k.opens client node i) c.self.view_is
 
 pub returns-then-not-is_of-clause-row : goal.returns-then-not-is_of-clause-row
@@ -32,7 +32,7 @@ returns-then-not-is_of-clause-row c =
     let is : (same_id client (client_of row) && same_id node row.node) ≡ false = (λ t. same_id client (sym own t) && same_id node row.node) ∙ sym c.is_of.ensures.exact ∙ other in
     ap (λ b. cond b (Some row) None) (sym is)
     ∙ ap (chosen client node) c.in_ok-row.ensures.row
-    ∙ sym (named s.opens client node i c.self.invariant.indexed.rise)
+    ∙ sym (named s.opens client node i c.self.invariant.indexed.counted.rise)
     ∙ ap (λ (k : Lists). open_named k.opens client node i) c.self.view_is
 
 pub returns-clause-row : goal.returns-clause-row
@@ -47,5 +47,5 @@ returns-clause-row c =
     let is : (same_id client (client_of row) && same_id node row.node) ≡ true = (λ t. same_id client (sym own t) && same_id node row.node) ∙ sym c.is_of.ensures.exact ∙ c.if-not-is_of.false in
     ap (λ b. cond b (Some row) None) (sym is)
     ∙ ap (chosen client node) c.in_ok-row.ensures.row
-    ∙ sym (named s.opens client node i c.self.invariant.indexed.rise)
+    ∙ sym (named s.opens client node i c.self.invariant.indexed.counted.rise)
     ∙ ap (λ (k : Lists). open_named k.opens client node i) c.self.view_is

@@ -9,9 +9,9 @@ use Rattle.lnfs_world.specs.Change.{is_session_of, is_open_of}
 use Rattle.lnfs_world.specs.Outcome.{begins_at, done_to}
 use Rattle.lnfs_operations.specs.Identifiers.{client_named}
 use Rattle.lnfs_operations.specs.DestroyClientId.{destroy_clientid}
+use Rattle.lnfs_counts.proofs.Rows.{none_filtered}
 use Rattle.lnfs_session.specs.Listed.{id_of, client_of, session_of, last_of}
 use Rattle.lnfs_session.specs.Standing.{Lists, standing, lists_of}
-use Rattle.lnfs_session.proofs.Mapped.{none_filtered}
 use Rattle.lnfs_session.proofs.Destroying.{freed}
 use Rattle.lnfs_session.proofs.clients.Clients.destroy_clientid.Goals as goal
 

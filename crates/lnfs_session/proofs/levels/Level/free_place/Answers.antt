@@ -2,8 +2,8 @@ use Rattle.std.proofs.Common.{◌≡◌, ℕ, true, Option, Some, None, refl, sy
 use Rattle.std.specs.Prelude.{◌&&◌}
 use Rattle.std.specs.Bool.{nat_eq}
 use Rattle.std.specs.Option.{option_eq}
-use Rattle.lnfs_session.specs.Levels.{no_numbers, numbers_of}
-use Rattle.lnfs_session.proofs.Owned.{numbers_stay}
+use Rattle.lnfs_counts.proofs.Named.{read_alike}
+use Rattle.lnfs_session.specs.Levels.{no_numbers, or_none, numbers_of}
 use Rattle.lnfs_session.proofs.levels.Level.free_place.Goals as goal
 
 empty : (p q : Option ℕ) → (option_eq nat_eq p None && option_eq nat_eq q None) ≡ true → record { pending = p; confirmed = q } ≡ no_numbers
@@ -17,5 +17,5 @@ returns-then-eq c =
     record {
       last = refl;
       records = refl;
-      numbers = numbers_stay c.args.self.now.owners c.remove.new.self c.args.owner.now None c.remove.ensures.updates none;
+      numbers = read_alike c.args.self.now.owners c.remove.new.self c.args.owner.now None c.remove.ensures.updates or_none (sym none);
     }

@@ -4,11 +4,11 @@ use Rattle.std.specs.Option.{IsSome}
 use Rattle.std.specs.Str.{bytes_eq}
 use Rattle.lnfs_world.specs.World as world
 use Rattle.lnfs_world.specs.World.{client_at, same_id}
-use Rattle.lnfs_operations.proofs.Owners.{none_found}
+use Rattle.lnfs_counts.proofs.Rows.{none_gone}
 use Rattle.lnfs_session.specs.Listed.{id_of, client_of}
 use Rattle.lnfs_session.specs.Levels.{last_at, records_at, numbers_at, number_by, cleared, lasts_of}
 use Rattle.lnfs_session.specs.Records.{ClientLists}
-use Rattle.lnfs_session.proofs.Mapped.{none_filtered}
+use Rattle.lnfs_session.specs.Indexed.{own_id}
 use Rattle.lnfs_session.proofs.Reindexed.{same, dropped}
 use Rattle.lnfs_session.proofs.records.Records.remove.Goals as goal
 
@@ -27,7 +27,7 @@ returns-in_default c =
     let rows = map client_of c.self.inside.rows.entries in
     let none : client_at rows i ≡ None = sym c.in_default.ensures in
     let lists : ClientLists = record { clients = rows; lasts = lasts_of c.self.inside.levels.entries } in
-    let all : lists ≡ record lists { clients = filter (λ x. not (same_id i x.id)) rows } = ap (λ (clients : List world.Client). record lists { clients = clients }) (sym (none_filtered (λ x. same_id i x.id) rows (none_found (λ x. same_id i x.id) rows none))) in
+    let all : lists ≡ record lists { clients = filter (λ x. not (same_id i x.id)) rows } = ap (λ (clients : List world.Client). record lists { clients = clients }) (sym (none_gone own_id i rows none)) in
     subst (λ (k : ClientLists). k ≡ record k { clients = filter (λ x. not (same_id i x.id)) k.clients }) c.self.view_is all
 
 pub clear_number-requires : goal.clear_number-requires

@@ -47,7 +47,7 @@ returns-clause-lists c =
     let id : Id = record { level = level; number = c.last_given-number.result + 1 } in
     let row : world.Client = new_client id (record { verifier = c.args.verifier; owner = c.args.owner.now; flags = 0 }) in
     let next : c.last_given-number.result + 1 ≡ last_at old level + 1 = ap (λ (n : ℕ). n + 1) c.last_given-number.ensures in
-    let number : c.last_given-number.result + 1 ≡ last_of level lasts + 1 = next ∙ ap (λ (n : ℕ). n + 1) (sym (c.self.invariant.lasting level)) in
+    let number : c.last_given-number.result + 1 ≡ last_of level lasts + 1 = next ∙ ap (λ (n : ℕ). n + 1) (sym (c.self.invariant.counted.lasting level)) in
     let new = c.enter_number-pending.ensures in
     let gone : option_map id_of c.enter_number-pending.result ≡ ids_at level (numbers_at old level c.args.owner.now).pending = new.gone ∙ ap (λ (n : OwnerNumbers). ids_at level n.pending) (told.numbers level c.args.owner.now) in
     let left : List world.Client = left_by (find (is_pending level c.args.owner.now) rows) rows in

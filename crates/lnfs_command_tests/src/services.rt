@@ -1,0 +1,354 @@
+//! Services of links in memory: the lines of the links, what these took, and the recording.
+ghost use Rattle.std.specs.Prelude.{None, [], refl};
+
+use lnfs_outside::{
+    CalmFiles, CalmSink, Event, Failed, Link, MemLink, MemNet, MemSink, Net, Sink, Source,
+};
+use lnfs_program::start::start;
+use lnfs_traffic::read_traffic;
+use lnfs_trials::flaw::Flaw;
+use lnfs_trials::rows::recording_of;
+use lnfs_trials::runs::{Failing, NONE, Ran, run_over, still, words_of};
+use lnfs_trials::services::{Peer, net_of, peer_of, run_service, sent};
+use lnfs_trials::site::{POLICY, file};
+use std::alloc::{AllocError, Global};
+use std::collections::VecDeque;
+use std::process::Abort;
+use std::sync::atomic::{AtomicU64, Ordering};
+use std::thread;
+
+/// Compares the status and the audit stream with what is due.
+fn tells(rt: &impl Abort, name: &str, ran: &Ran, status: u8, lines: &str) {
+    assert_eq!(rt; ran.0, status, "status of {name}");
+    assert!(rt; ran.2.bytes() == lines.as_bytes(), "audit of {name}");
+}
+
+/// Compares what a link took with the frames of replies.
+fn took(
+    rt: &impl Abort,
+    alloc: Global,
+    net: &MemNet,
+    link: usize,
+    replies: &str,
+) -> Result<(), Flaw> {
+    let frames = sent(alloc, replies)?;
+    let back = net.back();
+    assert!(rt; link < back.len(), "link {link} is back");
+    assert!(rt; back[link].bytes() == frames.as_slice(), "link {link} took");
+    Ok(())
+}
+
+#[test]
+fn one_link(rt: HostRuntime) -> Result<(), Flaw> {
+    let requests = "1 0 2 100003 4 0 SYS / 1 0 2 100003 3 1 SYS / CALL SYS EXCHANGE 'c1' REST";
+    let replies = "ACCEPTED 0 / ACCEPTED 2 4 4 / EXCHANGED 0 1 SERVER";
+    let alloc = rt.alloc();
+    let mut net = net_of(alloc, &[peer_of(0, requests)], &[])?;
+    let ran = run_service(&rt, alloc, "serve p 0 1", &mut net, NONE)?;
+    tells(&rt, "one link", &ran, 0, "2 0 0 P 2\nlink 0 Closed 3\n");
+    took(&rt, alloc, &net, 0, replies)?;
+    let recording = recording_of(alloc, requests)?.expect(&rt, requests);
+    assert!(rt; ran.1.bytes() == recording.as_slice(), "the recording");
+    Ok(())
+}
+
+/// Three links, of which the second sends nothing, and the third is of two levels.
+fn clients() -> [Peer<'static>; 3] {
+    let one = "CALL SYS EXCHANGE 'c1' REST";
+    let two = "CALL SYS_100 EXCHANGE 'c1' REST / CALL SYS_300 EXCHANGE 'c1' REST";
+    [peer_of(0, one), peer_of(1, ""), peer_of(1, two)]
+}
+
+/// The replies to events by links, in the order of the events. Each has 112 bytes, and of the events
+/// of a link the replies are those that it took.
+fn in_order(
+    rt: &impl Abort,
+    alloc: Global,
+    net: &MemNet,
+    events: &[Event],
+) -> Result<Vec<u8>, AllocError> {
+    let mut all = Vec::new(alloc);
+    let mut seen = [0usize; 3];
+    for event in events {
+        let link = event.link as usize;
+        let back = net.back();
+        assert!(rt; link < back.len() && link < seen.len(), "a link");
+        let start = seen[link];
+        let end = start.saturating_add(112);
+        all.extend_from_slice(back[link].bytes().get(start..end).expect(rt, "a frame"))?;
+        seen[link] = end;
+    }
+    Ok(all)
+}
+
+#[test]
+fn three_links_over_two_workers(rt: HostRuntime) -> Result<(), Flaw> {
+    let alloc = rt.alloc();
+    let mut net = net_of(alloc, &clients(), &[])?;
+    let ran = run_service(&rt, alloc, "serve p 0,1,1 2", &mut net, NONE)?;
+    let lines = "link 0 Closed 1\nlink 1 Closed 0\nlink 2 Closed 2\n";
+    tells(&rt, "three links", &ran, 0, lines);
+    took(&rt, alloc, &net, 0, "EXCHANGED 0 1 SERVER")?;
+    took(&rt, alloc, &net, 1, "")?;
+    took(
+        &rt,
+        alloc,
+        &net,
+        2,
+        "EXCHANGED 1 1 SERVER / EXCHANGED 3 1 SERVER",
+    )?;
+    let Ok(events) = read_traffic(alloc, ran.1.bytes()) else {
+        assert!(rt; false, "a recording");
+        return Ok(());
+    };
+    assert_eq!(rt; events.len(), 3, "events");
+    let again = run_over(&rt, alloc, ran.1.bytes())?;
+    tells(&rt, "the replay", &again, 0, "");
+    let frames = in_order(&rt, alloc, &net, &events)?;
+    assert!(rt; again.1.bytes() == frames.as_slice(), "the replies");
+    Ok(())
+}
+
+/// 64 links are served, where the net has them, and not 65.
+#[test]
+fn many_links(rt: HostRuntime) -> Result<(), Flaw> {
+    let alloc = rt.alloc();
+    for (count, status) in [(63usize, 8u8), (64, 2)] {
+        let classes = "0,".repeat(alloc, count)?;
+        let line = format!(in alloc; "serve p {classes}0 1")?;
+        let mut net = net_of(alloc, &[peer_of(0, "")], &[])?;
+        let ran = run_service(&rt, alloc, &line, &mut net, NONE)?;
+        assert_eq!(rt; ran.0, status, "status of {line}");
+        assert!(rt; ran.1.bytes().is_empty(), "out of {line}");
+    }
+    Ok(())
+}
+
+/// The second link doesn't come, and the first is handed back as it was.
+#[test]
+fn a_link_that_does_not_come(rt: HostRuntime) -> Result<(), Flaw> {
+    let alloc = rt.alloc();
+    let mut net = net_of(alloc, &clients(), &[2])?;
+    let ran = run_service(&rt, alloc, "serve p 0,1,1 2", &mut net, NONE)?;
+    tells(&rt, "a refusal", &ran, 8, "");
+    assert!(rt; ran.1.bytes().is_empty(), "out");
+    assert_eq!(rt; net.back().len(), 1, "links that are back");
+    took(&rt, alloc, &net, 0, "")
+}
+
+/// Links that end otherwise than at the end of their input, outside a record.
+#[test]
+fn faults_of_links(rt: HostRuntime) -> Result<(), Flaw> {
+    let alloc = rt.alloc();
+    let request = "CALL SYS EXCHANGE 'c1' REST";
+    let peers = [
+        Peer {
+            class: 0,
+            requests: request,
+            reads: &[1],
+            writes: &[],
+        },
+        peer_of(0, request),
+        Peer {
+            class: 0,
+            requests: request,
+            reads: &[],
+            writes: &[1],
+        },
+    ];
+    let mut net = net_of(alloc, &peers, &[])?;
+    let ran = run_service(&rt, alloc, "serve p 0,0,0 1", &mut net, NONE)?;
+    let lines = "link 0 ReadFault 0\nlink 1 Closed 1\nlink 2 WriteFault 1\n";
+    tells(&rt, "faults", &ran, 0, lines);
+    took(&rt, alloc, &net, 0, "")?;
+    took(&rt, alloc, &net, 1, "EXCHANGED 0 1 SERVER")?;
+    took(&rt, alloc, &net, 2, "")
+}
+
+/// A link that can't be read ends alone.
+#[test]
+fn a_first_read_that_fails(rt: HostRuntime) -> Result<(), Flaw> {
+    let alloc = rt.alloc();
+    let request = "CALL SYS EXCHANGE 'c1' REST";
+    let fails = Peer {
+        class: 0,
+        requests: request,
+        reads: &[1],
+        writes: &[],
+    };
+    let peers = [peer_of(0, request), fails, peer_of(0, request)];
+    let mut net = net_of(alloc, &peers, &[])?;
+    let ran = run_service(&rt, alloc, "serve p 0,0,0 3", &mut net, NONE)?;
+    let lines = "link 0 Closed 1\nlink 1 ReadFault 0\nlink 2 Closed 1\n";
+    tells(&rt, "a fault", &ran, 0, lines);
+    took(&rt, alloc, &net, 1, "")
+}
+
+/// A stream that fails doesn't keep the links.
+#[test]
+fn faults_of_streams(rt: HostRuntime) -> Result<(), Flaw> {
+    let alloc = rt.alloc();
+    let out = Failing { outs: &[1], ..NONE };
+    let audit = Failing {
+        audits: &[1],
+        ..NONE
+    };
+    for failing in [out, audit] {
+        let mut net = net_of(alloc, &clients(), &[])?;
+        let ran = run_service(&rt, alloc, "serve p 0,1,1 2", &mut net, failing)?;
+        tells(&rt, "a fault", &ran, 6, "");
+        assert_eq!(rt; net.back().len(), 3, "links that are back");
+        took(&rt, alloc, &net, 0, "EXCHANGED 0 1 SERVER")?;
+    }
+    Ok(())
+}
+
+/// How often a read looks for the other one.
+const TURNS: u64 = 100_000_000;
+
+/// A link whose first read waits for that of another link.
+#[derive(Drop)]
+struct Meeting<'a> {
+    link: MemLink,
+    mine: &'a AtomicU64,
+    other: &'a AtomicU64,
+    met: bool,
+    read_faults: u64,
+    write_faults: u64,
+}
+
+/// Raises a flag, and says whether the other one rises within so many turns.
+fn meet(mine: &AtomicU64, other: &AtomicU64) -> bool {
+    mine.store(1, Ordering::SeqCst);
+    for turn in 0..TURNS {
+        if other.load(Ordering::SeqCst) != 0 {
+            return true;
+        }
+        if turn % 1_000 == 0 {
+            thread::yield_now();
+        }
+    }
+    false
+}
+
+impl Source for Meeting<'_> {
+    ghost left = { λ s. None };
+
+    ghost read_faults = { λ s. s.read_faults };
+
+    ghost beside_source = { λ s. (None, s.write_faults) };
+
+    fn read(&mut self, buf: &mut [u8]) -> Result<usize, Failed> {
+        if !self.met {
+            self.met = meet(self.mine, self.other);
+        }
+        if self.met
+            && let Ok(count) = self.link.read(buf)
+        {
+            return Ok(count);
+        }
+        self.read_faults = self.read_faults.saturating_add(1);
+        Err(Failed)
+    }
+}
+
+impl Sink for Meeting<'_> {
+    ghost taken = { λ s. None };
+
+    ghost write_faults = { λ s. s.write_faults };
+
+    ghost beside_sink = { λ s. (None, s.read_faults) };
+
+    ghost waiting = { λ s. [] };
+
+    fn write(&mut self, bytes: &[u8]) -> Result<usize, Failed> {
+        if let Ok(count) = self.link.write(bytes) {
+            return Ok(count);
+        }
+        self.write_faults = self.write_faults.saturating_add(1);
+        Err(Failed)
+    }
+
+    fn flush(&mut self) -> Result<(), Failed> {
+        Ok(())
+    }
+}
+
+impl Link for Meeting<'_> {
+    ghost besides = { λ s. (refl, refl) };
+}
+
+/// Gives two links whose first reads wait for each other.
+#[derive(Drop)]
+struct Hall<'a> {
+    inputs: VecDeque<(MemLink, &'a AtomicU64, &'a AtomicU64)>,
+    faults: u64,
+}
+
+impl<'a> Net for Hall<'a> {
+    type L = Meeting<'a>;
+
+    ghost dealt = { λ s. None };
+
+    ghost backs = { λ s. None };
+
+    ghost faults = { λ s. s.faults };
+
+    ghost lent = { λ s. tt };
+
+    fn listen(&mut self, _class: u32) -> Result<(), Failed> {
+        Ok(())
+    }
+
+    fn accept(&mut self, _class: u32) -> Result<Meeting<'a>, Failed> {
+        let Some((link, mine, other)) = self.inputs.pop_front() else {
+            self.faults = self.faults.saturating_add(1);
+            return Err(Failed);
+        };
+        Ok(Meeting {
+            link,
+            mine,
+            other,
+            met: false,
+            read_faults: 0,
+            write_faults: 0,
+        })
+    }
+
+    fn dial(&mut self, class: u32) -> Result<Meeting<'a>, Failed> {
+        self.accept(class)
+    }
+
+    fn hang_up(&mut self, link: Meeting<'a>) {
+        if link.read_faults != 0 || link.write_faults != 0 {
+            self.faults = self.faults.saturating_add(1);
+        }
+    }
+}
+
+/// Two links over two workers are read side by side: the first read of each waits for that of the other.
+#[test]
+fn links_meet(rt: HostRuntime) -> Result<(), Flaw> {
+    let alloc = rt.alloc();
+    let (one, two) = (AtomicU64::new(0), AtomicU64::new(0));
+    let input = sent(alloc, "1 0 2 100003 4 0 0 0 0 0")?;
+    let mut inputs = VecDeque::new(alloc);
+    for (mine, other) in [(&one, &two), (&two, &one)] {
+        inputs.push_back((MemLink::new(alloc, &input, &[], &[])?, mine, other))?;
+    }
+    let mut hall = Hall { inputs, faults: 0 };
+    let words = words_of(alloc, "serve p 0,1 2")?;
+    let mut files = CalmFiles::new(vec![in alloc; file(alloc, "p", POLICY.as_bytes())?]?);
+    let mut out = CalmSink::new();
+    let mut audit = MemSink::new(alloc, &[])?;
+    let clock = still(alloc)?;
+    let status = start(
+        &rt, alloc, &words, &mut files, &mut out, &mut audit, &mut hall, &clock,
+    )?;
+    assert!(rt;
+        audit.bytes() == b"link 0 Closed 1\nlink 1 Closed 1\n".as_slice(),
+        "both were read"
+    );
+    assert_eq!(rt; status.number(), 0, "status");
+    Ok(())
+}

@@ -1,0 +1,152 @@
+-- Links that came, and a service of them.
+use Rattle.std.proofs.Common.{◌≡◌, ◌<◌, ◌≤◌, ℕ, zero, suc, ◌+◌, take, get_or, List, [], ◌∷◌, ◌++◌, length, map, All, refl, sym, ap, ◌∙◌, subst, arith, append-nil}
+use Rattle.std.proofs.lemmas.List.{length-map, map-append, take_more}
+use Rattle.std.proofs.lemmas.List.Elements.{All-push}
+use Rattle.std.specs.Prelude.{Result, Err, OnOk, IfErr}
+use Rattle.std.specs.declared.option.Option.{Option}
+use Rattle.std.specs.declared.option.Option.TheVariants.{Some, None}
+use Rattle.lnfs_outside.specs.Nets.{Deal, Back, Grows}
+use Rattle.lnfs_outside.specs.declared.event.Event.{Event}
+use Rattle.lnfs_outside.specs.declared.event.Moment.{Moment}
+use Rattle.lnfs_policy.specs.Policy.{Policy}
+use Rattle.lnfs_gss3.specs.Mechanism.{Signing}
+use Rattle.lnfs_operations.specs.Extra.{no_extra}
+use Rattle.lnfs_history.specs.Entries.{of}
+use Rattle.lnfs_workers.specs.Links.{IsServed}
+use Rattle.lnfs_workers.specs.Pairs.{EachAt}
+use Rattle.lnfs_workers.specs.Transcripts.{entries_of}
+use Rattle.lnfs_workers.specs.declared.line.LinkEnd.{LinkEnd}
+use Rattle.lnfs_program.specs.declared.status.Status.{Status}
+use Rattle.lnfs_program.specs.declared.status.Stop.{Stop}
+use Rattle.lnfs_program.specs.declared.status.Stop.TheVariants.{ReadFault, WriteFault, Memory, NetFault}
+use Rattle.lnfs_program.specs.Due.{served}
+use Rattle.lnfs_program.specs.Handed.{Dealings, dealings, Adds, Deals}
+use Rattle.lnfs_program.specs.Links.{AreUnserved, Came, IsCut, IsNew, deal_of, told_end}
+use Rattle.lnfs_program.specs.Runs.{IsExcused, OneRose, WritesOnly, Plays, Serves}
+use Rattle.lnfs_step.specs.Journal.{reply_with, answer}
+use Rattle.lnfs_program.specs.Session.{Session, FoundMemory, IsSession}
+use Rattle.lnfs_program.specs.Streams.{Streams, Counts}
+use Rattle.lnfs_program.proofs.Dealing.{adds_none, adds_more, says, untouched}
+use Rattle.lnfs_program.proofs.Handing.{none_short, unserved_is, served_is}
+use Rattle.lnfs_program.proofs.Judging.{gave_up}
+use Rattle.lnfs_program.proofs.Writing.{on_ok}
+use Rattle.lnfs_program.proofs.Sessions.{New, classes_dealt, began_all, is_session, told_found}
+
+-- ---- a service that doesn't begin
+
+pub cut_at : (xs : List ℕ) (n : ℕ) → n < length xs → IsCut xs (take n xs)
+cut_at [] n less = absurd (omega (arith, less))
+cut_at (x ∷ xs) zero less = (x, xs, refl)
+cut_at (x ∷ xs) (suc n) less = let cut = cut_at xs n (omega (arith, less)) in (cut.0, cut.1, ap (λ (l : List ℕ). x ∷ l) cut.2)
+
+-- what is said of a call by the stop that it gave up with
+pub on_stop : {T : Type 0} (result : Result T Stop) (P : Stop → Type 0) (stop : Stop) → result ≡ Err stop → P stop → IfErr result P
+on_stop result P stop is p = rw is p
+
+module _ (classes : List ℕ) (dealt : Option (List Deal)) (backs : Option (List Back)) where
+  pub none_for_memory : (stop : Stop) → stop ≡ Memory → Deals (dealings dealt dealt backs backs) (AreUnserved stop classes)
+  none_for_memory stop is = rw is (untouched dealt backs (none_short classes))
+
+  pub none_for_net : (net : Type 0) (stop : Stop) → IsExcused stop ⊥ ⊥ net → 0 < length classes → Deals (dealings dealt dealt backs backs) (AreUnserved stop classes)
+  none_for_net net ReadFault e some = absurd e
+  none_for_net net WriteFault e some = absurd e
+  none_for_net net Memory e some = untouched dealt backs (none_short classes)
+  none_for_net net NetFault e some = let cut : IsCut classes [] = cut_at classes 0 some in untouched dealt backs (record { class = cut.0; others = cut.1; dealt = cut.2; handed = refl })
+
+-- one more link, of the next class
+module _ {L : Type 0} (classes : List ℕ) (n : ℕ) (less : n < length classes) (links : List (ℕ × L)) (link : L) {now : List (ℕ × L)} (is : now ≡ links ++ (get_or classes n 0, link) ∷ []) where
+  pub all_more : map (λ link. link.0) links ≡ take n classes → map (λ link. link.0) now ≡ take (n + 1) classes
+  all_more all =
+      ap (map (λ (x : ℕ × L). x.0)) is
+      ∙ map-append (λ (x : ℕ × L). x.0) links ((get_or classes n 0, link) ∷ [])
+      ∙ ap (λ (front : List ℕ). front ++ get_or classes n 0 ∷ []) all
+      ∙ sym (take_more classes n 0 less)
+
+  module _ (tell : L → Back) where
+    pub new_more : New tell links → IsNew (tell link) → New tell now
+    new_more all new = subst (λ (xs : List (ℕ × L)). New tell xs) (sym is) (All-push (λ (x : ℕ × L). IsNew (tell x.1)) links (get_or classes n 0, link) all new)
+
+    pub dealt_more : (a b c : Option (List Deal)) → Adds a b (map (deal_of tell) links) → Grows b c (deal_of tell (get_or classes n 0, link)) → Adds a c (map (deal_of tell) now)
+    dealt_more a b c all grows =
+        subst (λ (deals : List Deal). Adds a c deals) (sym (ap (map (deal_of tell)) is ∙ map-append (deal_of tell) links ((get_or classes n 0, link) ∷ [])))
+        (adds_more a b c (map (deal_of tell) links) (deal_of tell (get_or classes n 0, link)) all grows)
+
+module _ {L : Type 0} (tell : L → Back) (classes : List ℕ) (links : List (ℕ × L)) {dealt dealt' : Option (List Deal)} {backs backs' : Option (List Back)} where
+  pub some_for_net : (net : Type 0) (stop : Stop) → IsExcused stop ⊥ ⊥ net → IsCut classes (map (λ link. link.0) links) → New tell links
+      → Adds dealt dealt' (map (deal_of tell) links) → Adds backs backs' (map (λ link. tell link.1) links) → Deals (dealings dealt dealt' backs backs') (AreUnserved stop classes)
+  some_for_net net ReadFault e cut new d b = absurd e
+  some_for_net net WriteFault e cut new d b = absurd e
+  some_for_net net Memory e cut new d b = record {
+    deals = map (deal_of tell) links;
+    backs = map (λ link. tell link.1) links;
+    dealt = d;
+    handed = b;
+    say = record {
+      others = cut.0 ∷ cut.1;
+      dealt = cut.2 ∙ ap (λ (front : List ℕ). front ++ cut.0 ∷ cut.1) (sym (classes_dealt tell links));
+      few = omega (arith, length-map links (deal_of tell), length-map links (λ (link : ℕ × L). tell link.1));
+    };
+  }
+  some_for_net net NetFault e cut new d b = record {
+    deals = map (deal_of tell) links;
+    backs = map (λ link. tell link.1) links;
+    dealt = d;
+    handed = b;
+    say = record {
+      class = cut.0;
+      others = cut.1;
+      dealt = cut.2 ∙ ap (λ (front : List ℕ). front ++ cut.0 ∷ cut.1) (sym (classes_dealt tell links));
+      handed = began_all tell links new;
+    };
+  }
+
+  -- there was no memory to serve them
+  pub links_lost : Came tell classes links (dealings dealt dealt' backs backs') → Deals (dealings dealt dealt' backs backs') (AreUnserved Memory classes)
+  links_lost came = record {
+    deals = map (deal_of tell) links;
+    backs = [];
+    dealt = came.dealt;
+    handed = rw came.kept (adds_none backs);
+    say = record {
+      others = [];
+      dealt = sym came.all ∙ sym (classes_dealt tell links) ∙ sym (append-nil (map (λ deal. deal.class) (map (deal_of tell) links)));
+      few = omega arith;
+    };
+  }
+
+module _ (may : Moment → Type 0) (m : Signing) (policy : Policy) (classes : List ℕ) where
+  pub serves_stopped : {result : Result Status Stop} {s : Streams} {net : Dealings} (stop : Stop) → result ≡ Err stop → Deals net (AreUnserved stop classes) → Serves may m policy classes result s s net
+  serves_stopped {result} {s} {net} stop is deals =
+      let stopped : Serves may m policy classes (Err stop) s s net = record {
+        session = None;
+        plays = gave_up (served m policy None) tt;
+        links = says (unserved_is (IsSession may m policy) stop classes) deals;
+      } in
+      subst (λ (r : Result Status Stop). Serves may m policy classes r s s net) (sym is) stopped
+
+  -- ---- a service, and what is told of it
+  module _ {L : Type 0} (tell : L → Back) (links : List (ℕ × L)) (ends : List (LinkEnd L)) (journal : List Event) {dealt dealt' dealt'' : Option (List Deal)} {backs backs' backs'' : Option (List Back)} (came : Came tell classes links (dealings dealt dealt' backs backs')) where
+    pub serves_told : {result : Result Status Stop} {s t : Streams} {before after : Counts}
+        → ((before : List Event) (event : Event) → reply_with no_extra m policy before event ≡ answer m policy before event)
+        → EachAt (λ n link end. IsServed tell may link.0 link.1 end (of n (entries_of no_extra m policy journal))) 0 links ends
+        → ((link : ℕ) → length links ≤ link → of link (entries_of no_extra m policy journal) ≡ [])
+        → Plays (served m policy (Some (record { journal = journal; ends = map (told_end tell) ends }))) result s t
+        → OnOk result (All FoundMemory ends) → dealt'' ≡ dealt' → Adds backs' backs'' (map (λ end. tell end.link) ends) → WritesOnly result before after
+        → Serves may m policy classes result s t (dealings dealt dealt'' backs backs'')
+    serves_told {result} {s} {t} {before} {after} purged each others plays found same handed w =
+        let session : Session = record { journal = journal; ends = map (told_end tell) ends } in
+        let deals : List Deal = map (deal_of tell) links in
+        let given : List Back = map (λ end. tell end.link) ends in
+        let is : IsSession may m policy session classes deals given = is_session tell may m policy journal classes links ends purged came.all came.new each others in
+        let all : OnOk result (All FoundMemory session.ends) = on_ok result (told_found tell ends) found in
+        record {
+          session = Some session;
+          plays = plays;
+          links = record {
+            deals = deals;
+            backs = given;
+            dealt = rw same came.dealt;
+            handed = subst (λ (b : Option (List Back)). Adds b backs'' given) came.kept handed;
+            say = served_is (IsSession may m policy) session classes deals given result (OneRose before after) is all plays.ending w.excused;
+          };
+        }

@@ -1,0 +1,69 @@
+-- The links that a run was dealt, and those that it handed back.
+use Rattle.std.specs.Prelude.{◌≡◌, ℕ, List, ◌++◌, Ok, All}
+use Rattle.std.specs.declared.option.Option.{Option}
+use Rattle.std.specs.declared.option.Option.TheVariants.{Some, None}
+use Rattle.lnfs_outside.specs.Nets.{Deal, Back}
+use Rattle.lnfs_outside.specs.declared.event.Moment.{Moment}
+use Rattle.lnfs_policy.specs.Policy.{Policy}
+use Rattle.lnfs_policy.specs.PolicyText.{policy_of}
+use Rattle.lnfs_policy.specs.declared.mode.Mode.TheVariants.{Enforcing}
+use Rattle.lnfs_gss3.specs.Mechanism.{keyed_digest}
+use Rattle.lnfs_program.specs.declared.status.Status.{Status}
+use Rattle.lnfs_program.specs.declared.status.Status.TheVariants as status
+use Rattle.lnfs_program.specs.Session.{Session, FoundMemory, IsSession, IsRefused, IsShort, Nothing}
+use Rattle.lnfs_program.specs.Words.{Task, serve, Form, under}
+
+-- the links that a net gave and those that were handed back to it, before and after, where they are told
+pub record Dealings : Type 0 where
+  pub dealt : Option (List Deal)
+  pub dealt_after : Option (List Deal)
+  pub backs : Option (List Back)
+  pub backs_after : Option (List Back)
+
+abbrev pub dealings : (dealt dealt' : Option (List Deal)) → (backs backs' : Option (List Back)) → Dealings
+dealings dealt dealt' backs backs' = record { dealt = dealt; dealt_after = dealt'; backs = backs; backs_after = backs' }
+
+-- a list grows by some; one that isn't told stays so
+abbrev pub Adds : {X : Type 0} → Option (List X) → Option (List X) → List X → Type 0
+Adds None new xs = new ≡ None
+Adds (Some olds) new xs = new ≡ Some (olds ++ xs)
+
+-- what is said of the links that a call was dealt, and of those that it handed back
+pub record Deals (d : Dealings) (Say : List Deal → List Back → Type 0) : Type 0 where
+  pub deals : List Deal
+  pub backs : List Back
+  pub dealt : Adds d.dealt d.dealt_after deals
+  pub handed : Adds d.backs d.backs_after backs
+  pub say : Say deals backs
+
+-- a service under a policy whose labels the server enforces
+pub record IsUnder (may : Moment → Type 0) (policy : Policy) (session : Session) (classes : List ℕ) (deals : List Deal) (backs : List Back) : Type 0 where
+  pub enforces : policy.mode ≡ Enforcing
+  pub is_session : IsSession may keyed_digest policy session classes deals backs
+
+-- the same under the policy that a text spells
+pub record IsService (may : Moment → Type 0) (policy : Option (List ℕ)) (session : Session) (classes : List ℕ) (deals : List Deal) (backs : List Back) : Type 0 where
+  pub text : List ℕ
+  pub rules : Policy
+  pub is_text : policy ≡ Some text
+  pub is_rules : policy_of text ≡ Ok rules
+  pub is_under : IsUnder may rules session classes deals backs
+
+-- the links that were to be served, by what the service came to, if it began, and the status
+abbrev pub AreServed : (Is : Session → List ℕ → List Deal → List Back → Type 0) → Option Session → Status → (classes : List ℕ) → List Deal → List Back → Type 0
+AreServed Is (Some session) status.Ok classes deals backs = Is session classes deals backs × All FoundMemory session.ends
+AreServed Is (Some session) status.WriteFault classes deals backs = Is session classes deals backs
+AreServed Is (Some session) status.Memory classes deals backs = Is session classes deals backs
+AreServed Is (Some session) ending classes deals backs = ⊥
+AreServed Is None status.NetFault classes deals backs = IsRefused classes deals backs
+AreServed Is None status.Memory classes deals backs = IsShort classes deals backs
+AreServed Is None ending classes deals backs = Nothing deals backs
+
+-- the links of a task, which deals with links only where it is a service; and those of a form
+abbrev pub HandedBy : (Is : Session → List ℕ → List Deal → List Back → Type 0) → Option Session → Status → Task → List Deal → List Back → Type 0
+HandedBy Is session ending (serve classes workers) deals backs = AreServed Is session ending classes deals backs
+HandedBy Is session ending task deals backs = Nothing deals backs
+
+abbrev pub Handed : (Is : Session → List ℕ → List Deal → List Back → Type 0) → Option Session → Status → Option Form → List Deal → List Back → Type 0
+Handed Is session ending (Some (under policy task)) deals backs = HandedBy Is session ending task deals backs
+Handed Is session ending form deals backs = Nothing deals backs
