@@ -5,15 +5,19 @@
 //! theirs, which it keeps in the slot for when the request comes again; to any other COMPOUND the refusal of its first
 //! operation. Behind a SEQUENCE it knows RECLAIM_COMPLETE, PUTROOTFH, LOOKUP, GETATTR and READDIR, of the attributes type,
 //! fileid and sec_label, and of the policy the first directories in the root with labels as CALIPSO bodies; and of
-//! directories and files that are named by PUTFH, CREATE, OPEN and LOOKUP of what was made there, READ and WRITE. It answers
-//! nothing else, checks no more than it must to find its way, and proves nothing.
+//! directories and files that are named by PUTFH, CREATE, OPEN and LOOKUP of what was made there, GETFH, READ and WRITE. It answers
+//! nothing else, checks no more than it must to find its way, and proves nothing. bench/plain_serve.rs serves links by it.
 
 use std::collections::BTreeMap;
 use std::io::{BufWriter, Read, Write};
 
-struct Event {
-    class: u32,
-    message: Vec<u8>,
+/// A record with what the journal keeps beside it: its class, its link, and the moment in seconds and nanoseconds.
+pub struct Event {
+    pub class: u32,
+    pub link: u32,
+    pub secs: u64,
+    pub nanos: u32,
+    pub message: Vec<u8>,
 }
 
 struct Client {
@@ -42,6 +46,10 @@ impl<'a> Reader<'a> {
 
     fn word(&mut self) -> Option<u32> {
         Some(u32::from_be_bytes(self.take(4)?.try_into().ok()?))
+    }
+
+    fn long(&mut self) -> Option<u64> {
+        Some(u64::from_be_bytes(self.take(8)?.try_into().ok()?))
     }
 
     fn opaque(&mut self) -> Option<&'a [u8]> {
@@ -163,7 +171,7 @@ fn opaque_to(out: &mut Vec<u8>, bytes: &[u8]) {
 }
 
 #[derive(Default)]
-struct Server {
+pub struct Server {
     guests: Vec<(u32, Option<u32>, u32)>,
     clients: BTreeMap<(u32, Vec<u8>), Client>,
     last: BTreeMap<u32, u32>,
@@ -176,12 +184,21 @@ struct Server {
     files: BTreeMap<Handle, Vec<u8>>,
     last_open: BTreeMap<u32, u64>,
     last_node: BTreeMap<u32, u32>,
-    journal: Vec<Event>,
+    pub journal: Vec<Event>,
 }
 
 impl Server {
+    /// The server of a policy before all events.
+    pub fn new(policy: &str) -> Server {
+        let dirs = dirs(policy);
+        let mut names: Vec<(u32, Vec<u8>)> = dirs.iter().map(|(name, dir)| (dir.number, name.clone())).collect();
+        names.sort();
+        let cookies = names.into_iter().skip(1).enumerate().map(|(at, (_, name))| (at as u64 + 3, name)).collect();
+        Server { guests: guests(policy), dirs, cookies, ..Server::default() }
+    }
+
     /// The reply to a record, with its fragment head.
-    fn reply(&mut self, class: u32, message: &[u8], out: &mut Vec<u8>) -> Option<()> {
+    pub fn reply(&mut self, class: u32, message: &[u8], out: &mut Vec<u8>) -> Option<()> {
         let mut call = Reader(message);
         let xid = call.word()?;
         call.take(16)?;
@@ -289,6 +306,7 @@ impl Server {
                 }
                 24 => (current, at_handle) = (self.dirs.get([].as_slice()), None),
                 22 => at_handle = Some(call.opaque()?.try_into().ok()?),
+                10 => opaque_to(out, &at_handle?),
                 15 => match at_handle {
                     Some(at) => at_handle = Some(*self.made.get(&at)?.names.get(call.opaque()?)?),
                     None => current = Some(self.dirs.get(call.opaque()?)?),
@@ -328,7 +346,7 @@ impl Server {
                 }
                 25 => {
                     call.take(16)?;
-                    let offset = u64::from_be_bytes(call.take(8)?.try_into().ok()?) as usize;
+                    let offset = call.long()? as usize;
                     let count = (call.word()? as usize).min(32768);
                     let file = self.files.get(&at_handle?)?;
                     let from = offset.min(file.len());
@@ -338,7 +356,7 @@ impl Server {
                 }
                 38 => {
                     call.take(16)?;
-                    let offset = u64::from_be_bytes(call.take(8)?.try_into().ok()?) as usize;
+                    let offset = call.long()? as usize;
                     call.word()?;
                     let content = call.opaque()?;
                     let file = self.files.get_mut(&at_handle?)?;
@@ -356,7 +374,7 @@ impl Server {
                     attrs_to(out, &asked, current?);
                 }
                 26 => {
-                    let cookie = u64::from_be_bytes(call.take(8)?.try_into().ok()?);
+                    let cookie = call.long()?;
                     call.take(12)?;
                     let size = call.word()? as usize;
                     let asked: Vec<u32> = (0..call.word()?).map_while(|_| call.word()).collect();
@@ -398,12 +416,7 @@ impl Server {
 
 fn main() -> std::io::Result<()> {
     let args: Vec<String> = std::env::args().collect();
-    let policy = std::fs::read_to_string(&args[1])?;
-    let dirs = dirs(&policy);
-    let mut names: Vec<(u32, Vec<u8>)> = dirs.iter().map(|(name, dir)| (dir.number, name.clone())).collect();
-    names.sort();
-    let cookies = names.into_iter().skip(1).enumerate().map(|(at, (_, name))| (at as u64 + 3, name)).collect();
-    let mut server = Server { guests: guests(&policy), dirs, cookies, ..Server::default() };
+    let mut server = Server::new(&std::fs::read_to_string(&args[1])?);
     let mut recording = Vec::new();
     std::fs::File::open(&args[2])?.read_to_end(&mut recording)?;
     let mut events = Reader(&recording);
@@ -411,15 +424,16 @@ fn main() -> std::io::Result<()> {
     let mut frame = Vec::new();
     events.take(8);
     while let Some(class) = events.word() {
-        events.take(16);
+        let link = events.word().unwrap();
+        let (secs, nanos) = (events.long().unwrap(), events.word().unwrap());
         let length = events.word().unwrap() as usize;
         let message = events.take(length).unwrap().to_vec();
         if server.reply(class, &message, &mut frame).is_some() {
             out.write_all(&frame)?;
         }
-        server.journal.push(Event { class, message });
+        server.journal.push(Event { class, link, secs, nanos, message });
     }
-    let sum: u64 = server.journal.iter().map(|it| u64::from(it.class) + it.message.len() as u64).sum();
+    let sum: u64 = server.journal.iter().map(|it| u64::from(it.class ^ it.link ^ it.nanos) + it.secs + it.message.len() as u64).sum();
     out.flush()?;
     eprintln!("{} events, {sum}", server.journal.len());
     Ok(())
