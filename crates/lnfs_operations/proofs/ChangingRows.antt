@@ -41,7 +41,7 @@ use Rattle.lnfs_operations.specs.Close.{close}
 use Rattle.lnfs_operations.specs.Write.{Arguments as WriteArguments, write}
 use Rattle.lnfs_operations.specs.Sequence.{Sent}
 use Rattle.lnfs_operations.specs.Served.{row}
-use Rattle.lnfs_operations.specs.Sizes.{SessionFits, ClientFits, NodeFits, Sizes, SpellsShortly}
+use Rattle.lnfs_operations.specs.Sizes.{NodeFits, SpellsShortly}
 use Rattle.lnfs_operations.proofs.ChangedNames.{applied_joined, Beside}
 use Rattle.lnfs_operations.proofs.GivenLaws.{IsGiven}
 use Rattle.lnfs_operations.proofs.CreateLaws.{create_any}
@@ -318,12 +318,3 @@ module _ (site : Site) (p : Place) (w : World) where
 
   pub changes_stay : {A : Type 0} (o : Outcome A) → Changes site p w o → ((done_to w o).sessions ≡ w.sessions) × (o.place.session ≡ p.session)
   changes_stay o changes = (changes.changed.beside.sessions, changes.session)
-
-  pub changes_sizes : {A : Type 0} (o : Outcome A) → Changes site p w o → SpellsShortly site → Sizes w → Sizes (done_to w o)
-  changes_sizes o changes spells sizes =
-      let left = changes.changed.beside in
-      record {
-        sessions = subst (AllByRecursion SessionFits) (sym left.sessions) sizes.sessions;
-        clients = subst (AllByRecursion ClientFits) (sym left.clients) sizes.clients;
-        nodes = changes.changed.sizes spells sizes.nodes;
-      }

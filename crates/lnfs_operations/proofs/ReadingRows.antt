@@ -7,7 +7,7 @@ use Rattle.lnfs_arguments.specs.declared.types.Op.TheVariants as ops
 use Rattle.lnfs_world.specs.Rows.{updated}
 use Rattle.lnfs_world.specs.World.{Id, Node, World, same_id, node_at}
 use Rattle.lnfs_world.specs.Tree.{root}
-use Rattle.lnfs_world.specs.Change.{Touch, apply_all}
+use Rattle.lnfs_world.specs.Change.{Touch, touched, apply_all}
 use Rattle.lnfs_world.specs.Outcome.{Site, Place, Outcome, done_to}
 use Rattle.lnfs_world.proofs.Rows.{all_find}
 use Rattle.lnfs_world.proofs.Seen.{node_at-id}
@@ -16,7 +16,7 @@ use Rattle.lnfs_operations.specs.Chain.{Answer, refuse, done}
 use Rattle.lnfs_operations.specs.Accessed.{accessed}
 use Rattle.lnfs_operations.specs.Sequence.{Sent}
 use Rattle.lnfs_operations.specs.Served.{row}
-use Rattle.lnfs_operations.specs.Sizes.{NodeFits, Sizes}
+use Rattle.lnfs_operations.specs.Sizes.{NodeFits}
 use Rattle.lnfs_operations.proofs.Readings.{IsMovedPlace, put_fh_any, get_fh_any, save_fh_any, restore_fh_any, lookup_any, lookup_parent_any, access_any, read_link_any}
 use Rattle.lnfs_operations.proofs.GetAttrLaws.{get_attr_any, verify_any, nverify_any}
 use Rattle.lnfs_operations.proofs.ReadDirLaws.{read_dir_any}
@@ -115,10 +115,6 @@ all_found P q g (y ∷ ys) x found now all = at (q y) found (λ later. all_found
 accessed_fits : (p : Place) (n : Node) → NodeFits n → NodeFits (record n { inner = record n.inner { accessed = p.moment } })
 accessed_fits p n fits = record { stored = fits.stored; text = fits.text }
 
-pub reads_sizes : {A : Type 0} (p : Place) (w : World) (o : Outcome A) → Reads p w o → Sizes w → Sizes (done_to w o)
-reads_sizes p w o reads sizes = reads_any p w Sizes o reads sizes (λ n found. record {
-  sessions = sizes.sessions;
-  clients = sizes.clients;
-  nodes = all_found NodeFits (λ m. same_id n.id m.id) (λ m. record m { inner = record n.inner { accessed = p.moment } }) w.nodes n found
-      (accessed_fits p n (all_find NodeFits (λ m. same_id n.id m.id) w.nodes n sizes.nodes found).0) sizes.nodes;
-})
+pub all_accessed_fit : (p : Place) (w : World) (n : Node) → node_at w.nodes n.id ≡ Some n → AllByRecursion NodeFits w.nodes → AllByRecursion NodeFits (touched n.id (record n.inner { accessed = p.moment }) w.nodes)
+all_accessed_fit p w n found fit = all_found NodeFits (λ m. same_id n.id m.id) (λ m. record m { inner = record n.inner { accessed = p.moment } }) w.nodes n found
+    (accessed_fits p n (all_find NodeFits (λ m. same_id n.id m.id) w.nodes n fit found).0) fit
