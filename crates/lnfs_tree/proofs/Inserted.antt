@@ -1,5 +1,5 @@
 -- A new node under a name.
-use Rattle.std.proofs.Common.{◌≡◌, ℕ, ◌+◌, ◌<◌, Bool, true, false, cond, not, List, [], ◌∷◌, Option, Some, None, Result, Ok, Err, map, refl, sym, ◌∙◌, ap, subst, arith}
+use Rattle.std.proofs.Common.{◌≡◌, ℕ, ◌+◌, ◌<◌, Bool, true, false, cond, not, List, [], ◌∷◌, Option, Some, None, Result, Ok, Err, map, refl, sym, ◌∙◌, ap, subst}
 use Rattle.std.specs.Prelude.{nat_lt, is_some, ◌&&◌}
 use Rattle.std.specs.Option.{option_map}
 use Rattle.std.specs.List.{AllByRecursion}
@@ -38,6 +38,7 @@ use Rattle.lnfs_tree.proofs.Chains.{there, not_there, looks, entry_is, row_found
 use Rattle.lnfs_tree.proofs.Opened.{row_touched, touched_twice, untied, tied-more}
 use Rattle.lnfs_tree.proofs.Linked.{some-map}
 use Rattle.lnfs_tree.proofs.NewNodes.{new_there}
+use Rattle.lnfs_tree.proofs.Numbers.{next_above, some_none}
 use Rattle.lnfs_world.proofs.Within.{IsNew}
 
 module _ (ns : List Node) (lasts : List (Level × ℕ)) (d : Id) (name : List ℕ) (fresh : Fresh) (at : Moment) where
@@ -60,11 +61,15 @@ module _ (ns : List Node) (lasts : List (Level × ℕ)) (d : Id) (name : List �
     abbrev tests : Bool → Bool → Result (Doing (Id × Info)) TreeError → Result (Doing (Id × Info)) TreeError
     tests taken left next = test (not taken) Exist (test (left && nat_lt n.cookies LAST_COOKIE) Spent next)
 
-    pub insert_tests : insert_of rows d name fresh at ≡ tests (is_some (name_at n.names name)) (has_number (map last_row lasts) fresh.home.0) (Ok (doing d (next_id (map last_row lasts) fresh.home.0)))
+    insert_tests : insert_of rows d name fresh at ≡ tests (is_some (name_at n.names name)) (has_number (map last_row lasts) fresh.home.0) (Ok (doing d (next_id (map last_row lasts) fresh.home.0)))
     insert_tests =
         looks ns d n found _ (there ns d n (sym is)).1
         ∙ (λ k. tests (is_some (entry_at (entries_in ns) (sym own k) name)) (has_number (map last_row lasts) fresh.home.0) (Ok (doing (sym own k) (next_id (map last_row lasts) fresh.home.0))))
         ∙ ap (λ (b : Bool). tests b (has_number (map last_row lasts) fresh.home.0) (Ok (doing d (next_id (map last_row lasts) fresh.home.0)))) (ap is_some (entry_is ns d n found name rising) ∙ some-map (row_of_entry d) (name_at n.names name))
+
+    -- and by what the tests say
+    pub insert_told : (taken left given : Bool) → is_some (name_at n.names name) ≡ taken → has_number (map last_row lasts) fresh.home.0 ≡ left → nat_lt n.cookies LAST_COOKIE ≡ given → insert_of rows d name fresh at ≡ test (not taken) Exist (test (left && given) Spent (Ok (doing d (next_id (map last_row lasts) fresh.home.0))))
+    insert_told taken left given is_taken is_left is_given = insert_tests ∙ (λ k. test (not (is_taken k)) Exist (test (is_left k && is_given k) Spent (Ok (doing d (next_id (map last_row lasts) fresh.home.0)))))
 
     module _ (facts : HasFacts rows) (tree : IsTree ns) (number : ℕ) (next : number ≡ last_of fresh.home.0 (map last_row lasts) + 1) where
       abbrev pub id : NodeId
@@ -78,14 +83,14 @@ module _ (ns : List Node) (lasts : List (Level × ℕ)) (d : Id) (name : List �
 
       -- ---- the identifier is new
       is_new : IsNew fresh.home.0 (map last_row lasts) (id_of id)
-      is_new = record { own = refl; above = subst (λ (k : ℕ). last_of fresh.home.0 (map last_row lasts) < k) (sym next) (omega arith) }
+      is_new = record { own = refl; above = subst (λ (k : ℕ). last_of fresh.home.0 (map last_row lasts) < k) (sym next) (next_above _) }
 
       pub no_node : node_at ns (id_of id) ≡ None
       no_node = none (node_at ns (id_of id)) (ap (option_map (λ r. r.label)) (sym (node_at-rows (id_of id) ns)) ∙ new_absent facts.0 fresh.home.0 (map row_of ns) es (map last_row lasts) facts.1 (id_of id) is_new)
         where
           none : (o : Option Node) → option_map (λ r. r.label) (option_map row_of o) ≡ None → o ≡ None
           none None e = refl
-          none (Some x) e = absurd (cc)
+          none (Some x) e = absurd (some_none _ e)
 
       unnamed : names_of es (id_of id) ≡ 0
       unnamed = sym (tree.links (id_of id)) ∙ ap links_at no_node
@@ -158,7 +163,7 @@ module _ (ns : List Node) (lasts : List (Level × ℕ)) (d : Id) (name : List �
           ran-made = λ k. record { nodes = rows-made k; entries = entries-made k; lasts = last_set fresh.home number lasts k }
 
       pub told-made : is_some (name_at n.names name) ≡ false → has_number (map last_row lasts) fresh.home.0 ≡ true → nat_lt n.cookies LAST_COOKIE ≡ true → insert_of rows d name fresh at ≡ Ok (doing d (id_of id))
-      told-made free left cookie = insert_tests ∙ grind (arith, free, left, cookie) ∙ ap (λ (i : Id). Ok (doing d i)) same
+      told-made free left cookie = insert_told false true true free left cookie ∙ ap (λ (i : Id). Ok (doing d i)) same
         where
           same : next_id (map last_row lasts) fresh.home.0 ≡ id_of id
           same = λ k. record { level = fresh.home.0; number = sym next k }

@@ -1,4 +1,5 @@
 pub mod Lists
+pub mod Numbers
 pub mod NameBytes
 pub mod Indexes
 pub mod TakenOut

@@ -4,7 +4,7 @@ use Rattle.std.specs.Prelude.{not, ◌&&◌, ◌==◌, is_some, map, IfNone}
 use Rattle.std.specs.Option.{option_map}
 use Rattle.std.specs.Str.{bytes_eq}
 use Rattle.std.specs.List.{AllByRecursion, find, list_any}
-use Rattle.std.proofs.lemmas.Bool.{and_parts}
+use Rattle.std.proofs.lemmas.Bool.{and_parts, false≢true}
 use Rattle.std.proofs.lemmas.Bool.Decides.{nat_tests}
 use Rattle.lnfs_calipso.specs.declared.Level.{Level}
 use Rattle.lnfs_words.specs.Words.{split, slash}
@@ -27,6 +27,7 @@ use Rattle.lnfs_tree.specs.Held.{node_at, node_order}
 use Rattle.lnfs_tree.specs.Flat.{row_of, entries_in, rows_in}
 use Rattle.lnfs_tree.specs.Places.{world_of, may_take, IsPlaceFor}
 use Rattle.lnfs_tree.proofs.Flat.{node_at-rows, find-entries, in_node}
+use Rattle.lnfs_tree.proofs.Numbers.{below_next, not_next}
 
 pub any_same : {X : Type 0} (p q : X → Bool) (xs : List X) → AllByRecursion (λ x. p x ≡ q x) xs → list_any p xs ≡ list_any q xs
 any_same p q [] all = refl
@@ -47,8 +48,7 @@ module _ (dom : ℕ → ℕ → Bool) (w : World) (facts : Facts dom w) (n : Nod
     where
       at : (b : Bool) → same_id n.id e.directory ≡ b → (b && n.inner.cookies == e.cookie) ≡ false
       at true same =
-          let lower : is_below e.cookie (option_map (λ n. n.inner.cookies) (Some n)) ≡ true = ap (λ (o : Option NodeRow). is_below e.cookie (option_map (λ n. n.inner.cookies) o)) (sym found) ∙ ap (λ (j : Id). is_below e.cookie (cookies_at w.nodes j)) (id_same n.id e.directory same) ∙ below in
-          grind (arith, nat_tests, lower)
+          not_next true e.cookie n.inner.cookies (below_next e.cookie n.inner.cookies (ap (λ (o : Option NodeRow). is_below e.cookie (option_map (λ n. n.inner.cookies) o)) (sym found) ∙ ap (λ (j : Id). is_below e.cookie (cookies_at w.nodes j)) (id_same n.id e.directory same) ∙ below))
       at false differ = refl
 
   name_free : (name : List ℕ) (id : Id) → is_free w.entries (record { directory = n.id; cookie = n.inner.cookies; name = name; node = id }) ≡ not (is_some (entry_at w.entries n.id name))
@@ -112,7 +112,7 @@ module _ (dom : ℕ → ℕ → Bool) (ns : List Node) (lasts : List (Level × �
       where
         no_name : (o : Option Entry) → not (is_some o) ≡ true → o ≡ None
         no_name None e = refl
-        no_name (Some x) e = absurd (cc)
+        no_name (Some x) e = absurd (false≢true e)
 
 pub if_none : {X : Type 0} (r : Option X) (P : Type 0) → P → IfNone r P
 if_none None P p = p

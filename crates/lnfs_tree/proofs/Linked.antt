@@ -5,7 +5,7 @@ use Rattle.std.specs.Option.{option_map}
 use Rattle.std.specs.List.{AllByRecursion}
 use Rattle.std.specs.Ordering.{is_eq}
 use Rattle.lnfs_tree.specs.declared.directory.Place.{Place}
-use Rattle.std.proofs.lemmas.Bool.{false≢true}
+use Rattle.std.proofs.lemmas.Bool.{true≢false, false≢true}
 use Rattle.lnfs_calipso.specs.declared.Level.{Level}
 use Rattle.lnfs_outside.specs.declared.event.Moment.{Moment}
 use Rattle.lnfs_world.specs.declared.numbers.TheConstants.{MOST_NAMES, LAST_COOKIE}
@@ -31,6 +31,7 @@ use Rattle.lnfs_tree.specs.Changed.{Doing, HasFacts, changed, test, ran, link_of
 use Rattle.lnfs_tree.proofs.Flat.{found_id}
 use Rattle.lnfs_tree.proofs.Added.{row, named, rows-named, entries-named}
 use Rattle.lnfs_tree.proofs.Steps.{Tie, tie_of, ties, links_tied, KeepsTied, tied, tree_tied, rows-kept, rows-moved, entries-kept, ties-kept, ties-moved}
+use Rattle.lnfs_tree.proofs.Numbers.{some_same}
 use Rattle.lnfs_tree.proofs.Chains.{goes_on, no_node, entry_is, row_found}
 use Rattle.lnfs_tree.proofs.Opened.{row_touched, touched_twice, untied, tied-more}
 use Rattle.lnfs_tree.proofs.Removed.{relinked, row_apart}
@@ -43,12 +44,15 @@ some-map f (Some x) = refl
 pub taken_is : (names : List Entry) (name : List ℕ) (o : Option Place) → o ≡ option_map place_of (name_at names name) → (b r : Bool) → b ≡ is_some o → b ≡ r → is_some (name_at names name) ≡ r
 taken_is names name o found b r is result = sym (ap is_some found ∙ some-map place_of (name_at names name)) ∙ sym is ∙ result
 
+one_name_more : (k l m : ℕ) → m ≡ k + 1 → k ≡ l → m ≡ 1 + l
+one_name_more k l m more is = omega arith
+
 pub absent_name : (names : List Entry) (name : List ℕ) → is_some (name_at names name) ≡ false → name_at names name ≡ None
 absent_name names name none = at (name_at names name) none
   where
     at : (o : Option Entry) → is_some o ≡ false → o ≡ None
     at None e = refl
-    at (Some x) e = absurd (cc)
+    at (Some x) e = absurd (true≢false e)
 
 module _ (ns : List Node) (lasts : List (Level × ℕ)) (node : NodeId) (d : Id) (name : List ℕ) (at : Moment) where
   abbrev rows : Rows
@@ -82,12 +86,19 @@ module _ (ns : List Node) (lasts : List (Level × ℕ)) (node : NodeId) (d : Id)
       names_are : names_of (entries_in ns) (id_of m.id) ≡ m.links
       names_are = ap (names_of (entries_in ns)) (sym own_file) ∙ sym (tree.links (id_of node)) ∙ ap links_at (sym file)
 
-      pub link_tests : link_of rows (id_of node) d name at ≡ tests (is_some (name_at n.names name)) m.links (Ok (doing d (id_of node)))
+      link_tests : link_of rows (id_of node) d name at ≡ tests (is_some (name_at n.names name)) m.links (Ok (doing d (id_of node)))
       link_tests =
           goes_on ns (id_of node) m (sym file) _
           ∙ goes_on ns d n (sym into) _
           ∙ (λ k. tests (is_some (entry_at (entries_in ns) (sym own k) name)) (names_are k) (Ok (doing (sym own k) (sym own_file k))))
           ∙ ap (λ (b : Bool). tests b m.links (Ok (doing d (id_of node)))) (ap is_some (entry_is ns d n (sym into) name rising) ∙ some-map (row_of_entry d) (name_at n.names name))
+
+      -- and by what the tests say
+      abbrev told : (dir under taken few left : Bool) → Result (Doing Info) TreeError
+      told dir under taken few left = test (not dir) IsDir (test under NotDir (test (not taken) Exist (test few MLink (test left Spent (Ok (doing d (id_of node)))))))
+
+      pub link_told : (dir under taken few left : Bool) → is_directory (kind_of m.kind) ≡ dir → is_directory (kind_of n.kind) ≡ under → is_some (name_at n.names name) ≡ taken → nat_lt m.links MOST_NAMES ≡ few → nat_lt n.cookies LAST_COOKIE ≡ left → link_of rows (id_of node) d name at ≡ told dir under taken few left
+      link_told dir under taken few left is_dir is_under is_taken is_few is_left = link_tests ∙ (λ k. told (is_dir k) (is_under k) (is_taken k) (is_few k) (is_left k))
 
       module _ (facts : HasFacts rows) (is_file : is_directory (kind_of m.kind) ≡ false) (is_dir : is_directory (kind_of n.kind) ≡ true) (links : ℕ) (one_more : links ≡ m.links + 1) where
         abbrev es : List NameRow
@@ -102,8 +113,7 @@ module _ (ns : List Node) (lasts : List (Level × ℕ)) (node : NodeId) (d : Id)
             at_same : (b : Bool) → same_id d (id_of node) ≡ b → b ≡ false
             at_same false is = refl
             at_same true is =
-                let both : Some n ≡ Some m = into ∙ ap (node_at ns) (id_same d (id_of node) is) ∙ sym file in
-                let same : n ≡ m = cc in
+                let same = some_same n m (into ∙ ap (node_at ns) (id_same d (id_of node) is) ∙ sym file) in
                 absurd (false≢true (sym is_file ∙ ap (λ (k : Node). is_directory (kind_of k.kind)) (sym same) ∙ is_dir))
 
         no_ties : AllByRecursion (λ e. is_eq (entry_order new e) ≡ false) es
@@ -164,7 +174,7 @@ module _ (ns : List Node) (lasts : List (Level × ℕ)) (node : NodeId) (d : Id)
 
         pub tree-linked : IsTree linked
         tree-linked = tree_tied linked linked_ties (inserted entry_order new es) ties-linked entries-linked (tied-more es new no_ties (ties ns) linked_ties (tied ns tree)
-            (ap links_tied tie_now ∙ omega (arith, one_more, count_is))
+            (ap links_tied tie_now ∙ one_name_more m.links _ links one_more count_is)
             (subst (λ (t : Option Tie). KeepsTied t (parent_of (inserted entry_order new es) (id_of node))) (sym tie_now) (λ is. absurd (false≢true (sym is_file ∙ is))))
             (λ j differs. ap (λ (b : Bool). cond b (option_map (relinked links) (ties ns j)) (ties ns j)) (id_turned (id_of node) j ∙ differs)))
 
@@ -172,4 +182,4 @@ module _ (ns : List Node) (lasts : List (Level × ℕ)) (node : NodeId) (d : Id)
         ran-linked = λ k. record { nodes = rows-linked k; entries = entries-linked k; lasts = map last_row lasts }
 
         pub told-linked : is_some (name_at n.names name) ≡ false → nat_lt m.links MOST_NAMES ≡ true → nat_lt n.cookies LAST_COOKIE ≡ true → link_of rows (id_of node) d name at ≡ Ok (doing d (id_of node))
-        told-linked free few cookie = link_tests ∙ grind (arith, is_file, is_dir, free, few, cookie)
+        told-linked free few cookie = link_told false true false true true is_file is_dir free few cookie

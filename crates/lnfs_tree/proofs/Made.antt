@@ -1,12 +1,11 @@
 -- A directory of the beginning that is made in another.
-use Rattle.std.proofs.Common.{◌≡◌, ℕ, ◌+◌, ◌<◌, Bool, true, false, cond, List, [], ◌∷◌, ◌++◌, Option, Some, None, map, refl, sym, ◌∙◌, ap, subst, arith}
+use Rattle.std.proofs.Common.{◌≡◌, ℕ, ◌+◌, ◌<◌, Bool, true, false, cond, List, [], ◌∷◌, ◌++◌, Option, Some, None, map, refl, sym, ◌∙◌, ap, subst}
 use Rattle.std.specs.Prelude.{◌==◌, ◌&&◌}
 use Rattle.std.specs.Option.{option_map}
 use Rattle.std.specs.Str.{bytes_eq}
 use Rattle.std.specs.List.{AllByRecursion}
 use Rattle.std.specs.Ordering.{is_eq}
 use Rattle.std.specs.BTreeMap.{insert_entry}
-use Rattle.std.proofs.lemmas.Bool.Decides.{nat_tests}
 use Rattle.lnfs_calipso.specs.declared.Level.{Level}
 use Rattle.lnfs_world.specs.Rows.{inserted, Rising}
 use Rattle.lnfs_world.specs.World.{Id, Node as NodeRow, Entry as NameRow, World, same_id, entry_order, level_order, label_at, directory_at, last_of, is_directory}
@@ -35,6 +34,7 @@ use Rattle.lnfs_tree.proofs.Flat.{node_at-rows, found_id, find-entries, in_node,
 use Rattle.lnfs_tree.proofs.Added.{rows-inserted, node_at-inserted, entries-empty, row, named, node_at-named, rows-named, entries-named, count-inserted}
 use Rattle.lnfs_tree.proofs.LastNumbers.{last_set}
 use Rattle.lnfs_tree.proofs.Lines.{key_free}
+use Rattle.lnfs_tree.proofs.Numbers.{next_above, nothing_more, below_next, some_same, some_none}
 
 -- what is known where it is made: the nodes, the directory and its name there, the new identifier
 pub record Making (dom : ℕ → ℕ → Bool) (ns : List Node) (lasts : List (Level × ℕ)) (i : Id) (name : List ℕ) (n : Node) (id : NodeId) : Type 0 where
@@ -88,7 +88,7 @@ module _ (dom : ℕ → ℕ → Bool) (ns : List Node) (lasts : List (Level × �
   own_found = ap (world.node_at (map row_of ns)) (sym own) ∙ row_found
 
   no_label : label_at (map row_of ns) (id_of id) ≡ None
-  no_label = new_absent dom n.label.0 (map row_of ns) (entries_in ns) (map last_row lasts) m.facts.nodes (id_of id) (record { own = m.home; above = subst (λ (k : ℕ). last_of n.label.0 (map last_row lasts) < k) (sym m.number) (omega arith) })
+  no_label = new_absent dom n.label.0 (map row_of ns) (entries_in ns) (map last_row lasts) m.facts.nodes (id_of id) (record { own = m.home; above = subst (λ (k : ℕ). last_of n.label.0 (map last_row lasts) < k) (sym m.number) (next_above _) })
 
   -- the identifier is new
   pub no_node : node_at ns (id_of id) ≡ None
@@ -96,23 +96,20 @@ module _ (dom : ℕ → ℕ → Bool) (ns : List Node) (lasts : List (Level × �
     where
       at : (o : Option Node) → option_map (λ n. n.label) (option_map row_of o) ≡ None → o ≡ None
       at None e = refl
-      at (Some x) e = absurd (cc)
+      at (Some x) e = absurd (some_none _ e)
 
   -- the directory can take the name
   pub opened : IsOpenTo ns i n.cookies name
   opened = record {
     node = n;
     found = m.found;
-    above = all_weaker _ _ (λ x below. lower x.cookie (ap (λ (o : Option NodeRow). is_below x.cookie (option_map (λ n. n.inner.cookies) o)) (sym own_found) ∙ below)) n.names (all_own (λ e. is_below e.cookie (cookies_at (map row_of ns) e.directory) ≡ true) i n ns m.facts.nodes.cookies m.found);
+    above = all_weaker _ _ (λ x below. below_next x.cookie n.cookies (ap (λ (o : Option NodeRow). is_below x.cookie (option_map (λ n. n.inner.cookies) o)) (sym own_found) ∙ below)) n.names (all_own (λ e. is_below e.cookie (cookies_at (map row_of ns) e.directory) ≡ true) i n ns m.facts.nodes.cookies m.found);
     absent = at (name_at n.names name) (sym (ap (in_node i (λ e. bytes_eq e.name name)) m.found) ∙ sym (find-entries i (λ e. bytes_eq e.name name) ns m.rising) ∙ m.free);
   }
     where
-      lower : (k : ℕ) → is_below k (Some n.cookies) ≡ true → k < n.cookies
-      lower k e = grind (arith, nat_tests)
-
       at : (o : Option Entry) → option_map (row_of_entry i) o ≡ None → o ≡ None
       at None e = refl
-      at (Some x) e = absurd (cc)
+      at (Some x) e = absurd (some_none _ e)
 
   abbrev new_entry : NameRow
   new_entry = row i n.cookies name id
@@ -165,12 +162,9 @@ module _ (dom : ℕ → ℕ → Bool) (ns : List Node) (lasts : List (Level × �
       links-made : (j : Id) → links_at (node_at (inserted node_order fresh below) j) ≡ names_of (inserted entry_order new_entry (entries_in ns)) j
       links-made j = ap links_at (node_at-made j) ∙ at (same_id j (id_of id)) refl ∙ sym (count-inserted entry_order (λ e. same_id j e.node) new_entry (entries_in ns) no_ties)
         where
-          none_more : (k : ℕ) → k ≡ 0 + k
-          none_more k = omega arith
-
           at : (b : Bool) → same_id j (id_of id) ≡ b → links_at (cond b (Some fresh) (node_at below j)) ≡ cond (same_id j (id_of id)) 1 0 + names_of (entries_in ns) j
           at true same = one ∙ sym (λ k. cond (same k) 1 0 + unnamed_count j same k)
-          at false differ = links-below j ∙ none_more (names_of (entries_in ns) j) ∙ sym (ap (λ (b : Bool). cond b 1 0 + names_of (entries_in ns) j) differ)
+          at false differ = links-below j ∙ nothing_more (names_of (entries_in ns) j) ∙ sym (ap (λ (b : Bool). cond b 1 0 + names_of (entries_in ns) j) differ)
 
       up-made : (j : Id) → KeepsParent (cond (same_id j (id_of id)) (Some fresh) (node_at below j)) (parent_of (inserted entry_order new_entry (entries_in ns)) j)
       up-made j = at (same_id j (id_of id)) refl
@@ -215,8 +209,5 @@ made_line dom ns lasts i name n line t is found place =
     ∙ ap (λ (r : NodeRow). rows_of (apply_all (made_in (world_of t) line name r) (world_of t))) same
     ∙ ap rows_of (sym place.made)
   where
-    some_same : (a b : NodeRow) → Some a ≡ Some b → a ≡ b
-    some_same a b e = cc
-
     same : row_of n ≡ place.node
     same = some_same (row_of n) place.node (ap (option_map row_of) found ∙ sym (node_at-rows i ns) ∙ ap (λ (t : Rows). world.node_at t.nodes i) is ∙ place.found)

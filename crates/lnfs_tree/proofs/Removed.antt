@@ -29,6 +29,7 @@ use Rattle.lnfs_tree.specs.Held.{is_node, node_at, node_order, directory_in, wit
 use Rattle.lnfs_tree.specs.Flat.{row_of, entries_in, last_row, rows_in, IsTree, size_in}
 use Rattle.lnfs_tree.specs.Changed.{Doing, HasFacts, Gone, gone, gone_of, info_of, changed, at_name, on_node, test, ran, remove_of}
 use Rattle.lnfs_tree.proofs.NameBytes.{bytes_tied}
+use Rattle.lnfs_tree.proofs.Numbers.{nothing_more, some_same, some_none}
 use Rattle.lnfs_tree.proofs.Flat.{found_id}
 use Rattle.lnfs_tree.proofs.Steps.{Tie, tie_of, ties, links_tied, KeepsTied, AreTied, tied, tree_tied, rising-step, node_at-step, rows-kept, rows-moved, rows-out, entries-kept, entries-taken, entries-out, ties-kept, ties-moved, ties-out, in_directory_by}
 use Rattle.lnfs_tree.proofs.Single.{left_is, names-less, names-own, other_is, parent-left}
@@ -68,16 +69,32 @@ relinked links t = record t { links = links }
 pub tied-left : (es : List NameRow) (e : NameRow) (old new : Id → Option Tie) → ((j : Id) → names_of es j ≡ cond (same_id j e.node) 1 0 + names_of (without_entry e es) j) → ((j : Id) → same_id j e.node ≡ false → parent_of (without_entry e es) j ≡ parent_of es j) → AreTied old es → links_tied (new e.node) ≡ names_of (without_entry e es) e.node → KeepsTied (new e.node) (parent_of (without_entry e es) e.node) → ((j : Id) → same_id j e.node ≡ false → new j ≡ old j) → AreTied new (without_entry e es)
 tied-left es e old new less above are_tied links up others = record { links = λ j. links_of j (same_id j e.node) refl; up = λ j. up_of j (same_id j e.node) refl }
   where
-    nothing_more : (k : ℕ) → 0 + k ≡ k
-    nothing_more k = omega arith
-
     links_of : (j : Id) (b : Bool) → same_id j e.node ≡ b → links_tied (new j) ≡ names_of (without_entry e es) j
     links_of j true is = subst (λ (k : Id). links_tied (new k) ≡ names_of (without_entry e es) k) (sym (id_same j e.node is)) links
-    links_of j false is = ap links_tied (others j is) ∙ are_tied.links j ∙ less j ∙ ap (λ (b : Bool). cond b 1 0 + names_of (without_entry e es) j) is ∙ nothing_more (names_of (without_entry e es) j)
+    links_of j false is = ap links_tied (others j is) ∙ are_tied.links j ∙ less j ∙ ap (λ (b : Bool). cond b 1 0 + names_of (without_entry e es) j) is ∙ sym (nothing_more (names_of (without_entry e es) j))
 
     up_of : (j : Id) (b : Bool) → same_id j e.node ≡ b → KeepsTied (new j) (parent_of (without_entry e es) j)
     up_of j true is = subst (λ (k : Id). KeepsTied (new k) (parent_of (without_entry e es) k)) (sym (id_same j e.node is)) up
     up_of j false is = subst (λ (t : Option Tie). KeepsTied t (parent_of (without_entry e es) j)) (sym (others j is)) (subst (KeepsTied (old j)) (sym (above j is)) (are_tied.up j))
+
+-- ---- names that are counted
+no_entries : (xs : List Entry) → nat_lt 0 (length xs) ≡ false → xs ≡ []
+no_entries [] e = refl
+no_entries (x ∷ xs) e = absurd (grind (arith, nat_tests))
+
+one_more : (k l : ℕ) → k ≡ 1 + l → nat_lt 0 l ≡ nat_lt 1 k
+one_more k l is = grind (arith, nat_tests)
+
+one_fewer : (k l m : ℕ) → k + 1 ≡ l → l ≡ 1 + m → k ≡ m
+one_fewer k l m less is = omega arith
+
+no_more : (k l : ℕ) → nat_lt 1 k ≡ false → k ≡ 1 + l → 0 ≡ l
+no_more k l last is = grind (arith, nat_tests)
+
+-- a directory has one name
+no_directory : (o : Option Bool) (d h : Bool) → o ≡ Some d → h ≡ true → (is_some_directory o && h) ≡ false → d ≡ false
+no_directory o true h is has once = absurd (false≢true (sym once ∙ (λ k. is_some_directory (is k) && has k)))
+no_directory o false h is has once = refl
 
 module _ (ns : List Node) (lasts : List (Level × ℕ)) (i : Id) (name : List ℕ) (at : Moment) (rising : Rising node_order ns) (n : Node) (dir : directory_in (node_at ns i) ≡ Ok n) where
   abbrev rows : Rows
@@ -135,11 +152,7 @@ module _ (ns : List Node) (lasts : List (Level × ℕ)) (i : Id) (name : List �
         removes = remove_tests ∙ ap (λ (b : Bool). test (not b) NotEmpty (Ok (doing i e (row_of m)))) bare
 
         pub no_names : m.names ≡ []
-        no_names = at_names m.names bare
-          where
-            at_names : (xs : List Entry) → nat_lt 0 (length xs) ≡ false → xs ≡ []
-            at_names [] e = refl
-            at_names (x ∷ xs) e = absurd (grind (arith, nat_tests))
+        no_names = no_entries m.names bare
 
         pub apart : same_id i (id_of p.node) ≡ false
         apart = at_same (same_id i (id_of p.node)) refl
@@ -150,21 +163,14 @@ module _ (ns : List Node) (lasts : List (Level × ℕ)) (i : Id) (name : List �
             at_same : (b : Bool) → same_id i (id_of p.node) ≡ b → b ≡ false
             at_same false is = refl
             at_same true is =
-                let both : Some n ≡ Some m = sym found ∙ ap (node_at ns) (id_same i (id_of p.node) is) ∙ sym child in
-                let same : n ≡ m = cc in
-                absurd (none_some (stands ∙ ap (option_map place_of) (named_none (name_at n.names name) refl (ap (λ (k : Node). k.names) same ∙ no_names))))
-              where
-                none_some : Some p ≡ None → ⊥
-                none_some e = cc
+                let same = some_same n m (sym found ∙ ap (node_at ns) (id_same i (id_of p.node) is) ∙ sym child) in
+                absurd (some_none p (stands ∙ ap (option_map place_of) (named_none (name_at n.names name) refl (ap (λ (k : Node). k.names) same ∙ no_names))))
 
         links_is : m.links ≡ 1 + names_of (without_entry e es) e.node
         links_is = sym (ap links_tied (ap (option_map tie_of) (sym child))) ∙ (tied ns tree).links (id_of p.node) ∙ names-own es i name e facts.1.names facts.1.entries_rise is_found
 
         pub other : has_other_name es e ≡ nat_lt 1 m.links
-        other = other_is es i name e facts.1.names facts.1.entries_rise is_found ∙ more m.links (names_of (without_entry e es) e.node) links_is
-          where
-            more : (k l : ℕ) → k ≡ 1 + l → nat_lt 0 l ≡ nat_lt 1 k
-            more k l is = grind (arith, nat_tests)
+        other = other_is es i name e facts.1.names facts.1.entries_rise is_found ∙ one_more m.links (names_of (without_entry e es) e.node) links_is
 
         -- ---- the name went, and the directory was stepped
         abbrev pub taken : List Node
@@ -212,10 +218,7 @@ module _ (ns : List Node) (lasts : List (Level × ℕ)) (i : Id) (name : List �
               ∙ entries-left
 
           file : is_directory (kind_of m.kind) ≡ false
-          file = no_dir (is_directory (kind_of m.kind)) (all_find _ (λ y. in_directory_by i name y) es e (unseal facts.1.tree).once is_found).0
-            where
-              no_dir : (b : Bool) → (is_some_directory (world.directory_at (map row_of ns) (id_of p.node)) && has_other_name es e) ≡ false → is_directory (kind_of m.kind) ≡ false
-              no_dir b once = grind (arith, nat_tests, other, more, ap (option_map (λ r. is_directory r.kind)) (row_found ns (id_of p.node) m (sym child)))
+          file = no_directory _ (is_directory (kind_of m.kind)) _ (ap (option_map (λ r. is_directory r.kind)) (row_found ns (id_of p.node) m (sym child))) (other ∙ more) (all_find _ (λ y. in_directory_by i name y) es e (unseal facts.1.tree).once is_found).0
 
           abbrev pub fewer_ties : Id → Option Tie
           fewer_ties j = cond (same_id (id_of p.node) j) (option_map (relinked links) (ties ns j)) (ties ns j)
@@ -231,7 +234,7 @@ module _ (ns : List Node) (lasts : List (Level × ℕ)) (i : Id) (name : List �
 
           pub tree-fewer : IsTree fewer
           tree-fewer = tree_tied fewer fewer_ties (without_entry e es) ties-fewer entries-fewer (lefts fewer_ties
-              (ap links_tied tie_now ∙ omega (arith, one_less, links_is))
+              (ap links_tied tie_now ∙ one_fewer links m.links _ one_less links_is)
               (subst (λ (t : Option Tie). KeepsTied t (parent_of (without_entry e es) (id_of p.node))) (sym tie_now) (λ is. absurd (false≢true (sym file ∙ is))))
               (λ j differs. ap (λ (b : Bool). cond b (option_map (relinked links) (ties ns j)) (ties ns j)) (id_turned (id_of p.node) j ∙ differs)))
 
@@ -264,7 +267,7 @@ module _ (ns : List Node) (lasts : List (Level × ℕ)) (i : Id) (name : List �
               other_one b is o f = ap (λ (b : Bool). cond b (option_map f o) o) is
 
           pub entries-gone : entries_in gone_out ≡ without_entry e es
-          entries-gone = entries-out (id_of p.node) taken rising-taken (λ k is. let both : Some m ≡ Some k = sym child_taken ∙ is in let same : m ≡ k = cc in ap (λ (k : Node). k.names) (sym same) ∙ no_names) ∙ entries-left
+          entries-gone = entries-out (id_of p.node) taken rising-taken (λ k is. ap (λ (k : Node). k.names) (sym (some_same m k (sym child_taken ∙ is))) ∙ no_names) ∙ entries-left
 
           abbrev pub gone_ties : Id → Option Tie
           gone_ties j = cond (same_id (id_of p.node) j) None (ties ns j)
@@ -277,7 +280,7 @@ module _ (ns : List Node) (lasts : List (Level × ℕ)) (i : Id) (name : List �
 
           pub tree-gone : IsTree gone_out
           tree-gone = tree_tied gone_out gone_ties (without_entry e es) ties-gone entries-gone (lefts gone_ties
-              (ap links_tied tie_none ∙ grind (arith, nat_tests, last, links_is))
+              (ap links_tied tie_none ∙ no_more m.links _ last links_is)
               (subst (λ (t : Option Tie). KeepsTied t (parent_of (without_entry e es) (id_of p.node))) (sym tie_none) tt)
               (λ j differs. ap (λ (b : Bool). cond b None (ties ns j)) (id_turned (id_of p.node) j ∙ differs)))
 

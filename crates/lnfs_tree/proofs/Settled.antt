@@ -1,11 +1,10 @@
 -- A name moved, and what had its new name gave way.
-use Rattle.std.proofs.Common.{◌≡◌, ℕ, ◌+◌, ◌-◌, ◌<◌, Bool, true, false, cond, not, List, [], ◌∷◌, ◌++◌, length, Option, Some, None, Ok, map, refl, sym, ◌∙◌, ap, subst, arith}
+use Rattle.std.proofs.Common.{◌≡◌, ℕ, ◌+◌, ◌-◌, Bool, true, false, cond, not, List, [], ◌∷◌, ◌++◌, length, Option, Some, None, Ok, map, refl, sym, ◌∙◌, ap, subst, arith}
 use Rattle.std.specs.Prelude.{filter, nat_lt, ◌&&◌, ◌||◌}
 use Rattle.std.specs.Option.{option_map}
 use Rattle.std.specs.Str.{bytes_eq}
 use Rattle.std.specs.List.{AllByRecursion}
 use Rattle.std.specs.Ordering.{is_eq}
-use Rattle.std.proofs.lemmas.Bool.Decides.{nat_tests}
 use Rattle.std.proofs.lemmas.Bool.{false≢true, and_parts}
 use Rattle.lnfs_calipso.specs.declared.Level.{Level}
 use Rattle.lnfs_outside.specs.declared.event.Moment.{Moment}
@@ -35,6 +34,7 @@ use Rattle.lnfs_tree.specs.declared.node.Dropped.{Dropped}
 use Rattle.lnfs_tree.proofs.Flat.{found_id}
 use Rattle.lnfs_tree.proofs.LookUps.{size_is}
 use Rattle.lnfs_tree.proofs.Lists.{none_found}
+use Rattle.lnfs_tree.proofs.Numbers.{one_less, some_same, some_none}
 use Rattle.lnfs_tree.proofs.Steps.{Tie, tie_of, ties, AreTied, tied, tree_tied, rows-kept, rows-moved, rows-out, entries-kept, entries-out, ties-kept, ties-moved, ties-out, in_directory_by}
 use Rattle.lnfs_tree.proofs.Single.{left_is, none_taken}
 use Rattle.lnfs_tree.proofs.Chains.{row_found, holds_is, entry_is}
@@ -62,6 +62,18 @@ meet true false never g h o = refl
 meet false true never g h o = refl
 meet false false never g h o = refl
 
+-- a directory has no other name
+no_other : (o : Option Bool) (d h : Bool) → o ≡ Some d → d ≡ true → (is_some_directory o && h) ≡ false → h ≡ false
+no_other o d h is dir once = sym (λ k. is_some_directory ((is ∙ ap Some dir) k) && h) ∙ once
+
+-- a directory gives way where it holds no names
+holds_none : (n d h : Bool) → (n && (d && not h) || not n && not d) ≡ true → d ≡ true → h ≡ false
+holds_none n d false way is = refl
+holds_none n d true way is = absurd (grind arith)
+
+entries_apart : (e other : NameRow) → same_id other.node e.node ≡ false → same_entry other e ≡ false
+entries_apart e other apart = grind (arith, apart)
+
 module _ (ns : List Node) (lasts : List (Level × ℕ)) (rising : Rising node_order ns) (tree : IsTree ns) (facts : HasFacts (rows_in ns lasts)) (f : Id) (to : NodeId) (old new : List ℕ) (at : Moment) (a b n : Node) (source : Some a ≡ node_at ns f) (target : Some b ≡ node_at ns (id_of to)) (p : Place) (stands : Some p ≡ option_map place_of (name_at a.names old)) (mover : Some n ≡ node_at ns (id_of p.node)) where
   abbrev t : Id
   t = id_of to
@@ -85,10 +97,7 @@ module _ (ns : List Node) (lasts : List (Level × ℕ)) (rising : Rising node_or
   found_e = entry_found ns f old rising a (sym source) p stands
 
   alone : is_directory (kind_of n.kind) ≡ true → has_other_name es e ≡ false
-  alone is = one (all_find _ (λ y. in_directory_by f old y) es e (unseal facts.1.tree).once found_e).0
-    where
-      one : (is_some_directory (world.directory_at (map row_of ns) (id_of p.node)) && has_other_name es e) ≡ false → has_other_name es e ≡ false
-      one once = grind (arith, is, ap (option_map (λ r. is_directory r.kind)) (row_found ns (id_of p.node) n (sym mover)))
+  alone is = no_other _ (is_directory (kind_of n.kind)) _ (ap (option_map (λ r. is_directory r.kind)) (row_found ns (id_of p.node) n (sym mover))) is (all_find _ (λ y. in_directory_by f old y) es e (unseal facts.1.tree).once found_e).0
 
   free : AllByRecursion (λ x. is_eq (entry_order r x) ≡ false) es
   free = untied ns lasts facts t b (sym target) r refl refl
@@ -105,10 +114,7 @@ module _ (ns : List Node) (lasts : List (Level × ℕ)) (rising : Rising node_or
     none_there = entry_is ns t b (sym target) new rising ∙ ap (option_map (row_of_entry t)) (none_named b.names new none)
 
     differ : (same_id f t && bytes_eq new old) ≡ false
-    differ = differ_by es f t old new None e none_there found_e (λ same. none_some same)
-      where
-        none_some : None ≡ Some e → ⊥
-        none_some x = cc
+    differ = differ_by es f t old new None e none_there found_e (λ same. some_none e (sym same))
 
     entries_free : entries_in after ≡ inserted entry_order r (without_entry e es)
     entries_free =
@@ -150,7 +156,7 @@ module _ (ns : List Node) (lasts : List (Level × ℕ)) (rising : Rising node_or
       where
         by_kind : (d : Bool) → is_directory (kind_of m.kind) ≡ d → nat_lt 0 (length m.names) ≡ false
         by_kind false is = bare_file is
-        by_kind true is = grind (arith, way, is)
+        by_kind true is = holds_none (is_directory (kind_of n.kind)) (is_directory (kind_of m.kind)) _ way is
 
     not_to : same_id t i ≡ false
     not_to = removed.apart ns lasts t new at rising b dir q taken m replaced bare facts tree
@@ -158,15 +164,11 @@ module _ (ns : List Node) (lasts : List (Level × ℕ)) (rising : Rising node_or
     not_from : same_id f i ≡ false
     not_from = at_same (same_id f i) refl
       where
-        none_some : Some p ≡ None → ⊥
-        none_some e = cc
-
         at_same : (s : Bool) → same_id f i ≡ s → s ≡ false
         at_same false is = refl
         at_same true is =
-            let both : Some a ≡ Some m = source ∙ ap (node_at ns) (id_same f i is) ∙ sym replaced in
-            let same : a ≡ m = cc in
-            absurd (none_some (stands ∙ ap (λ (xs : List Entry). option_map place_of (name_at xs old)) (ap (λ (k : Node). k.names) same ∙ removed.no_names ns lasts t new at rising b dir q taken m replaced bare facts tree)))
+            let same = some_same a m (source ∙ ap (node_at ns) (id_same f i is) ∙ sym replaced) in
+            absurd (some_none p (stands ∙ ap (λ (xs : List Entry). option_map place_of (name_at xs old)) (ap (λ (k : Node). k.names) same ∙ removed.no_names ns lasts t new at rising b dir q taken m replaced bare facts tree)))
 
     found_other : entry_at es t new ≡ Some other
     found_other = entry_found ns t new rising b (sym target) q taken
@@ -175,7 +177,7 @@ module _ (ns : List Node) (lasts : List (Level × ℕ)) (rising : Rising node_or
     left = without_entry other es
 
     apart_entries : same_entry other e ≡ false
-    apart_entries = grind (arith, others, id_turned (id_of q.node) (id_of p.node))
+    apart_entries = entries_apart e other (id_turned (id_of q.node) (id_of p.node) ∙ others)
 
     found_left : entry_at left f old ≡ Some e
     found_left = find-kept (λ x. not (same_entry other x)) (in_directory_by f old) es e found_e (ap not apart_entries)
@@ -193,7 +195,7 @@ module _ (ns : List Node) (lasts : List (Level × ℕ)) (rising : Rising node_or
     differ_taken = differ_by es f t old new (Some other) e found_other found_e (λ same. never same)
       where
         never : Some other ≡ Some e → ⊥
-        never same = let alike : other ≡ e = cc in let node : id_of q.node ≡ id_of p.node = ap (λ (x : NameRow). x.node) alike in false≢true (sym others ∙ ap (same_id (id_of p.node)) node ∙ id_itself (id_of p.node))
+        never same = let node : id_of q.node ≡ id_of p.node = ap (λ (x : NameRow). x.node) (some_same other e same) in false≢true (sym others ∙ ap (same_id (id_of p.node)) node ∙ id_itself (id_of p.node))
 
     entries_after : entries_in after ≡ inserted entry_order r (without_entry e left)
     entries_after =
@@ -281,7 +283,7 @@ module _ (ns : List Node) (lasts : List (Level × ℕ)) (rising : Rising node_or
       node_m = node_stays ns rising f to old new at p.node a b source target i not_from not_to others ∙ sym replaced
 
       entries_out : entries_in without_it ≡ inserted entry_order r (without_entry e left)
-      entries_out = entries-out i after (rising-moved_nodes ns rising f to old new at p.node a b source target) (λ k is. let both : Some m ≡ Some k = sym node_m ∙ is in let same : m ≡ k = cc in ap (λ (k : Node). k.names) (sym same) ∙ removed.no_names ns lasts t new at rising b dir q taken m replaced bare facts tree) ∙ entries_after
+      entries_out = entries-out i after (rising-moved_nodes ns rising f to old new at p.node a b source target) (λ k is. ap (λ (k : Node). k.names) (sym (some_same m k (sym node_m ∙ is))) ∙ removed.no_names ns lasts t new at rising b dir q taken m replaced bare facts tree) ∙ entries_after
 
       pub tree-out : IsTree without_it
       tree-out = settled (ties second) without_it (subst (AreTied (ties second)) (entries-gone ns lasts t new at rising b dir q taken m replaced bare facts tree last) (tied second (tree-gone ns lasts t new at rising b dir q taken m replaced bare facts tree last)))
@@ -302,12 +304,6 @@ module _ (ns : List Node) (lasts : List (Level × ℕ)) (rising : Rising node_or
     has_other : has_other_name es other ≡ nat_lt 1 m.links
     has_other = removed.other ns lasts t new at rising b dir q taken m replaced bare facts tree
 
-    one_less_of : nat_lt 1 m.links ≡ true → (m.links - 1) + 1 ≡ m.links
-    one_less_of more = counts m.links more
-      where
-        counts : (k : ℕ) → nat_lt 1 k ≡ true → (k - 1) + 1 ≡ k
-        counts k is = let less : 1 < k = grind (arith, nat_tests, is) in omega (arith, less)
-
     abbrev pub lost : List Node
     lost = less_nodes i m.links at after
 
@@ -315,7 +311,7 @@ module _ (ns : List Node) (lasts : List (Level × ℕ)) (rising : Rising node_or
     tree-lost = by_links (nat_lt 1 m.links) refl
       where
         by_links : (l : Bool) → nat_lt 1 m.links ≡ l → IsTree (cond l (updated (is_node i) (with_step at) (updated (is_node i) (with_links (m.links - 1)) after)) (filter (λ n. not (is_node i n)) after))
-        by_links true is = tree-less is (m.links - 1) (one_less_of is)
+        by_links true is = tree-less is (m.links - 1) (one_less m.links is)
         by_links false is = tree-out is
 
     pub ran-lost : rows_in lost lasts ≡ ran (steps (same_id f t) f t from_in to_in ++ taken_out at es other (row_of m) ++ Move e r ∷ []) rows
@@ -324,7 +320,7 @@ module _ (ns : List Node) (lasts : List (Level × ℕ)) (rising : Rising node_or
         ∙ (λ k. ran (steps (same_id f t) f t from_in to_in ++ cond (sym has_other k) (Touch (found_id i ns m (sym replaced) k) (attributes_changed at (row_of m).inner) ∷ Unlink other ∷ []) (Drop other ∷ []) ++ Move e r ∷ []) rows)
       where
         by_links : (l : Bool) → nat_lt 1 m.links ≡ l → rows_in (cond l (updated (is_node i) (with_step at) (updated (is_node i) (with_links (m.links - 1)) after)) (filter (λ n. not (is_node i n)) after)) lasts ≡ ran (steps (same_id f t) f t from_in to_in ++ cond l (Touch i (attributes_changed at (row_of m).inner) ∷ Unlink other ∷ []) (Drop other ∷ []) ++ Move e r ∷ []) rows
-        by_links true is = ran-less is (m.links - 1) (one_less_of is)
+        by_links true is = ran-less is (m.links - 1) (one_less m.links is)
         by_links false is = ran-out is
 
     pub gone-lost : (told : Option Dropped) → told ≡ cond (nat_lt 1 m.links) None (Some (record { node = m.id; kind = m.kind; label = m.label; size = size_in m (kind_of m.kind) })) → option_map gone_of told ≡ gone es other (row_of m)
