@@ -1,14 +1,17 @@
 -- What came of an entry.
-use Rattle.std.proofs.Common.{◌≡◌, ◌<◌, ◌≤◌, ◌+◌, ◌-◌, ℕ, Bool, true, false, not, cond, List, ◌++◌, length, Option, Some, None, Ok, Err, Result, refl, ap, sym, subst, ◌∙◌, take, length-append, option_map, IfSome, Bor, arith}
+use Rattle.std.proofs.Common.{◌≡◌, ◌<◌, ◌≤◌, ◌+◌, ◌-◌, ℕ, Bool, true, false, not, cond, List, ◌++◌, length, Option, Some, None, Ok, Err, Result, refl, ap, sym, subst, ◌∙◌, take, length-append, append_assoc, option_map, IfSome, Bor, arith}
 use Rattle.std.specs.Prelude.{◌&&◌, ◌||◌}
 use Rattle.std.proofs.Math.Seq.{take-append_seam}
+use Rattle.lnfs_xdr.specs.Canon.{flag, long, opaque}
 use Rattle.lnfs_xdr.proofs.Sizes.{length-flag}
 use Rattle.lnfs_attrs.specs.declared.bitmap.Bitmap.{Bitmap}
 use Rattle.lnfs_attrs.specs.declared.view.View.{View}
 use Rattle.lnfs_attrs.specs.declared.numbers.TheConstants.{RDATTR_ERROR}
 use Rattle.lnfs_attrs.specs.Bitmaps.{has_attr}
 use Rattle.lnfs_arguments.specs.declared.statuses.TheConstants.{NFS4_OK, NFS4ERR_ACCESS}
+use Rattle.lnfs_arguments.specs.SharedTexts.{attrs_text}
 use Rattle.lnfs_results.specs.declared.types.DirEntry.{DirEntry}
+use Rattle.lnfs_results.specs.Texts.{entry_text}
 use Rattle.lnfs_monitor.specs.Rules.{Read, allows}
 use Rattle.lnfs_world.specs.World.{Node, Entry, World, node_at, is_directory}
 use Rattle.lnfs_world.specs.Names.{entry_above, entries_above}
@@ -53,6 +56,14 @@ was_denied old new room o x is enters = at o (subst (Enters old new room o) is e
 
 length_written : (d : DirEntry) → length (entry_written d) ≡ taken d
 length_written d = simp (length-append, length-flag) refl
+
+-- what was appended part by part
+pub entry_put : (old begun with_cookie with_name new : List ℕ) (d : DirEntry) → begun ≡ old ++ flag true → with_cookie ≡ begun ++ long d.cookie → with_name ≡ with_cookie ++ opaque d.name → new ≡ with_name ++ attrs_text d.attrs → new ≡ old ++ entry_written d
+unfolding entry_text
+entry_put old begun with_cookie with_name new d begins cookie name is =
+    is
+    ∙ ap (λ (out : List ℕ). out ++ attrs_text d.attrs) (name ∙ ap (λ (out : List ℕ). out ++ opaque d.name) (cookie ∙ ap (λ (out : List ℕ). out ++ long d.cookie) begins))
+    ∙ simp append_assoc
 
 -- what was appended fits
 pub fits_in : (old new : List ℕ) (room begin end : ℕ) (o : Option DirEntry) (d : DirEntry) → o ≡ Some d → new ≡ old ++ entry_written d → begin ≡ length old → end ≡ length new → end - begin ≤ room → Enters old new room o Taken

@@ -13,6 +13,7 @@ mod Entering
 pub mod Extended
 mod ReadDirs
 pub mod NamedHeld
+mod LookedUp
 pub mod Stages
 mod Creates
 pub mod Inserts
@@ -27,3 +28,4 @@ mod LinkChecked
 pub mod Going
 mod GoingPast
 mod RenameChecked
+mod RemoveChecked

@@ -1,6 +1,6 @@
 -- LINK behind its own tests: what is left are those of the tree.
-use Rattle.std.proofs.Common.{◌≡◌, ap, sym, ◌∙◌, ℕ, true, false, not, List, [], ◌∷◌, Some, None, Ok, nat_lt, arith}
-use Rattle.lnfs_arguments.specs.declared.statuses.TheConstants.{NFS4ERR_MLINK, NFS4ERR_NOSPC}
+use Rattle.std.proofs.Common.{◌≡◌, ap, sym, ◌∙◌, ℕ, true, false, not, List, [], ◌∷◌, Some, None, Ok, Err, nat_lt, arith}
+use Rattle.lnfs_arguments.specs.declared.statuses.TheConstants.{NFS4ERR_ISDIR, NFS4ERR_MLINK, NFS4ERR_NOSPC}
 use Rattle.lnfs_world.specs.declared.numbers.TheConstants.{MOST_NAMES}
 use Rattle.lnfs_world.specs.World.{Node, World, is_directory}
 use Rattle.lnfs_world.specs.Names.{names_of}
@@ -18,8 +18,32 @@ use Rattle.lnfs_tree.specs.Changed.{link_of}
 use Rattle.lnfs_nodes.specs.Trees.{with_tree, held_in, Holds, IsHeld, denial, refusal_of}
 use Rattle.lnfs_nodes.specs.Told.{naming, no_directory, follows, cinfo_of}
 use Rattle.lnfs_nodes.specs.declared.held.Held.{Held}
-use Rattle.lnfs_nodes.proofs.Tests.{passed, allowed}
-use Rattle.lnfs_nodes.proofs.Peeling.{named_on, about_node, is_one, directory_on, directory_off}
+use Rattle.lnfs_nodes.proofs.Tests.{passed, barred, allowed}
+use Rattle.lnfs_nodes.proofs.Refusing.{handle_off, denied}
+use Rattle.lnfs_nodes.proofs.Peeling.{named_on, named_off, about_node, is_one, directory_on, directory_off}
+
+-- where a name or a node is wanting
+module _ (site : Site) (at : Place) (rest : World) (t : Rows) (name : List ℕ) where
+  pub name_off : (why : Refusal) → Some (refusal_of why) ≡ naming name → link site name at (with_tree rest t) ≡ refuse at why.gate why.status
+  name_off why e = named_off at name _ why e
+
+  pub node_off : None ≡ naming name → (why : Refusal) → IsHeld t (held_in t.nodes at.saved) (Err why) → link site name at (with_tree rest t) ≡ refuse at why.gate why.status
+  node_off well why held = named_on at name _ well ∙ handle_off at rest t at.saved _ why held
+
+  module _ (well : None ≡ naming name) (node : Held) (node_is : IsHeld t (held_in t.nodes at.saved) (Ok node)) where
+    pub dir_off : (why : Refusal) → IsHeld t (held_in t.nodes at.current) (Err why) → link site name at (with_tree rest t) ≡ refuse at why.gate why.status
+    dir_off why held =
+        named_on at name _ well
+        ∙ about_node (refuse at why.gate why.status) at rest t at.saved _ node node_is (λ n holds. handle_off at rest t at.current _ why held)
+
+    -- what is to be named is a directory
+    pub kind_off : (dir : Held) → IsHeld t (held_in t.nodes at.current) (Ok dir) → is_directory (kind_of node.facts.kind) ≡ true → (why : Refusal) → why ≡ record { gate = Namespace; status = NFS4ERR_ISDIR } → link site name at (with_tree rest t) ≡ refuse at why.gate why.status
+    kind_off dir dir_is is_one why is =
+        named_on at name _ well
+        ∙ about_node (refuse at why.gate why.status) at rest t at.saved _ node node_is (λ n holds_n.
+        about_node (refuse at why.gate why.status) at rest t at.current _ dir dir_is (λ d holds_d.
+        barred (not (is_directory n.kind)) (refuse at Namespace NFS4ERR_ISDIR) _ (ap not (sym (ap is_directory holds_n.tells.kind) ∙ is_one))
+        ∙ ap (λ (r : Refusal). refuse at r.gate r.status) (sym is)))
 
 module _ (site : Site) (at : Place) (rest : World) (t : Rows) (name : List ℕ) (node dir : Held) (well : None ≡ naming name)
     (node_is : IsHeld t (held_in t.nodes at.saved) (Ok node)) (dir_is : IsHeld t (held_in t.nodes at.current) (Ok dir)) (file : is_directory (kind_of node.facts.kind) ≡ false) where
@@ -30,6 +54,27 @@ module _ (site : Site) (at : Place) (rest : World) (t : Rows) (name : List ℕ) 
       ∙ about_node (refuse at why.gate why.status) at rest t at.saved _ node node_is (λ n holds_n.
       about_node (refuse at why.gate why.status) at rest t at.current _ dir dir_is (λ d holds_d.
       passed (not (is_directory n.kind)) _ _ (grind (arith, holds_n.tells.kind, file)) ∙ directory_off at t d dir _ why holds_d e))
+
+  -- the rules of labels refuse a change of its names
+  pub change_off : None ≡ no_directory dir.facts.kind → (why : Refusal) → Some (refusal_of why) ≡ denial site at.subject (ChangeNames dir.facts.label.0) → link site name at (with_tree rest t) ≡ refuse at why.gate why.status
+  change_off is_dir why off =
+      named_on at name _ well
+      ∙ about_node (refuse at why.gate why.status) at rest t at.saved _ node node_is (λ n holds_n.
+      about_node (refuse at why.gate why.status) at rest t at.current _ dir dir_is (λ d holds_d.
+      passed (not (is_directory n.kind)) _ _ (ap not (sym (ap is_directory holds_n.tells.kind) ∙ file))
+      ∙ directory_on at d _ (is_one t d dir holds_d is_dir)
+      ∙ denied site at (ChangeNames d.label) _ why (off ∙ ap (λ (l : ℕ). denial site at.subject (ChangeNames l)) holds_d.tells.label)))
+
+  -- or that the node gets a name
+  pub drop_off : None ≡ no_directory dir.facts.kind → None ≡ denial site at.subject (ChangeNames dir.facts.label.0) → (why : Refusal) → Some (refusal_of why) ≡ denial site at.subject (Drop node.facts.label.0) → link site name at (with_tree rest t) ≡ refuse at why.gate why.status
+  drop_off is_dir may why off =
+      named_on at name _ well
+      ∙ about_node (refuse at why.gate why.status) at rest t at.saved _ node node_is (λ n holds_n.
+      about_node (refuse at why.gate why.status) at rest t at.current _ dir dir_is (λ d holds_d.
+      passed (not (is_directory n.kind)) _ _ (ap not (sym (ap is_directory holds_n.tells.kind) ∙ file))
+      ∙ directory_on at d _ (is_one t d dir holds_d is_dir)
+      ∙ allowed site at (ChangeNames d.label) _ (may ∙ ap (λ (l : ℕ). denial site at.subject (ChangeNames l)) holds_d.tells.label)
+      ∙ denied site at (Drop n.label) _ why (off ∙ ap (λ (l : ℕ). denial site at.subject (Drop l)) holds_n.tells.label)))
 
   -- the tree's tests
   left : (n d : Node) → Holds t n node → Holds t d dir → is_directory n.kind ≡ false → is_directory d.kind ≡ true →

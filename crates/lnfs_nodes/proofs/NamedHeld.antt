@@ -22,7 +22,7 @@ found_held t i f told = at (node_at t.nodes (id_of i)) refl told
 
 module _ (t : Rows) (d : Node) (h : Held) (holds : Holds t d h) (dir : is_directory d.kind ≡ true) (name : List ℕ) where
   -- a look-up in a directory that is held
-  looks_up : looked_up t (id_of h.id) name ≡ or_absent (option_map (λ e. e.node) (entry_at t.entries d.id name))
+  pub looks_up : looked_up t (id_of h.id) name ≡ or_absent (option_map (λ e. e.node) (entry_at t.entries d.id name))
   looks_up = grind (arith, holds.id, holds.at, dir)
 
   pub named_held : (i : NodeId) (f : Facts) → Ok (id_of i) ≡ looked_up t (id_of h.id) name → IsTold t.entries (node_at t.nodes (id_of i)) (Some f) → IsHeld t (named t d.id name) (Ok (record { id = i; facts = f }))

@@ -26,9 +26,9 @@ refused_as {R} p why r e = ap (λ (r : chain.Refusal). refuse {R = R} p r.gate r
 pub on_held : {R : Type 0} (p : Place) (rest : World) (t : Rows) (found : Node → Outcome (Answer R)) (h : Held) (o : Outcome (Answer R)) → IsHeld t (held_in t.nodes p.current) (Ok h) → ((n : Node) → Holds t n h → found n ≡ o) → with_current p (with_tree rest t) found ≡ o
 on_held {R} p rest t found h o held next = about_held (λ (x : Outcome (Answer R)). x ≡ o) p rest t found h held next
 
--- an operation without a node
-pub not_held : {R : Type 0} (p : Place) (rest : World) (t : Rows) (found : Node → Outcome (Answer R)) (why : Refusal) → IsHeld t (held_in t.nodes p.current) (Err why) → with_current p (with_tree rest t) found ≡ refuse p why.gate why.status
-not_held {R} p rest t found why held = at p.current held
+-- an operation without the node of a handle
+pub handle_off : {R : Type 0} (p : Place) (rest : World) (t : Rows) (handle : Option Id) (found : Node → Outcome (Answer R)) (why : Refusal) → IsHeld t (held_in t.nodes handle) (Err why) → with_node p (with_tree rest t) handle found ≡ refuse p why.gate why.status
+handle_off {R} p rest t handle found why held = at handle held
   where
     at_node : (x : Option Node) → IsHeld t (there x) (Err why) → where_there x found (refuse p Namespace NFS4ERR_STALE) ≡ refuse p why.gate why.status
     at_node (Some n) held = absurd held
@@ -37,6 +37,9 @@ not_held {R} p rest t found why held = at p.current held
     at : (i : Option Id) → IsHeld t (held_in t.nodes i) (Err why) → with_node p (with_tree rest t) i found ≡ refuse p why.gate why.status
     at (Some i) held = at_node (node_at t.nodes i) held
     at None held = refused_as p why _ held
+
+pub not_held : {R : Type 0} (p : Place) (rest : World) (t : Rows) (found : Node → Outcome (Answer R)) (why : Refusal) → IsHeld t (held_in t.nodes p.current) (Err why) → with_current p (with_tree rest t) found ≡ refuse p why.gate why.status
+not_held p rest t found why held = handle_off p rest t p.current found why held
 
 -- ---- the rules of labels
 

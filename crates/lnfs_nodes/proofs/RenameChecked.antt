@@ -1,5 +1,6 @@
 -- RENAME behind its own tests: what is left are those of the tree.
 use Rattle.std.proofs.Common.{◌≡◌, refl, ap, sym, ◌∙◌, ℕ, Bool, true, false, not, cond, List, [], ◌∷◌, ◌++◌, Option, Some, None, Result, Ok, Err, option_map, arith}
+use Rattle.std.specs.Prelude.{IfErr, IsErrAnd}
 use Rattle.std.proofs.lemmas.Bool.Decides.{nat_tests}
 use Rattle.lnfs_calipso.specs.Label.{IsPreorderWithBottom}
 use Rattle.lnfs_world.specs.World.{Id, Node, Entry, World, node_at, is_directory, same_id}
@@ -16,7 +17,7 @@ use Rattle.lnfs_operations.specs.declared.Refusal.{Refusal}
 use Rattle.lnfs_arguments.specs.declared.statuses.TheConstants.{NFS4ERR_NOENT, NFS4ERR_INVAL, NFS4ERR_EXIST, NFS4ERR_NOSPC}
 use Rattle.lnfs_operations.specs.declared.Gate.TheVariants.{Namespace, Quota}
 use Rattle.lnfs_operations.specs.Chain.{Answer, refuse, done, demand, where_there}
-use Rattle.lnfs_operations.specs.NewNames.{where_old}
+use Rattle.lnfs_operations.specs.NewNames.{where_directory, where_old}
 use Rattle.lnfs_operations.specs.NewNames as ops
 use Rattle.lnfs_operations.specs.Judged.{where_allowed}
 use Rattle.lnfs_tree.specs.declared.node.Info.{Info}
@@ -27,12 +28,13 @@ use Rattle.lnfs_tree.specs.Rows.{Rows, id_of}
 use Rattle.lnfs_tree.specs.Places.{world_of}
 use Rattle.lnfs_tree.specs.Changed.{Doing, Gone, Room, gone, changed, unchanged, on_node, test, lies_above, rename_of}
 use Rattle.lnfs_tree.specs.Changed as tree
-use Rattle.lnfs_nodes.specs.Trees.{with_tree, Holds, IsHeld, denial, refusal_of}
-use Rattle.lnfs_nodes.specs.Told.{naming, found_at, entered_at, named, follows}
+use Rattle.lnfs_nodes.specs.Trees.{with_tree, held_in, Holds, IsHeld, denial, refusal_of}
+use Rattle.lnfs_nodes.specs.Told.{naming, no_directory, found_at, entered_at, named, follows}
 use Rattle.lnfs_nodes.specs.Renames.{with_ends, AreEnds, taking, giving_way, renamed_of}
 use Rattle.lnfs_nodes.specs.declared.held.Held.{Held}
 use Rattle.lnfs_nodes.proofs.Tests.{allowed}
-use Rattle.lnfs_nodes.proofs.Peeling.{named_on, named_off, about_node, is_one, directory_on}
+use Rattle.lnfs_nodes.proofs.Refusing.{handle_off, denied}
+use Rattle.lnfs_nodes.proofs.Peeling.{named_on, named_off, about_node, is_one, directory_on, directory_off}
 
 -- ---- the tree's walk, and the definition's
 
@@ -59,6 +61,47 @@ walks_alike dom lattice s rest t facts moved b found kind label =
 
 -- ---- the directories
 
+-- what refuses one of them
+pub ends_refused : {A : Type 0} (site : Site) (at : Place → Place) (t : Rows) (r : Result A Refusal) (why : Refusal) → IsErrAnd r (λ e. e ≡ why)
+    → ((p : Place) (rest : World) (next : Node → Node → Outcome (Answer Renamed)) → with_ends site (at p) (with_tree rest t) next ≡ refuse (at p) why.gate why.status)
+    → IfErr r (λ why. (p : Place) (rest : World) (next : Node → Node → Outcome (Answer Renamed)) → with_ends site (at p) (with_tree rest t) next ≡ refuse (at p) why.gate why.status)
+ends_refused site at t (Ok a) why is off = tt
+ends_refused site at t (Err e) why is off = λ p rest next. off p rest next ∙ ap (λ (r : Refusal). refuse (at p) r.gate r.status) (sym is)
+
+module _ (site : Site) (at : Place) (rest : World) (t : Rows) (next : Node → Node → Outcome (Answer Renamed)) where
+  pub source_off : (why : Refusal) → IsHeld t (held_in t.nodes at.saved) (Err why) → with_ends site at (with_tree rest t) next ≡ refuse at why.gate why.status
+  source_off why held = handle_off at rest t at.saved _ why held
+
+  module _ (from : Held) (source : IsHeld t (held_in t.nodes at.saved) (Ok from)) where
+    pub target_off : (why : Refusal) → IsHeld t (held_in t.nodes at.current) (Err why) → with_ends site at (with_tree rest t) next ≡ refuse at why.gate why.status
+    target_off why held = about_node (refuse at why.gate why.status) at rest t at.saved _ from source (λ a holds. handle_off at rest t at.current _ why held)
+
+    module _ (to : Held) (target : IsHeld t (held_in t.nodes at.current) (Ok to)) where
+      -- what follows where both are there
+      both : (o : Outcome (Answer Renamed))
+          → ((a b : Node) → Holds t a from → Holds t b to → where_directory at a (where_directory at b (where_allowed site at (ChangeNames a.label) (where_allowed site at (ChangeNames b.label) (next a b)))) ≡ o)
+          → with_ends site at (with_tree rest t) next ≡ o
+      both o is = about_node o at rest t at.saved _ from source (λ a holds_a. about_node o at rest t at.current _ to target (λ b holds_b. is a b holds_a holds_b))
+
+      pub source_kind_off : (why : Refusal) → Some (refusal_of why) ≡ no_directory from.facts.kind → with_ends site at (with_tree rest t) next ≡ refuse at why.gate why.status
+      source_kind_off why off = both (refuse at why.gate why.status) (λ a b holds_a holds_b. directory_off at t a from _ why holds_a off)
+
+      module _ (source_kind : None ≡ no_directory from.facts.kind) where
+        pub target_kind_off : (why : Refusal) → Some (refusal_of why) ≡ no_directory to.facts.kind → with_ends site at (with_tree rest t) next ≡ refuse at why.gate why.status
+        target_kind_off why off = both (refuse at why.gate why.status) (λ a b holds_a holds_b. directory_on at a _ (is_one t a from holds_a source_kind) ∙ directory_off at t b to _ why holds_b off)
+
+        module _ (target_kind : None ≡ no_directory to.facts.kind) where
+          pub source_label_off : (why : Refusal) → Some (refusal_of why) ≡ denial site at.subject (ChangeNames from.facts.label.0) → with_ends site at (with_tree rest t) next ≡ refuse at why.gate why.status
+          source_label_off why off = both (refuse at why.gate why.status) (λ a b holds_a holds_b.
+              directory_on at a _ (is_one t a from holds_a source_kind) ∙ directory_on at b _ (is_one t b to holds_b target_kind)
+              ∙ denied site at (ChangeNames a.label) _ why (off ∙ ap (λ (l : ℕ). denial site at.subject (ChangeNames l)) holds_a.tells.label))
+
+          pub target_label_off : None ≡ denial site at.subject (ChangeNames from.facts.label.0) → (why : Refusal) → Some (refusal_of why) ≡ denial site at.subject (ChangeNames to.facts.label.0) → with_ends site at (with_tree rest t) next ≡ refuse at why.gate why.status
+          target_label_off may why off = both (refuse at why.gate why.status) (λ a b holds_a holds_b.
+              directory_on at a _ (is_one t a from holds_a source_kind) ∙ directory_on at b _ (is_one t b to holds_b target_kind)
+              ∙ allowed site at (ChangeNames a.label) _ (may ∙ ap (λ (l : ℕ). denial site at.subject (ChangeNames l)) holds_a.tells.label)
+              ∙ denied site at (ChangeNames b.label) _ why (off ∙ ap (λ (l : ℕ). denial site at.subject (ChangeNames l)) holds_b.tells.label))
+
 module _ (site : Site) (at : Place) (rest : World) (t : Rows) where
   -- what follows where both may be changed
   reaches : (from to : Held) → AreEnds site at.subject t at.saved at.current from to → (next : Node → Node → Outcome (Answer Renamed)) (o : Outcome (Answer Renamed))
@@ -75,7 +118,7 @@ module _ (site : Site) (at : Place) (rest : World) (t : Rows) where
 
   -- ---- the name that moves
 
-  old_off : (d : Node) (name : List ℕ) (next : Entry → Node → Outcome (Answer Renamed)) (why : Refusal) → IsHeld t (named t d.id name) (Err why) → where_old at (with_tree rest t) d name next ≡ refuse at why.gate why.status
+  pub old_off : {R : Type 0} (d : Node) (name : List ℕ) (next : Entry → Node → Outcome (Answer R)) (why : Refusal) → IsHeld t (named t d.id name) (Err why) → where_old at (with_tree rest t) d name next ≡ refuse at why.gate why.status
   old_off d name next why held = grind (arith, held)
 
   module _ (new : List ℕ) where
@@ -131,11 +174,11 @@ module _ (site : Site) (at : Place) (rest : World) (t : Rows) where
         by_same true way = refl
         by_same false way = ap (λ (x : Option Entry). where_there x (λ e. where_there (node_at t.nodes e.node) (next e) absent) absent) e ∙ by_node (node_at t.nodes other.node) way
 
-  old_on : (d : Node) (name : List ℕ) (next : Entry → Node → Outcome (Answer Renamed)) (o : Outcome (Answer Renamed)) (h : Held) → IsHeld t (named t d.id name) (Ok h)
+  pub old_on : {R : Type 0} (d : Node) (name : List ℕ) (next : Entry → Node → Outcome (Answer R)) (o : Outcome (Answer R)) (h : Held) → IsHeld t (named t d.id name) (Ok h)
       → ((e : Entry) (n : Node) → entry_at t.entries d.id name ≡ Some e → node_at t.nodes e.node ≡ Some n → Holds t n h → next e n ≡ o) → where_old at (with_tree rest t) d name next ≡ o
-  old_on d name next o h held is = by_entry (entry_at t.entries d.id name) refl held
+  old_on {R} d name next o h held is = by_entry (entry_at t.entries d.id name) refl held
     where
-      absent : Outcome (Answer Renamed)
+      absent : Outcome (Answer R)
       absent = refuse at Namespace NFS4ERR_NOENT
 
       by_node : (e : Entry) → entry_at t.entries d.id name ≡ Some e → (x : Option Node) → node_at t.nodes e.node ≡ x → IsHeld t (found_at x) (Ok h) → where_there x (next e) absent ≡ o

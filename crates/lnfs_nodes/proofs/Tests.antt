@@ -12,6 +12,10 @@ use Rattle.lnfs_nodes.specs.Trees.{denial}
 pub passed : {A : Type 0} (b : Bool) (refusal next : Outcome A) → b ≡ true → demand b refusal next ≡ next
 passed b refusal next e = ap (λ (b : Bool). demand b refusal next) e
 
+-- and one that doesn't
+pub barred : {A : Type 0} (b : Bool) (refusal next : Outcome A) → b ≡ false → demand b refusal next ≡ refusal
+barred b refusal next e = ap (λ (b : Bool). demand b refusal next) e
+
 -- a question of which the rules of labels refuse nothing
 pub allowed : {R : Type 0} (site : Site) (p : Place) (asks : Asks) (next : Outcome (Answer R)) → None ≡ denial site p.subject asks → where_allowed site p asks next ≡ next
 allowed {R} site p asks next e = at (allows site.dom p.subject asks) e

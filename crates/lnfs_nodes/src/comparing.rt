@@ -102,11 +102,14 @@ pub fn verify(
         let at = record p { subject = viewer.subject.0; current = option_map id_of current } in
         verify (site_of site.now) given.now at (with_tree rest tree.now) ≡ stays at (answered (λ it. it) answer)) }
 {
-    match is_same(alloc, site, tree, viewer, current, given)? {
-        Ok(true) => Ok(Ok(())),
-        Ok(false) => Ok(Err(namespace(NFS4ERR_NOT_SAME))),
-        Err(why) => Ok(Err(why)),
+    let same = match is_same(alloc, site, tree, viewer, current, given)? {
+        Ok(same) => same,
+        Err(why) => return Ok(Err(why)),
+    };
+    if !same {
+        return Ok(Err(namespace(NFS4ERR_NOT_SAME)));
     }
+    Ok(Ok(()))
 }
 
 /// Whether they differ from those given.
@@ -127,9 +130,12 @@ pub fn nverify(
         let at = record p { subject = viewer.subject.0; current = option_map id_of current } in
         nverify (site_of site.now) given.now at (with_tree rest tree.now) ≡ stays at (answered (λ it. it) answer)) }
 {
-    match is_same(alloc, site, tree, viewer, current, given)? {
-        Ok(true) => Ok(Err(namespace(NFS4ERR_SAME))),
-        Ok(false) => Ok(Ok(())),
-        Err(why) => Ok(Err(why)),
+    let same = match is_same(alloc, site, tree, viewer, current, given)? {
+        Ok(same) => same,
+        Err(why) => return Ok(Err(why)),
+    };
+    if same {
+        return Ok(Err(namespace(NFS4ERR_SAME)));
     }
+    Ok(Ok(()))
 }

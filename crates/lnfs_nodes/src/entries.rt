@@ -112,7 +112,6 @@ fn node_seen(lister: &Lister<'_>, tree: &Tree, node: NodeId) -> Result<Option<Se
 }
 
 /// Appends an entry with the word before it.
-#[tactic(auto, unfolding(lnfs_results::specs::Texts::entry_text))]
 fn put_seen(
     lister: &Lister<'_>,
     entry: &Entry,
