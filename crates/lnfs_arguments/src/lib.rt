@@ -26,6 +26,3 @@ pub use stateid::{Cinfo, StateId, cinfo_of, put_cinfo, put_state_id, state_id_of
 pub use types::{
     Callback, Claim, Compound, CreateSession, Implementation, Making, Op, Sequence, What,
 };
-
-#[cfg(test)]
-mod tests;

@@ -18,6 +18,3 @@ pub use raw::RawAttrs;
 pub use settable::{AttrError, AttrSet};
 pub use setting::read_settable;
 pub use view::{LabelValue, Moment, View};
-
-#[cfg(test)]
-mod tests;

@@ -15,6 +15,3 @@ pub use lattice::{Lattice, LatticeError, MAX_LEVELS};
 /// A level: the place of a label in the site's list.
 #[derive(Clone, Copy, Debug, PartialEq, Eq, PartialOrd, Ord)]
 pub struct Level(pub u32);
-
-#[cfg(test)]
-mod tests;

@@ -1,13 +1,7 @@
-//! Command lines, and services of links in memory: statuses, what the streams get, and what the links take.
+//! Command lines: statuses, and what the streams get.
 #![tactic(auto)]
 
 #[cfg(test)]
-mod codecs;
-#[cfg(test)]
 mod commands;
-#[cfg(test)]
-mod ordinary;
-#[cfg(test)]
-mod services;
 #[cfg(test)]
 mod streams;

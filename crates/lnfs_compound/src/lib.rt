@@ -6,8 +6,6 @@
 #![tactic(auto)]
 
 mod bound;
-#[cfg(test)]
-mod tests;
 
 pub use bound::{bounds, reply_bound};
 pub use lnfs_arguments::{

@@ -8,6 +8,3 @@ mod limits;
 
 pub use content::Content;
 pub use limits::{MOST_BYTES, fits};
-
-#[cfg(test)]
-mod tests;

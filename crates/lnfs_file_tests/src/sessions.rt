@@ -1,12 +1,12 @@
 //! Files in recordings, by several levels, clients and owners. All are laid out by hand, in words, from RFC 8881 sections
 //! 2.10.6 (requests that come again), 9.7 (share reservations), 18.2 (CLOSE), 18.16 (OPEN), 18.22 (READ), 18.32 (WRITE),
-//! 18.35 to 18.37 and 18.50.
+//! 18.35 to 18.37, 18.50 and 18.51.
 //!
 //! Of the operations' numbers, 4 is CLOSE, 9 GETATTR, 10 GETFH, 15 LOOKUP, 18 OPEN, 22 PUTFH, 24 PUTROOTFH, 25 READ, 26
-//! READDIR, 34 SETATTR and 38 WRITE, and 42 EXCHANGE_ID, 43 CREATE_SESSION, 44 DESTROY_SESSION, 53 SEQUENCE and 57
-//! DESTROY_CLIENTID.
+//! READDIR, 34 SETATTR and 38 WRITE, and 42 EXCHANGE_ID, 43 CREATE_SESSION, 44 DESTROY_SESSION, 53 SEQUENCE, 57
+//! DESTROY_CLIENTID and 58 RECLAIM_COMPLETE.
 use lnfs_trials::flaw::Flaw;
-use lnfs_trials::records::check;
+use lnfs_trials::records::{check, check_row};
 use lnfs_trials::sessions::check_opened;
 use lnfs_trials::stories::{Story, check_stories};
 use std::alloc::{AllocError, Global};
@@ -172,10 +172,33 @@ TOP 18 0 3 0 BY_O PLAIN 0 1 'z' 0x000000 10 | 0 10 22 0 18 0 1 3 0 1 1 0 1 0 2 0
 0 5 24 0 9 0 1 24 16 0 2 0 4 15 0 9 0 2 24 0x00300002 44 0 2 0 6 420 0 100 0 0 100 0
 ";
 
+/// The row of a file of zeros, which is read so that 136 bytes are left of a response of 2,048, and then 132: 128 are reserved,
+/// and each of the results behind the READ takes 8. The place of an operation is tested before its room.
+fn place_and_room(alloc: Global) -> Result<String, AllocError> {
+    let zeros = "00".repeat(alloc, 1832)?;
+    let fits = format!(in alloc; "SLOTS 22 0 25 0 0 1832 0x{zeros}")?;
+    let fills = format!(in alloc; "SLOTS 22 0 25 0 0 1836 0x{zeros}00000000")?;
+    format!(in alloc;
+        "what is left behind a READ | \
+CALL SYS EXCHANGE 'c1' REST / CALL SYS CREATE 0 1 1 0 0 65536 2048 65536 32 16 0 CHANNEL 0 0 / \
+CALL SYS 0 2 3 SEQUENCE 1 0 0 1 24 18 0 1 0 BY_O 1 0 1 16 8 0 1900 CALLED_F / \
+CALL SYS 0 2 4 SEQUENCE 2 0 0 1 PUT_F 25 ANON 0 0 1832 58 0 / \
+CALL SYS 0 2 4 SEQUENCE 3 0 0 1 PUT_F 25 ANON 0 0 1832 57 0 1 / \
+CALL SYS 0 2 4 SEQUENCE 4 0 0 1 PUT_F 25 ANON 0 0 1836 58 0 / \
+CALL SYS 0 2 4 SEQUENCE 5 0 0 1 PUT_F 25 ANON 0 0 1836 57 0 1 | \
+EXCHANGED 0 1 SERVER / CREATED 0 0 1 0 1 0 0 65536 2048 2048 32 16 0 CHANNEL / \
+ACCEPTED 0 0 0 3 SEQUENCED 1 0 SLOTS 24 0 18 0 1 0 0 1 1 0 1 0 2 0 1 16 0 / \
+ACCEPTED 0 0 0 4 SEQUENCED 2 0 {fits} 58 0 / ACCEPTED 0 10081 0 4 SEQUENCED 3 0 {fits} 57 10081 / \
+ACCEPTED 0 10066 0 4 SEQUENCED 4 0 {fills} 58 10066 / ACCEPTED 0 10081 0 4 SEQUENCED 5 0 {fills} 57 10081 | \
+5 4 57 S 10081 | 6 4 58 R 10066 | 7 4 57 S 10081"
+    )
+}
+
 #[test]
 fn clients_and_files(rt: HostRuntime) -> Result<(), Flaw> {
     check_opened(&rt, rt.alloc(), CLIENTS, 6)?;
-    check(&rt, rt.alloc(), ROOM, 2)
+    check(&rt, rt.alloc(), ROOM, 2)?;
+    check_row(&rt, rt.alloc(), &place_and_room(rt.alloc())?)
 }
 
 #[test]

@@ -19,6 +19,3 @@ pub use kind::{Kind, NameRow};
 pub use name::{read_name, write_name};
 pub use plain::{read_kind, write_kind};
 pub use text::{read_comps, read_text, write_comps, write_text};
-
-#[cfg(test)]
-mod tests;

@@ -9,8 +9,6 @@ mod caller;
 mod contexts;
 mod credential;
 mod digest;
-#[cfg(test)]
-mod drafts;
 mod errors;
 mod guests;
 mod handle;
@@ -20,12 +18,8 @@ mod mechanism;
 pub mod numbers;
 mod plain;
 mod replies;
-#[cfg(test)]
-mod reply_tests;
 mod rows;
 mod signing;
-#[cfg(test)]
-mod tests;
 mod whose;
 
 pub use caller::Caller;

@@ -6,6 +6,3 @@ mod table;
 
 pub use lnfs_format::Pair;
 pub use table::{MapError, TranslationTable};
-
-#[cfg(test)]
-mod tests;

@@ -4,8 +4,6 @@
 mod judging;
 mod question;
 mod rule;
-#[cfg(test)]
-mod tests;
 
 pub use judging::{dominates, judge};
 pub use question::{Question, Verdict};

@@ -14,8 +14,6 @@ mod opens;
 mod owners;
 mod rows;
 mod shares;
-#[cfg(test)]
-mod tests;
 
 pub use keys::{ClientKey, NodeKey, OpenError, OpenRef, OpenRow};
 pub use numbers::{LAST_SEQUENCE, OPENS_OF_A_LEVEL};

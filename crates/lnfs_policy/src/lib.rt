@@ -17,8 +17,3 @@ pub use mode::Mode;
 pub use policy::Policy;
 pub use read::{read_policy, write_policy};
 pub use rows::{DirLine, Guest, Limit, Parent, Quota};
-
-#[cfg(test)]
-mod site_tests;
-#[cfg(test)]
-mod tests;

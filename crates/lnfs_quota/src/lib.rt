@@ -11,6 +11,3 @@ mod quota;
 
 pub use laws::{totals, usage};
 pub use quota::{Quota, QuotaError, Row};
-
-#[cfg(test)]
-mod tests;

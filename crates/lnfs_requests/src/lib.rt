@@ -8,6 +8,3 @@ mod write_table;
 mod writing;
 
 pub use writing::write_compound;
-
-#[cfg(test)]
-mod write_tests;

@@ -12,8 +12,6 @@ mod numbers;
 mod promises;
 mod replies;
 mod streams;
-#[cfg(test)]
-mod tests;
 
 pub use authsys::{Sys, read_sys};
 pub use calls::{Auth, Call, CallError, read_call};

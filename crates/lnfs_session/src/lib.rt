@@ -17,8 +17,6 @@ mod owners;
 mod records;
 mod rows;
 mod sequence;
-#[cfg(test)]
-mod tests;
 
 pub use clients::{Clients, SessionError};
 pub use create::Created;

@@ -13,6 +13,3 @@ pub use first::{first_dirs, first_tree, root_label};
 pub use labels::Labels;
 pub use reading::LabelRead;
 pub use site::Site;
-
-#[cfg(test)]
-mod tests;

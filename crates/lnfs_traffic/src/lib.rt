@@ -10,14 +10,10 @@ mod calls;
 mod error;
 mod events;
 mod generator;
-#[cfg(test)]
-mod generator_tests;
 mod guests;
 mod laws;
 mod pieces;
 mod reading;
-#[cfg(test)]
-mod tests;
 mod turns;
 mod writing;
 

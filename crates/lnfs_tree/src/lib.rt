@@ -18,10 +18,3 @@ mod tying;
 
 pub use node::{DirSpec, Dropped, Entry, Facts, Fresh, Info, NodeId, NodeKind, Stored, TreeError};
 pub use tree::Tree;
-
-#[cfg(test)]
-mod data_tests;
-#[cfg(test)]
-mod many_tests;
-#[cfg(test)]
-mod tests;

@@ -13,6 +13,3 @@ pub use numbers::{number, number_up_to};
 pub use parts::Parts;
 pub use paths::{is_component, is_path, parent_of};
 pub use words::{is_ascii, is_worded, spells};
-
-#[cfg(test)]
-mod tests;

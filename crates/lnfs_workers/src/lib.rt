@@ -15,8 +15,6 @@ mod line;
 mod link;
 mod pool;
 mod reading;
-#[cfg(test)]
-mod tests;
 mod writing;
 
 pub use ending::Ending;

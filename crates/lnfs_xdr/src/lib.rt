@@ -9,8 +9,6 @@ mod limits;
 mod promises;
 mod reader;
 mod slices;
-#[cfg(test)]
-mod tests;
 mod writer;
 
 pub use error::XdrError;

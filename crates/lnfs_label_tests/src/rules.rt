@@ -1,0 +1,243 @@
+//! Policies that are read, and what they say.
+
+use crate::policy::read;
+use lnfs_calipso::Level;
+use lnfs_policy::{Cause, Limit, Mode, Policy, PolicyError, write_policy};
+use std::alloc::{AllocError, Global};
+use std::process::Abort;
+use std::test::Fail;
+
+/// A policy with each kind of line.
+const SITE: &str = "lnfs-policy 1
+mode enforcing
+level 0 1 0 -
+level 1 1 1 c0
+level 2 1 1 c1
+level 3 1 3 c0.c2,c5
+format 101 1 calipso
+format 102 1 text
+format 103 0 name
+name 103 0 0 6f70656e
+parent 7 0101010101010101010101010101010101010101010101010101010101010101 3
+guest 0 * 0
+guest 1 100 1
+guest 1 200 2
+guest 1 300 3
+guest 7 5 1
+guest 7 * 0
+guest 7 6 1
+quota 1 8 4096
+dir /one 1
+dir /two 2
+dir /top 3
+";
+
+/// Whether the first of two levels dominates the second.
+const DOMINATING: &[(u32, u32, bool)] = &[
+    (0, 0, true),
+    (3, 0, true),
+    (0, 3, false),
+    (1, 2, false),
+    (2, 1, false),
+    (3, 2, true),
+];
+
+fn expect_levels(rt: &impl Abort, policy: &Policy) {
+    assert_eq!(rt; policy.mode(), Mode::Enforcing);
+    assert_eq!(rt; policy.lattice().len(), 4);
+    for (a, b, dominates) in DOMINATING {
+        assert_eq!(rt; policy.lattice().dom(Level(*a), Level(*b)), *dominates);
+    }
+    let formats = policy.formats();
+    assert!(rt;
+        formats
+            .first()
+            .is_some_and(|first| first.lfs == 101 && first.pi == 1)
+    );
+    assert!(rt; formats.entry(103, 0).is_some());
+    assert!(rt; formats.entry(104, 0).is_none());
+}
+
+fn expect_parents_limits_and_dirs(rt: &impl Abort, policy: &Policy) {
+    assert_eq!(rt;
+        policy.parent(7).map(|parent| parent.clearance),
+        Some(Level(3))
+    );
+    assert!(rt;
+        policy
+            .parent(7)
+            .is_some_and(|parent| parent.secret == [1; 32])
+    );
+    assert!(rt; policy.parent(8).is_none());
+    let limit = Limit {
+        nodes: 8,
+        bytes: 4096,
+    };
+    assert_eq!(rt; policy.limit(Level(1)), limit);
+    let default = Limit {
+        nodes: 4096,
+        bytes: 67_108_864,
+    };
+    assert_eq!(rt; policy.limit(Level(0)), default);
+    assert_eq!(rt; policy.dirs().len(), 3);
+    let top = &policy.dirs()[2];
+    assert!(rt; top.path.as_slice() == b"/top".as_slice() && top.level.0 == 3);
+}
+
+/// Classes and users, and the level of such a guest.
+const GUESTS: &[(u32, Option<u32>, Option<Level>)] = &[
+    (0, None, Some(Level(0))),
+    (0, Some(7), Some(Level(0))),
+    (1, Some(100), Some(Level(1))),
+    (1, Some(200), Some(Level(2))),
+    (1, Some(300), Some(Level(3))),
+    (1, Some(400), None),
+    (1, None, None),
+    (2, Some(100), None),
+    // the first line that fits
+    (7, Some(5), Some(Level(1))),
+    (7, Some(6), Some(Level(0))),
+    (7, None, Some(Level(0))),
+];
+
+fn expect_guests(rt: &impl Abort, policy: &Policy) {
+    assert_eq!(rt; policy.guests().len(), 7);
+    for (class, uid, level) in GUESTS {
+        assert_eq!(rt; policy.guest_level(*class, *uid), *level);
+    }
+}
+
+#[test]
+fn what_a_site_says(rt: HostRuntime) -> Result<(), Fail> {
+    let policy = read(rt.alloc(), SITE).ok().ok_or("refused")?;
+    expect_levels(&rt, &policy);
+    expect_parents_limits_and_dirs(&rt, &policy);
+    expect_guests(&rt, &policy);
+    Ok(())
+}
+
+/// Whether the canonical text of one text is the other.
+fn expect_canonical(
+    rt: &impl Abort,
+    alloc: Global,
+    text: &str,
+    canonical: &str,
+) -> Result<(), Fail> {
+    let policy = read(alloc, text).ok().ok_or("refused")?;
+    let written = write_policy(alloc, &policy)?;
+    assert!(rt; written.as_slice() == canonical.as_bytes());
+    Ok(())
+}
+
+#[test]
+fn canonical_texts(rt: HostRuntime) -> Result<(), Fail> {
+    let alloc = rt.alloc();
+    expect_canonical(&rt, alloc, SITE, SITE)?;
+    let commented = format!(in alloc; "\n# a site\n#\t\x01 of four levels\n{SITE}\n#the end\n")?;
+    expect_canonical(&rt, alloc, &commented, SITE)?;
+    expect_canonical(
+        &rt,
+        alloc,
+        "lnfs-policy 1\n#\nmode limited\nlevel 0 9 7 c0.c255\n\nformat 2 9 text\n",
+        "lnfs-policy 1\nmode limited\nlevel 0 9 7 c0.c255\nformat 2 9 text\n",
+    )?;
+    Ok(())
+}
+
+/// Whether one line more is refused at that line.
+fn expect_refused(
+    rt: &impl Abort,
+    alloc: Global,
+    text: &str,
+    more: &str,
+    line: u64,
+    cause: Cause,
+) -> Result<(), AllocError> {
+    let longer = format!(in alloc; "{text}{more}")?;
+    let refused = read(alloc, &longer).err();
+    assert_eq!(rt; refused, Some(PolicyError::Refused { line, cause }));
+    Ok(())
+}
+
+/// And whether the lines before it are taken.
+fn expect_full(
+    rt: &impl Abort,
+    alloc: Global,
+    text: &str,
+    more: &str,
+    line: u64,
+    cause: Cause,
+) -> Result<(), AllocError> {
+    assert!(rt; read(alloc, text).is_ok());
+    expect_refused(rt, alloc, text, more, line, cause)
+}
+
+/// The version, the mode and 32 levels.
+fn all_levels(alloc: Global) -> Result<String, AllocError> {
+    let mut text = String::from_str(alloc, "lnfs-policy 1\nmode enforcing\n")?;
+    for level in 0..32 {
+        text.push_str(&format!(in alloc; "level {level} 4294967295 {level} -\n")?)?;
+    }
+    Ok(text)
+}
+
+/// And eight formats.
+fn all_formats(alloc: Global) -> Result<String, AllocError> {
+    let mut text = all_levels(alloc)?;
+    for pi in 0..8 {
+        text.push_str(&format!(in alloc; "format 101 {pi} calipso\n")?)?;
+    }
+    Ok(text)
+}
+
+/// And 256 directories.
+fn all_dirs(alloc: Global) -> Result<String, AllocError> {
+    let mut text = all_formats(alloc)?;
+    for dir in 0..256 {
+        text.push_str(&format!(in alloc; "dir /d{dir} 31\n")?)?;
+    }
+    Ok(text)
+}
+
+#[test]
+fn full_tables(rt: HostRuntime) -> Result<(), Fail> {
+    let alloc = rt.alloc();
+    let more = "level 32 4294967295 255 -\n";
+    expect_refused(&rt, alloc, &all_levels(alloc)?, more, 35, Cause::Level)?;
+    let more = "format 101 8 calipso\n";
+    expect_full(&rt, alloc, &all_formats(alloc)?, more, 43, Cause::Format)?;
+    let more = "dir /d256 31\n";
+    expect_full(&rt, alloc, &all_dirs(alloc)?, more, 299, Cause::Dir)?;
+    Ok(())
+}
+
+/// Paths of so many names, each below the one before.
+fn nested(alloc: Global, depth: u32) -> Result<String, AllocError> {
+    let mut lines = String::new(alloc);
+    let mut path = String::new(alloc);
+    for _ in 0..depth {
+        path.push_str("/d")?;
+        lines.push_str(&format!(in alloc; "dir {path} 0\n")?)?;
+    }
+    Ok(lines)
+}
+
+#[test]
+fn long_paths(rt: HostRuntime) -> Result<(), Fail> {
+    let alloc = rt.alloc();
+    let front = "lnfs-policy 1\nmode enforcing\nlevel 0 1 0 -\nformat 1 1 calipso\n";
+    let text = format!(in alloc; "{front}{}", nested(alloc, 16)?)?;
+    expect_full(
+        &rt,
+        alloc,
+        &text,
+        "dir /d/d/d/d/d/d/d/d/d/d/d/d/d/d/d/d/d 0\n",
+        21,
+        Cause::Dir,
+    )?;
+    let name = "n".repeat(alloc, 255)?;
+    let text = format!(in alloc; "{front}dir /{name} 0\n")?;
+    let more = format!(in alloc; "dir /{name}n 0\n")?;
+    expect_full(&rt, alloc, &text, &more, 6, Cause::Dir)?;
+    Ok(())
+}

@@ -1,0 +1,15 @@
+//! Services of links in memory: statuses, what the streams get, and what the links take.
+#![tactic(auto)]
+
+#[cfg(test)]
+mod codecs;
+#[cfg(test)]
+mod order;
+#[cfg(test)]
+mod ordinary;
+#[cfg(test)]
+mod pool;
+#[cfg(test)]
+mod served;
+#[cfg(test)]
+mod services;

@@ -1,0 +1,91 @@
+//! Links that are served in a new vault.
+ghost use Rattle.std.specs.Prelude.{◌≡◌, ◌≤◌, ◌<◌, [], IfOk};
+
+use crate::codecs::codecs_of;
+use lnfs_format::Codecs;
+use lnfs_gss3::Mechanism;
+use lnfs_outside::{Event, Link};
+use lnfs_policy::read_policy;
+use lnfs_traffic::write_traffic;
+use lnfs_trials::runs::still;
+use lnfs_trials::site::POLICY;
+use lnfs_vault::{AuditLine, Vault};
+use lnfs_workers::{Gate, LinkEnd, serve_all};
+use std::alloc::{AllocError, Global};
+use std::process::Abort;
+use std::sync::Wait;
+use std::thread::Threads;
+
+/// What a service came to: the links of the journal's events, in their order, the journal's recording, the ends of the links,
+/// and the places of the audit lines.
+#[derive(Drop)]
+pub struct Served<L> {
+    pub order: Vec<u32>,
+    pub recording: Vec<u8>,
+    pub ends: Vec<LinkEnd<L>>,
+    pub lines: Vec<u64>,
+}
+
+/// A vault that served nothing.
+fn new_vault<M: Mechanism + Drop>(
+    rt: &impl Abort,
+    alloc: Global,
+    codecs: &Codecs,
+    mechanism: M,
+) -> Result<Vault<M>, AllocError>
+    ensures { IfOk result (λ vault. vault.journal ≡ []) }
+{
+    let read = read_policy(alloc, POLICY.as_bytes(), codecs);
+    let policy = read.ok().expect(rt, "a policy");
+    Vault::new(alloc, policy, codecs, mechanism)
+}
+
+/// The links of the events of a journal.
+fn links_in(alloc: Global, journal: &[Event]) -> Result<Vec<u32>, AllocError> {
+    let mut links = Vec::new(alloc);
+    for event in journal {
+        links.push(event.link)?;
+    }
+    Ok(links)
+}
+
+/// The places of lines.
+fn places_in(alloc: Global, lines: &[AuditLine]) -> Result<Vec<u64>, AllocError> {
+    let mut places = Vec::new(alloc);
+    for line in lines {
+        places.push(line.event)?;
+    }
+    Ok(places)
+}
+
+/// Serves links in a new vault, under a mechanism of signatures.
+pub fn serve<
+    M: Mechanism + Send + Drop,
+    L: Link + Send + Drop,
+    G: Gate + Sync,
+    R: Threads + Wait + Sync + Abort,
+>(
+    rt: &R,
+    alloc: Global,
+    mechanism: M,
+    gate: &G,
+    links: Vec<(u32, L)>,
+    workers: u32,
+) -> Result<Served<L>, AllocError>
+    requires some { 0 < workers }
+    requires few { workers ≤ 16 }
+{
+    if links.len() > 64 {
+        return Err(AllocError);
+    }
+    let codecs = codecs_of(alloc)?;
+    let vault = new_vault(rt, alloc, &codecs, mechanism)?;
+    let clock = still(alloc)?;
+    let ended = serve_all(rt, alloc, &codecs, vault, &clock, gate, links, workers)?;
+    Ok(Served {
+        order: links_in(alloc, ended.vault.journal())?,
+        recording: write_traffic(alloc, ended.vault.journal())?,
+        ends: ended.ends,
+        lines: places_in(alloc, &ended.lines)?,
+    })
+}

@@ -1,5 +1,0 @@
-use Rattle.lnfs_tree.specs.Changed.{IsSound}
-use Rattle.lnfs_tree.proofs.many_tests.filled.Given as goal
-
-abbrev pub invariant-loop-number : goal.invariant-loop-number
-invariant-loop-number l = IsSound l.tree
