@@ -13,7 +13,7 @@ use lnfs_gss3::KeyedDigest;
 use lnfs_outside::MemLink;
 use lnfs_trials::flaw::Flaw;
 use lnfs_trials::rows::{Due, cells_of, put, rows_of};
-use lnfs_trials::runs::{NONE, gives, run_over};
+use lnfs_trials::runs::{NONE, Runtime, gives, run_over};
 use lnfs_trials::services::{net_of, peer_of, run_service, sent};
 use lnfs_workers::{Ending, LinkEnd};
 use std::alloc::{AllocError, Global};
@@ -184,7 +184,27 @@ fn links_of<'a>(
     Ok(links)
 }
 
-/// Compares the ends of the links with what is due.
+/// Compares the end of a link with what is due.
+fn check_end(
+    rt: &impl Abort,
+    alloc: Global,
+    table: &str,
+    end: &LinkEnd<Counted<'_>>,
+    due: (u32, &str, u32),
+) -> Result<(), Flaw> {
+    let (class, link, records) = due;
+    assert_eq!(rt; end.class, class, "class of {link}");
+    assert_eq!(rt; end.ending, Ending::Closed, "ending of {link}");
+    assert_eq!(rt; end.records, records, "records of {link}");
+    let frames = replies(rt, alloc, table, link)?;
+    assert!(rt;
+        end.link.link.bytes() == frames.as_slice(),
+        "link {link} took"
+    );
+    Ok(())
+}
+
+/// The same of all links.
 fn check_ends(
     rt: &impl Abort,
     alloc: Global,
@@ -193,15 +213,7 @@ fn check_ends(
 ) -> Result<(), Flaw> {
     assert_eq!(rt; ends.len(), LINKS.len(), "links");
     for (end, due) in ends.iter().zip(&LINKS) {
-        let (class, link, records) = *due;
-        assert_eq!(rt; end.class, class, "class of {link}");
-        assert_eq!(rt; end.ending, Ending::Closed, "ending of {link}");
-        assert_eq!(rt; end.records, records, "records of {link}");
-        let frames = replies(rt, alloc, table, link)?;
-        assert!(rt;
-            end.link.link.bytes() == frames.as_slice(),
-            "link {link} took"
-        );
+        check_end(rt, alloc, table, end, *due)?;
     }
     Ok(())
 }
@@ -231,6 +243,17 @@ fn in_one_order(rt: HostRuntime) -> Result<(), Flaw> {
     gives(alloc, "the replay", &again, &due)
 }
 
+/// Serves links that are sent these records by four workers.
+fn serve_any<R: Runtime + Abort>(rt: &R, alloc: Global, records: [&str; 3]) -> Result<(), Flaw> {
+    let [first, second, third] = records;
+    let peers = [peer_of(0, first), peer_of(1, second), peer_of(1, third)];
+    let mut net = net_of(alloc, &peers, &[])?;
+    let ran = run_service(rt, alloc, "serve p 0,1,1 4", &mut net, NONE)?;
+    assert_eq!(rt; ran.0, 0, "status");
+    assert!(rt; ran.2.bytes().ends_with(ENDS), "the lines of the links");
+    Ok(())
+}
+
 /// The same links in whatever order their requests are served: the client may look for the file before it is made, so that
 /// there may be audit lines.
 #[test]
@@ -240,10 +263,5 @@ fn in_any_order(rt: HostRuntime) -> Result<(), Flaw> {
     let first = column(&rt, alloc, &table, "0", 1)?;
     let second = column(&rt, alloc, &table, "1", 1)?;
     let third = column(&rt, alloc, &table, "2", 1)?;
-    let peers = [peer_of(0, &first), peer_of(1, &second), peer_of(1, &third)];
-    let mut net = net_of(alloc, &peers, &[])?;
-    let ran = run_service(&rt, alloc, "serve p 0,1,1 4", &mut net, NONE)?;
-    assert_eq!(rt; ran.0, 0, "status");
-    assert!(rt; ran.2.bytes().ends_with(ENDS), "the lines of the links");
-    Ok(())
+    serve_any(&rt, alloc, [&first, &second, &third])
 }

@@ -63,7 +63,24 @@ fn links_of(alloc: Global, given: &[Given<'_>]) -> Result<Vec<(u32, MemLink)>, A
     Ok(links)
 }
 
-/// Compares the ends of links with what is due.
+/// Compares the end of a link with what is due.
+fn one_ends_as(
+    rt: &impl Abort,
+    alloc: Global,
+    i: usize,
+    end: &LinkEnd<MemLink>,
+    class: u32,
+    due: &Due<'_>,
+) -> Result<(), AllocError> {
+    assert_eq!(rt; end.class, class, "class of {i}");
+    assert_eq!(rt; end.ending, due.ending, "ending of {i}");
+    assert_eq!(rt; end.records, due.records, "records of {i}");
+    let output = spelled(alloc, due.output)?;
+    assert!(rt; end.link.bytes() == output.as_slice(), "output of {i}");
+    Ok(())
+}
+
+/// The same of all links.
 fn end_as(
     rt: &impl Abort,
     alloc: Global,
@@ -73,11 +90,7 @@ fn end_as(
 ) -> Result<(), AllocError> {
     assert_eq!(rt; ends.len(), due.len(), "links");
     for (i, ((end, one), due)) in ends.iter().zip(given).zip(due).enumerate() {
-        assert_eq!(rt; end.class, one.class, "class of {i}");
-        assert_eq!(rt; end.ending, due.ending, "ending of {i}");
-        assert_eq!(rt; end.records, due.records, "records of {i}");
-        let output = spelled(alloc, due.output)?;
-        assert!(rt; end.link.bytes() == output.as_slice(), "output of {i}");
+        one_ends_as(rt, alloc, i, end, one.class, due)?;
     }
     Ok(())
 }

@@ -1,5 +1,6 @@
 //! Links that are served in a new vault.
-ghost use Rattle.std.specs.Prelude.{◌≡◌, ◌≤◌, ◌<◌, [], IfOk};
+ghost use Rattle.std.specs.Prelude.{◌≡◌, ◌≤◌, ◌<◌, [], All, IfOk, length};
+ghost use Rattle.lnfs_outside.specs.Moments.{Fits};
 
 use crate::codecs::codecs_of;
 use lnfs_format::Codecs;
@@ -10,7 +11,7 @@ use lnfs_traffic::write_traffic;
 use lnfs_trials::runs::still;
 use lnfs_trials::site::POLICY;
 use lnfs_vault::{AuditLine, Vault};
-use lnfs_workers::{Gate, LinkEnd, serve_all};
+use lnfs_workers::{Ended, Gate, LinkEnd, serve_all};
 use std::alloc::{AllocError, Global};
 use std::process::Abort;
 use std::sync::Wait;
@@ -58,6 +59,51 @@ fn places_in(alloc: Global, lines: &[AuditLine]) -> Result<Vec<u64>, AllocError>
     Ok(places)
 }
 
+/// What is told of a journal and its lines: the links of its events, its recording, and the places of the lines.
+fn told(
+    alloc: Global,
+    journal: &[Event],
+    lines: &[AuditLine],
+) -> Result<(Vec<u32>, Vec<u8>, Vec<u64>), AllocError>
+    requires { All Fits journal.now }
+{
+    let order = links_in(alloc, journal)?;
+    let recording = write_traffic(alloc, journal)?;
+    Ok((order, recording, places_in(alloc, lines)?))
+}
+
+/// Serves links in a vault.
+fn serve_in<
+    M: Mechanism + Send + Drop,
+    L: Link + Send + Drop,
+    G: Gate + Sync,
+    R: Threads + Wait + Sync,
+>(
+    rt: &R,
+    alloc: Global,
+    codecs: &Codecs,
+    vault: Vault<M>,
+    gate: &G,
+    links: Vec<(u32, L)>,
+    workers: u32,
+) -> Result<Served<L>, AllocError>
+    requires journal { vault.journal ≡ [] }
+    requires links { length links.items ≤ 64 }
+    requires some { 0 < workers }
+    requires few { workers ≤ 16 }
+{
+    let clock = still(alloc)?;
+    let ended = serve_all(rt, alloc, codecs, vault, &clock, gate, links, workers)?;
+    let Ended { vault, ends, lines } = ended;
+    let (order, recording, lines) = told(alloc, vault.journal(), &lines)?;
+    Ok(Served {
+        order,
+        recording,
+        ends,
+        lines,
+    })
+}
+
 /// Serves links in a new vault, under a mechanism of signatures.
 pub fn serve<
     M: Mechanism + Send + Drop,
@@ -80,12 +126,5 @@ pub fn serve<
     }
     let codecs = codecs_of(alloc)?;
     let vault = new_vault(rt, alloc, &codecs, mechanism)?;
-    let clock = still(alloc)?;
-    let ended = serve_all(rt, alloc, &codecs, vault, &clock, gate, links, workers)?;
-    Ok(Served {
-        order: links_in(alloc, ended.vault.journal())?,
-        recording: write_traffic(alloc, ended.vault.journal())?,
-        ends: ended.ends,
-        lines: places_in(alloc, &ended.lines)?,
-    })
+    serve_in(rt, alloc, &codecs, vault, gate, links, workers)
 }

@@ -8,7 +8,7 @@ use lnfs_program::start::start;
 use lnfs_traffic::read_traffic;
 use lnfs_trials::flaw::Flaw;
 use lnfs_trials::rows::recording_of;
-use lnfs_trials::runs::{Failing, NONE, Ran, run_over, still, words_of};
+use lnfs_trials::runs::{Failing, NONE, Ran, Runtime, run_over, still, words_of};
 use lnfs_trials::services::{Peer, net_of, peer_of, run_service, sent};
 use lnfs_trials::site::{POLICY, file};
 use std::alloc::{AllocError, Global};
@@ -81,6 +81,44 @@ fn in_order(
     Ok(all)
 }
 
+/// Compares the replay of a recording with frames of replies.
+fn replay_gives<R: Runtime + Abort>(
+    rt: &R,
+    alloc: Global,
+    recording: &[u8],
+    frames: &[u8],
+) -> Result<(), Flaw> {
+    let again = run_over(rt, alloc, recording)?;
+    tells(rt, "the replay", &again, 0, "");
+    assert!(rt; again.1.bytes() == frames, "the replies");
+    Ok(())
+}
+
+/// Compares the replay of a recording of so many events with what the links took.
+fn replays<R: Runtime + Abort>(
+    rt: &R,
+    alloc: Global,
+    net: &MemNet,
+    recording: &[u8],
+    count: usize,
+) -> Result<(), Flaw> {
+    let Ok(events) = read_traffic(alloc, recording) else {
+        assert!(rt; false, "a recording");
+        return Ok(());
+    };
+    assert_eq!(rt; events.len(), count, "events");
+    let frames = in_order(rt, alloc, net, &events)?;
+    replay_gives(rt, alloc, recording, &frames)
+}
+
+/// Compares what each of the three links took.
+fn each_took(rt: &impl Abort, alloc: Global, net: &MemNet) -> Result<(), Flaw> {
+    took(rt, alloc, net, 0, "EXCHANGED 0 1 SERVER")?;
+    took(rt, alloc, net, 1, "")?;
+    let replies = "EXCHANGED 1 1 SERVER / EXCHANGED 3 1 SERVER";
+    took(rt, alloc, net, 2, replies)
+}
+
 #[test]
 fn three_links_over_two_workers(rt: HostRuntime) -> Result<(), Flaw> {
     let alloc = rt.alloc();
@@ -88,25 +126,8 @@ fn three_links_over_two_workers(rt: HostRuntime) -> Result<(), Flaw> {
     let ran = run_service(&rt, alloc, "serve p 0,1,1 2", &mut net, NONE)?;
     let lines = "link 0 Closed 1\nlink 1 Closed 0\nlink 2 Closed 2\n";
     tells(&rt, "three links", &ran, 0, lines);
-    took(&rt, alloc, &net, 0, "EXCHANGED 0 1 SERVER")?;
-    took(&rt, alloc, &net, 1, "")?;
-    took(
-        &rt,
-        alloc,
-        &net,
-        2,
-        "EXCHANGED 1 1 SERVER / EXCHANGED 3 1 SERVER",
-    )?;
-    let Ok(events) = read_traffic(alloc, ran.1.bytes()) else {
-        assert!(rt; false, "a recording");
-        return Ok(());
-    };
-    assert_eq!(rt; events.len(), 3, "events");
-    let again = run_over(&rt, alloc, ran.1.bytes())?;
-    tells(&rt, "the replay", &again, 0, "");
-    let frames = in_order(&rt, alloc, &net, &events)?;
-    assert!(rt; again.1.bytes() == frames.as_slice(), "the replies");
-    Ok(())
+    each_took(&rt, alloc, &net)?;
+    replays(&rt, alloc, &net, ran.1.bytes(), 3)
 }
 
 /// 64 links are served, where the net has them, and not 65.
@@ -326,29 +347,43 @@ impl<'a> Net for Hall<'a> {
     }
 }
 
-/// Two links over two workers are read side by side: the first read of each waits for that of the other.
-#[test]
-fn links_meet(rt: HostRuntime) -> Result<(), Flaw> {
-    let alloc = rt.alloc();
-    let (one, two) = (AtomicU64::new(0), AtomicU64::new(0));
+/// Two links that are sent a call each.
+fn hall_of<'a>(alloc: Global, one: &'a AtomicU64, two: &'a AtomicU64) -> Result<Hall<'a>, Flaw> {
     let input = sent(alloc, "1 0 2 100003 4 0 0 0 0 0")?;
     let mut inputs = VecDeque::new(alloc);
-    for (mine, other) in [(&one, &two), (&two, &one)] {
+    for (mine, other) in [(one, two), (two, one)] {
         inputs.push_back((MemLink::new(alloc, &input, &[], &[])?, mine, other))?;
     }
-    let mut hall = Hall { inputs, faults: 0 };
+    Ok(Hall { inputs, faults: 0 })
+}
+
+/// Serves two links by two workers: the status and the lines.
+fn serve_in<R: Runtime + Abort>(
+    rt: &R,
+    alloc: Global,
+    hall: &mut Hall<'_>,
+) -> Result<(u8, MemSink), Flaw> {
     let words = words_of(alloc, "serve p 0,1 2")?;
     let mut files = CalmFiles::new(vec![in alloc; file(alloc, "p", POLICY.as_bytes())?]?);
     let mut out = CalmSink::new();
     let mut audit = MemSink::new(alloc, &[])?;
     let clock = still(alloc)?;
     let status = start(
-        &rt, alloc, &words, &mut files, &mut out, &mut audit, &mut hall, &clock,
+        rt, alloc, &words, &mut files, &mut out, &mut audit, hall, &clock,
     )?;
+    Ok((status.number(), audit))
+}
+
+/// Two links over two workers are read side by side: the first read of each waits for that of the other.
+#[test]
+fn links_meet(rt: HostRuntime) -> Result<(), Flaw> {
+    let (one, two) = (AtomicU64::new(0), AtomicU64::new(0));
+    let mut hall = hall_of(rt.alloc(), &one, &two)?;
+    let (status, audit) = serve_in(&rt, rt.alloc(), &mut hall)?;
     assert!(rt;
         audit.bytes() == b"link 0 Closed 1\nlink 1 Closed 1\n".as_slice(),
         "both were read"
     );
-    assert_eq!(rt; status.number(), 0, "status");
+    assert_eq!(rt; status, 0, "status");
     Ok(())
 }
