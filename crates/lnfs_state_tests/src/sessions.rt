@@ -99,7 +99,8 @@ fn numbers_rise_in_each_level(rt: HostRuntime) -> Result<(), Fail> {
     Ok(())
 }
 
-/// What is told of a record that waits to be confirmed, and of one that brought a session.
+/// What is told of a record that waits to be confirmed, and of one that brought a session. The answer that brought it was not
+/// kept, so the sequence is still the first.
 fn pending(level: u32, number: u32) -> ClientInfo {
     ClientInfo {
         client: ClientRef { level, number },
@@ -111,7 +112,7 @@ fn pending(level: u32, number: u32) -> ClientInfo {
 fn confirmed(level: u32, number: u32) -> ClientInfo {
     ClientInfo {
         client: ClientRef { level, number },
-        sequence: 2,
+        sequence: 1,
         confirmed: true,
     }
 }
