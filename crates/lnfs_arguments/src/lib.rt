@@ -6,6 +6,7 @@ mod channel;
 mod further;
 mod halt;
 pub mod numbers;
+mod opaque;
 mod read_files;
 mod read_names;
 mod read_sessions;

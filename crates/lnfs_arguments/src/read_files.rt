@@ -10,6 +10,7 @@ use crate::numbers::{
     CLAIM_FH, CLAIM_NULL, DATA_LIMIT, EXCLUSIVE, EXCLUSIVE4_1, GUARDED, OP_OPEN, OPEN_CREATE,
     OPEN_NOCREATE, OWNER_LIMIT, UNCHECKED,
 };
+use crate::opaque::opaque_of;
 use crate::read_names::name_of;
 use crate::span::Span;
 use crate::stateid::state_id_of;
@@ -137,7 +138,7 @@ pub fn open_of<'a>(alloc: Global, reader: &mut XdrReader<'a>) -> Result<Op<'a>, 
     let access = reader.u32()?;
     let deny = reader.u32()?;
     let client = reader.u64()?;
-    let owner = Octets::from_slice(alloc, reader.opaque(OWNER_LIMIT)?)?;
+    let owner = opaque_of(alloc, reader, OWNER_LIMIT)?;
     let making = making_of(alloc, reader)?;
     let claim = claim_of(alloc, reader)?;
     Ok(Op::Open {

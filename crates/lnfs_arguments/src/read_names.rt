@@ -7,6 +7,7 @@ ghost use Rattle.lnfs_arguments.specs.Grammar.{name, access, what, create, getat
 use crate::attrs::attrs_of;
 use crate::halt::Halt;
 use crate::numbers::{HANDLE_LIMIT, LONG_LIMIT, OP_CREATE, TYPE_DIR, TYPE_LINK};
+use crate::opaque::opaque_of;
 use crate::stateid::state_id_of;
 use crate::statuses::NFS4ERR_BADTYPE;
 use crate::types::{Op, What};
@@ -19,7 +20,7 @@ use std::alloc::Global;
 pub fn name_of(alloc: Global, reader: &mut XdrReader<'_>) -> Result<Octets, Halt>
     ensures { ParsesInMemory (λ x. x) result reader.old reader.new (read name reader.old.rest) }
 {
-    Ok(Octets::from_slice(alloc, reader.opaque(LONG_LIMIT)?)?)
+    opaque_of(alloc, reader, LONG_LIMIT)
 }
 
 /// The arguments of ACCESS (RFC 8881 section 18.1). An error where an item isn't there.
@@ -129,7 +130,7 @@ pub fn setattr_of<'a>(alloc: Global, reader: &mut XdrReader<'a>) -> Result<Op<'a
 pub fn putfh_of<'a>(alloc: Global, reader: &mut XdrReader<'a>) -> Result<Op<'a>, Halt>
     ensures { ParsesInMemory (λ x. x) result reader.old reader.new (read putfh reader.old.rest) }
 {
-    let handle = Octets::from_slice(alloc, reader.opaque(HANDLE_LIMIT)?)?;
+    let handle = opaque_of(alloc, reader, HANDLE_LIMIT)?;
     Ok(Op::PutFh { handle })
 }
 

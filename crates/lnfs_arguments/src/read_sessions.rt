@@ -11,6 +11,7 @@ use crate::numbers::{
     AUTH_NONE, AUTH_SYS, CALLBACK_LIMIT, OP_CREATE_SESSION, OP_EXCHANGE_ID, OWNER_LIMIT,
     RPCSEC_GSS, SP4_NONE,
 };
+use crate::opaque::opaque_of;
 use crate::statuses::NFS4ERR_INVAL;
 use crate::types::{Callback, CreateSession, Implementation, Op, Sequence};
 use lnfs_lists::{Items, Octets};
@@ -31,8 +32,8 @@ fn words_of(alloc: Global, reader: &mut XdrReader<'_>, count: u32) -> Result<Vec
 fn implementation_of(alloc: Global, reader: &mut XdrReader<'_>) -> Result<Implementation, Halt>
     ensures { ParsesInMemory (λ x. x) result reader.old reader.new (read implementation reader.old.rest) }
 {
-    let domain = Octets::from_slice(alloc, reader.opaque(OWNER_LIMIT)?)?;
-    let name = Octets::from_slice(alloc, reader.opaque(OWNER_LIMIT)?)?;
+    let domain = opaque_of(alloc, reader, OWNER_LIMIT)?;
+    let name = opaque_of(alloc, reader, OWNER_LIMIT)?;
     let secs = reader.u64()?;
     let nanos = reader.u32()?;
     Ok(Implementation {
@@ -61,7 +62,7 @@ pub fn exchange_id_of<'a>(alloc: Global, reader: &mut XdrReader<'a>) -> Result<O
 {
     let mut verifier = [0; 8];
     verifier.copy_from_slice(reader.fixed(8)?);
-    let owner = Octets::from_slice(alloc, reader.opaque(OWNER_LIMIT)?)?;
+    let owner = opaque_of(alloc, reader, OWNER_LIMIT)?;
     let flags = reader.u32()?;
     if reader.u32()? != SP4_NONE {
         return Err(Halt::Outside {
@@ -86,7 +87,7 @@ fn callback_of(alloc: Global, reader: &mut XdrReader<'_>) -> Result<Callback, Ha
         AUTH_NONE => Ok(Callback::Nothing),
         AUTH_SYS => {
             let stamp = reader.u32()?;
-            let machine = Octets::from_slice(alloc, reader.opaque(MACHINE_LIMIT)?)?;
+            let machine = opaque_of(alloc, reader, MACHINE_LIMIT)?;
             let uid = reader.u32()?;
             let gid = reader.u32()?;
             let count = reader.array_len(GROUP_LIMIT)?;
@@ -101,8 +102,8 @@ fn callback_of(alloc: Global, reader: &mut XdrReader<'_>) -> Result<Callback, Ha
         }
         RPCSEC_GSS => {
             let service = reader.u32()?;
-            let server = Octets::from_slice(alloc, reader.opaque(OWNER_LIMIT)?)?;
-            let client = Octets::from_slice(alloc, reader.opaque(OWNER_LIMIT)?)?;
+            let server = opaque_of(alloc, reader, OWNER_LIMIT)?;
+            let client = opaque_of(alloc, reader, OWNER_LIMIT)?;
             Ok(Callback::Gss {
                 service,
                 server,

@@ -7,6 +7,7 @@ ghost use Rattle.lnfs_arguments.specs.declared.types.Compound.{Compound};
 use crate::further::ExtraGrammar;
 use crate::halt::{CompoundError, Halt};
 use crate::numbers::{MINOR, OP_LIMIT, TAG_LIMIT};
+use crate::opaque::opaque_of;
 use crate::read_table::arguments_of;
 use crate::types::{Compound, Op};
 use lnfs_lists::{Items, Octets};
@@ -35,7 +36,7 @@ fn operation_of<'a, E: ExtraGrammar>(
 fn header_of(alloc: Global, reader: &mut XdrReader<'_>) -> Result<(Octets, u32, u32), Halt>
     ensures { Heads result reader.new (read header reader.old.rest) }
 {
-    let tag = Octets::from_slice(alloc, reader.opaque(TAG_LIMIT)?)?;
+    let tag = opaque_of(alloc, reader, TAG_LIMIT)?;
     let minor = reader.u32()?;
     if minor != MINOR {
         return Ok((tag, minor, 0));
