@@ -11,11 +11,11 @@ ghost use Rattle.lnfs_engine.specs.Further.{said_of, asked_of};
 
 use crate::extra::{Extra, ExtraRan};
 use crate::place::{Place, Request};
-use crate::reply::Came;
+use crate::reply::{Came, append};
 use crate::store::Store;
 use lnfs_arguments::statuses::NFS4_OK;
 use lnfs_arguments::{ExtraGrammar, Op};
-use lnfs_results::{OpResult, append_result};
+use lnfs_results::OpResult;
 use lnfs_xdr::XdrWriter;
 use std::alloc::AllocError;
 
@@ -48,9 +48,9 @@ fn tell(out: &mut XdrWriter, number: u32, ran: ExtraRan) -> Result<Came, AllocEr
         Some(why) => why.status,
         None => NFS4_OK,
     };
-    append_result(
+    append(
         out,
-        &OpResult::Extra {
+        OpResult::Extra {
             number,
             status,
             bytes: ran.bytes,

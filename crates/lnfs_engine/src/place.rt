@@ -27,7 +27,7 @@ pub struct Request<'a> {
 }
 
 /// The session behind whose SEQUENCE operations stand.
-#[derive(Clone, Copy, Debug, PartialEq, Eq)]
+#[derive(Clone, Copy)]
 pub struct InSession {
     /// The slot, and the sequence under which its result is kept.
     pub at: SlotRef,
@@ -38,7 +38,7 @@ pub struct InSession {
 }
 
 /// Where the result of a COMPOUND is kept.
-#[derive(Clone, Copy, Debug, PartialEq, Eq)]
+#[derive(Clone, Copy)]
 pub enum Keeper {
     /// Nowhere: its operations stand in no session.
     Nowhere,

@@ -1,5 +1,7 @@
 //! What an operation answers, and how its result is appended.
-ghost use Rattle.std.specs.Prelude.{ℕ, IfOk};
+ghost use Rattle.std.specs.Prelude.{◌≡◌, ◌++◌, ℕ, IfOk, OnOk};
+ghost use Rattle.lnfs_results.specs.Fits.{ResultSized};
+ghost use Rattle.lnfs_results.specs.Texts.{result_text};
 ghost use Rattle.lnfs_operations.specs.Served.{Keeper, Kept};
 ghost use Rattle.lnfs_engine.specs.Replies.{IsRefusal, IsPlain, own_of, Says};
 
@@ -16,7 +18,7 @@ use std::alloc::AllocError;
 pub type Answer = Result<OpResult, Refusal>;
 
 /// What came of an operation.
-#[derive(Clone, Copy, Debug, PartialEq, Eq)]
+#[derive(Clone, Copy)]
 pub enum Came {
     /// Its result was appended, and the next operation may run.
     Done,
@@ -43,6 +45,14 @@ pub fn refused_by(error: SessionError) -> Result<Refusal, AllocError>
     }
 }
 
+/// Appends a result that nothing else needs.
+pub fn append(out: &mut XdrWriter, told: OpResult) -> Result<(), AllocError>
+    requires { ResultSized told }
+    ensures { OnOk result (out.new ≡ out.old ++ result_text told) }
+{
+    append_result(out, &told)
+}
+
 /// Appends the result of an operation.
 pub fn say(out: &mut XdrWriter, op: &Op<'_>, answer: Answer) -> Result<Came, AllocError>
     requires { IsPlain answer }
@@ -50,11 +60,11 @@ pub fn say(out: &mut XdrWriter, op: &Op<'_>, answer: Answer) -> Result<Came, All
 {
     match answer {
         Ok(result) => {
-            append_result(out, &result)?;
+            append(out, result)?;
             Ok(Came::Done)
         }
         Err(why) => {
-            append_result(out, &failed(op, why.status))?;
+            append(out, failed(op, why.status))?;
             Ok(Came::Refused(why))
         }
     }

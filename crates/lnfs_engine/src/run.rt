@@ -31,7 +31,7 @@ pub struct Denial {
 }
 
 /// How a COMPOUND ended.
-#[derive(Clone, Copy, Debug, PartialEq, Eq)]
+#[derive(Clone, Copy)]
 pub enum Ended {
     /// With new results: its status, how many results there are, and what was refused, if anything was.
     New {
