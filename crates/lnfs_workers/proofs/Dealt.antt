@@ -81,6 +81,15 @@ dealt_worked f k P S Q count step from n (v ∷ vs) (w ∷ ws) d e =
     let t = dealt_worked f k P S Q count step from (n + 1) vs ws d.1 e.1 in
     ((hand_worked P S Q count step from n (f v) (k w) d.0 e.0, t.0), ap suc t.1)
 
+-- what is less of each item that was dealt
+hand_weaker : {A : Type 0} (P Q : ℕ → A → Type 0) (count step : ℕ) → ((n : ℕ) (x : A) → P n x → Q n x) → (n : ℕ) (xs : List A) → Hand P count step n xs → Hand Q count step n xs
+hand_weaker P Q count step from n [] h = h
+hand_weaker P Q count step from n (x ∷ xs) h = (h.0, from n x h.1, hand_weaker P Q count step from (n + step) xs h.2)
+
+pub dealt_weaker : {W A : Type 0} (f : W → List A) (P Q : ℕ → A → Type 0) (count step : ℕ) → ((n : ℕ) (x : A) → P n x → Q n x) → (n : ℕ) (ws : List W) → Dealt f P count step n ws → Dealt f Q count step n ws
+dealt_weaker f P Q count step from n [] d = tt
+dealt_weaker f P Q count step from n (w ∷ ws) d = (hand_weaker P Q count step from n (f w) d.0, dealt_weaker f P Q count step from (n + 1) ws d.1)
+
 -- what holds of each item that was dealt
 hand_all : {A : Type 0} (P : ℕ → A → Type 0) (T : A → Type 0) (count step : ℕ) → ((n : ℕ) (x : A) → P n x → T x) → (n : ℕ) (xs : List A) → Hand P count step n xs → All T xs
 hand_all P T count step from n [] h = λ k d less. absurd (omega arith)

@@ -42,7 +42,7 @@ pub read_more : (old now new : Tells) (pending after : List ℕ) (entries : List
     → ReadOn None now.left new.left now.read_faults new.read_faults pending after
     → now.read_faults ≤ new.read_faults → new.taken ≡ now.taken → new.write_faults ≡ now.write_faults → Going old new after entries
 read_more old now new pending after entries g r later took wrote =
-    subst (λ (l : List ℕ). Going old new l entries) (sym r.says) (more_read old now new pending r.piece entries g r.reads later took wrote)
+    subst (λ (l : List ℕ). Going old new l entries) (sym r.says.1) (more_read old now new pending r.piece entries g r.reads later took wrote)
 
 -- ---- a record is served
 

@@ -1,7 +1,8 @@
 -- Links and their ends.
-use Rattle.std.specs.Prelude.{◌≡◌, ◌≤◌, ℕ, List, length, Some, slice_get}
+use Rattle.std.specs.Prelude.{◌≡◌, ◌≤◌, ℕ, List, [], length, Some, slice_get}
 use Rattle.lnfs_outside.specs.declared.event.Moment.{Moment}
 use Rattle.lnfs_history.specs.declared.entry.Entry.{Entry}
+use Rattle.lnfs_history.specs.Entries.{part}
 use Rattle.lnfs_workers.specs.Served.{Tells, Service, AreOf}
 use Rattle.lnfs_workers.specs.declared.ending.TheConstants.{BUDGET}
 use Rattle.lnfs_workers.specs.declared.line.LinkEnd.{LinkEnd}
@@ -23,3 +24,7 @@ IsDone tell may one done = (done.place.link ≡ one.place.link) × IsServed tell
 -- the link of that number was served with these entries
 abbrev pub Comes : {L : Type 0} → (L → Tells) → (Moment → Type 0) → List (ℕ × L) → ℕ → LinkEnd L → List Entry → Type 0
 Comes {L} tell may links n end entries = (link : ℕ × L) × (slice_get links n ≡ Some link) × IsServed tell may link.0 link.1 end entries
+
+-- a link waits under its number, with an empty place
+abbrev pub Waits : {B L : Type 0} → List (ℕ × L) → ℕ → Waiting B L → Type 0
+Waits {B} {L} links n one = (link : ℕ × L) × (slice_get links n ≡ Some link) × (one.class ≡ link.0) × (one.link ≡ link.1) × (one.place ≡ part n [])

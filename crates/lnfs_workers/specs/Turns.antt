@@ -25,9 +25,9 @@ Cuts (Ok (Some r)) old new = (length r ≤ RECORD_LIMIT) × Begins whole_record 
 Cuts (Ok None) old new = IsPartial old × (new ≡ old)
 Cuts (Err ending) old new = IsOfCutting ending old × (new ≡ old)
 
--- what one reading came to: a piece was read and fed, or the service ends
+-- what one reading came to: a piece with bytes was read and fed, or the service ends
 abbrev pub SaysRead : Option Ending → Option (List ℕ) → (before now : ℕ) → (old new : List ℕ) → (piece : List ℕ) → Type 0
-SaysRead None left before now old new piece = new ≡ old ++ piece
+SaysRead None left before now old new piece = (0 < length piece) × (new ≡ old ++ piece)
 SaysRead (Some Closed) left before now old new piece = (old ≡ []) × (piece ≡ []) × IsAtEnd left
 SaysRead (Some Cut) left before now old new piece = (0 < length old) × (piece ≡ []) × IsAtEnd left
 SaysRead (Some ReadFault) left before now old new piece = (piece ≡ []) × Rose before now

@@ -4,7 +4,7 @@ ghost use denote.Param.Send.{IsSync};
 ghost use Rattle.lnfs_history.specs.Entries.{of, known, part};
 ghost use Rattle.lnfs_outside.specs.Moments.{Fits};
 ghost use Rattle.lnfs_workers.specs.Served.{telling};
-ghost use Rattle.lnfs_workers.specs.Links.{IsServed, IsDone, Comes};
+ghost use Rattle.lnfs_workers.specs.Links.{IsServed, IsDone, Comes, Waits};
 ghost use Rattle.lnfs_workers.specs.Dealt.{AllAt, Hand};
 ghost use Rattle.lnfs_workers.specs.Pairs.{Each, EachAt};
 ghost use Rattle.lnfs_workers.specs.Transcripts.{entries_of};
@@ -212,6 +212,66 @@ fn open_desk<B: Room, M: Mechanism + Drop, X: Extra>(
     }
 }
 
+/// Gives each link its place, and deals the links to so many workers.
+fn seated<B: Room, L: Drop>(
+    alloc: Global,
+    history: &History<B>,
+    keeper: &mut Keeper<B>,
+    links: Vec<(u32, L)>,
+    workers: u32,
+) -> Result<VecDeque<VecDeque<Waiting<B, L>>>, AllocError>
+    requires first { keeper.old.made ≡ 0 }
+    requires links { length links.items ≤ 64 }
+    requires some { 0 < workers }
+    ensures hands { IfOk result (λ hands. AllAt (λ m hand. Hand (Waits links.items) (length links.items) workers m hand.items) 0 hands.items) }
+    ensures count { IfOk result (λ hands. length hands.items ≡ workers) }
+    ensures keeper { OnOk result (keeper.new ≡ known keeper.old.log (length links.items)) }
+{
+    let waiting = with_places(alloc, history, keeper, links)?;
+    deal(alloc, waiting, workers as usize)
+}
+
+/// Serves links that were dealt to workers, over the vault of a desk that has served none.
+fn serve_seated<
+    B: Room + Send + Sync,
+    M: Mechanism + Send + Drop,
+    X: Extra + Send,
+    C: Clock + Sync,
+    G: Gate + Sync,
+    L: Link + Send + Drop,
+    R: Threads + Wait + Sync,
+>(
+    rt: &R,
+    alloc: Global,
+    codecs: &Codecs,
+    history: &History<B>,
+    desk: Desk<B, M, X>,
+    clock: &C,
+    gate: &G,
+    links: &Snapshot<Vec<(u32, L)>>,
+    hands: VecDeque<VecDeque<Waiting<B, L>>>,
+) -> Result<Ended<M, X, L>, AllocError>
+    requires some { 0 < length hands.items }
+    requires few { length hands.items ≤ 16 }
+    requires hands { AllAt (λ m hand. Hand (Waits links.now.value.items) (length links.now.value.items) (length hands.items) m hand.items) 0 hands.items }
+    ensures policy { IfOk result (λ ended. ended.vault.policy ≡ B.policy) }
+    ensures ends { IfOk result (λ ended. EachAt (λ n link end. IsServed (telling L.left L.taken L.read_faults L.write_faults) (C.may clock.now) link.0 link.1 end (of n (entries_of X.extra M.signing B.policy ended.vault.journal))) 0 links.now.value.items ended.ends.items) }
+    ensures others { IfOk result (λ ended. (link : ℕ) → B.links ≤ link → of link (entries_of X.extra M.signing B.policy ended.vault.journal) ≡ []) }
+    ensures lines { IfOk result (λ ended. lines_in ended.lines.items ≡ lines_of X.extra M.signing B.policy ended.vault.journal) }
+    ensures fits { IfOk result (λ ended. All Fits ended.vault.journal) }
+{
+    let desk = Mutex::new(desk);
+    let shared = Shared {
+        alloc,
+        history,
+        desk: &desk,
+        clock,
+        gate,
+    };
+    let done = serve_hands(rt, codecs, &shared, hands)?;
+    settle(alloc, history, clock, desk.into_inner(), links, done)
+}
+
 /// Serves links under a name of the history.
 fn serve_named<
     B: Room + Send + Sync,
@@ -247,18 +307,11 @@ fn serve_named<
 {
     let given = Snapshot::of(&links);
     let (history, mut keeper) = opened.named::<B>();
-    let waiting = with_places(alloc, &history, &mut keeper, links)?;
-    let hands = deal(alloc, waiting, workers as usize)?;
-    let desk = Mutex::new(open_desk(alloc, vault, keeper));
-    let shared = Shared {
-        alloc,
-        history: &history,
-        desk: &desk,
-        clock,
-        gate,
-    };
-    let done = serve_hands(rt, codecs, &shared, hands)?;
-    settle(alloc, &history, clock, desk.into_inner(), &given, done)
+    let hands = seated(alloc, &history, &mut keeper, links, workers)?;
+    let desk = open_desk(alloc, vault, keeper);
+    serve_seated(
+        rt, alloc, codecs, &history, desk, clock, gate, &given, hands,
+    )
 }
 
 /// Serves links by worker threads, over one vault. Link i, which came by the listener of its class,

@@ -1,0 +1,88 @@
+use Rattle.std.proofs.Common.{◌≡◌, ◌≤◌, ◌∙◌, [], ℕ, List, ap, refl, sym, subst, arith, length}
+use Rattle.std.specs.Prelude.{All}
+use Rattle.lnfs_outside.specs.Moments.{Fits}
+use Rattle.lnfs_outside.specs.declared.event.Event.{Event}
+use Rattle.lnfs_history.specs.Entries.{of}
+use Rattle.lnfs_vault.specs.Kept.{Kept}
+use Rattle.lnfs_workers.specs.Transcripts.{entries_of}
+use Rattle.lnfs_workers.specs.Lines.{lines_in, lines_of}
+use Rattle.lnfs_workers.specs.Served.{telling}
+use Rattle.lnfs_workers.specs.Links.{IsServed, IsDone, Comes, Waits}
+use Rattle.lnfs_workers.specs.Pairs.{EachAt}
+use Rattle.lnfs_workers.specs.declared.line.Done.{Done}
+use Rattle.lnfs_workers.specs.declared.line.LinkEnd.{LinkEnd}
+use Rattle.lnfs_workers.proofs.Pairs.{if_ok_two, if_ok_three}
+use Rattle.lnfs_workers.proofs.Dealt.{Dealt, dealt_worked, dealt_all, each_of_all}
+use Rattle.lnfs_workers.proofs.Seats.{waits_empty, waits_done}
+use Rattle.lnfs_workers.proofs.pool.serve_seated.Goals as goal
+
+pub serve_hands-requires-clause-entries : goal.serve_hands-requires-clause-entries
+serve_hands-requires-clause-entries g c κs within =
+    let links = c.args.links.now.value.items in
+    dealt_all (λ hand. hand.items) (Waits {B = g.row.B.Denot} links) (λ one. one.place.entries ≡ []) (length links) (length c.args.hands.items)
+    (waits_empty {B = g.row.B.Denot} links) 0 c.args.hands.items c.requires.hands
+
+pub settle-requires-clause-some : goal.settle-requires-clause-some
+settle-requires-clause-some g c =
+    let links = c.args.links.now.value.items in
+    let tell = telling g.L.Source.left g.L.Sink.taken g.L.Source.read_faults g.L.Sink.write_faults in
+    let may = g.C.Clock.may c.args.clock.now in
+    let Q = λ (n : ℕ) (one : Done g.row.B.Denot g.row.L.Denot). (one.place.link ≡ n) × Comes tell may links n one.end one.place.entries in
+    let worked = dealt_worked (λ hand. hand.items) (λ hand. hand.items) (Waits {B = g.row.B.Denot} links) (IsDone tell may) Q (length links) (length c.args.hands.items)
+    (waits_done {B = g.row.B.Denot} links tell may)
+    0 c.args.hands.items c.in_ok-done.done.items c.requires.hands c.in_ok-done.ensures in
+    let long : length c.in_ok-done.done.items ≡ length c.args.hands.items = worked.1 in
+    let some = c.requires.some in
+    omega (arith, long, some)
+
+pub settle-requires-clause-hands : goal.settle-requires-clause-hands
+settle-requires-clause-hands g c =
+    let links = c.args.links.now.value.items in
+    let tell = telling g.L.Source.left g.L.Sink.taken g.L.Source.read_faults g.L.Sink.write_faults in
+    let may = g.C.Clock.may c.args.clock.now in
+    let Q = λ (n : ℕ) (one : Done g.row.B.Denot g.row.L.Denot). (one.place.link ≡ n) × Comes tell may links n one.end one.place.entries in
+    let worked = dealt_worked (λ hand. hand.items) (λ hand. hand.items) (Waits {B = g.row.B.Denot} links) (IsDone tell may) Q (length links) (length c.args.hands.items)
+    (waits_done {B = g.row.B.Denot} links tell may)
+    0 c.args.hands.items c.in_ok-done.done.items c.requires.hands c.in_ok-done.ensures in
+    subst (λ (step : ℕ). Dealt (λ hand. hand.items) Q (length links) step 0 c.in_ok-done.done.items) (sym worked.1) worked.0
+
+pub returns-clause-ends : goal.returns-clause-ends
+returns-clause-ends g c =
+    let links = c.args.links.now.value.items in
+    let V = c.into_inner.result.vault in
+    let tell = telling g.L.Source.left g.L.Sink.taken g.L.Source.read_faults g.L.Sink.write_faults in
+    let may = g.C.Clock.may c.args.clock.now in
+    let entries = λ (journal : List Event). entries_of g.X.ExtraRows.extra g.M.Mechanism.signing g.B.Room.policy journal in
+    let U = λ (v : Kept) (n : ℕ) (link : ℕ × g.row.L.Denot) (end : LinkEnd g.row.L.Denot). IsServed tell may link.0 link.1 end (of n (entries v.journal)) in
+    if_ok_three _ _ _ _
+    (λ ended same ends count.
+    subst (λ (v : Kept). EachAt (U v) 0 links ended.ends.items) (sym same)
+    (each_of_all (U V) 0 [] links ended.ends.items refl count ends))
+    c.settle.result c.settle.ensures.vault c.settle.ensures.ends c.settle.ensures.count
+
+pub returns-clause-policy : goal.returns-clause-policy
+returns-clause-policy g c =
+    if_ok_two _ _ _ (λ ended same _. ap (λ (v : Kept). v.policy) same ∙ c.into_inner.result.site) c.settle.result c.settle.ensures.vault c.settle.ensures.vault
+
+pub returns-clause-others : goal.returns-clause-others
+returns-clause-others g c =
+    let extra = g.X.ExtraRows.extra in
+    let signing = g.M.Mechanism.signing in
+    if_ok_two _ _ _
+    (λ ended same none link le. ap (λ (v : Kept). of link (entries_of extra signing g.B.Room.policy v.journal)) same ∙ none link le)
+    c.settle.result c.settle.ensures.vault c.settle.ensures.others
+
+pub returns-clause-lines : goal.returns-clause-lines
+returns-clause-lines g c =
+    let extra = g.X.ExtraRows.extra in
+    let signing = g.M.Mechanism.signing in
+    if_ok_two _ _ _
+    (λ ended same lines.
+    ap (λ l. lines_in l.items) lines
+    ∙ c.into_inner.result.said
+    ∙ ap (λ (v : Kept). lines_of extra signing g.B.Room.policy v.journal) (sym same))
+    c.settle.result c.settle.ensures.vault c.settle.ensures.lines
+
+pub returns-clause-fits : goal.returns-clause-fits
+returns-clause-fits g c =
+    if_ok_two _ _ _ (λ ended same fits. subst (λ (v : Kept). All Fits v.journal) (sym same) fits) c.settle.result c.settle.ensures.vault c.settle.ensures.fits
