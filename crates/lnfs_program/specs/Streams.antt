@@ -1,6 +1,7 @@
 -- Standard output and the audit stream, side by side.
-use Rattle.std.specs.Prelude.{ℕ, List}
+use Rattle.std.specs.Prelude.{◌≡◌, ◌⊎◌, ℕ, List, []}
 use Rattle.std.specs.declared.option.Option.{Option}
+use Rattle.lnfs_outside.specs.Causes.{Rose}
 
 -- what they took, where it is told
 pub record Streams : Type 0 where
@@ -17,3 +18,7 @@ pub record Counts : Type 0 where
 
 abbrev pub counts : ℕ → ℕ → Counts
 counts out audit = record { out = out; audit = audit }
+
+-- a stream holds nothing back, or a call of it has failed
+abbrev pub HandsOn : (waiting : List ℕ) → (before after : ℕ) → Type 0
+HandsOn waiting before after = (waiting ≡ []) ⊎ Rose before after

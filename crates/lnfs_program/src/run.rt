@@ -3,7 +3,7 @@ ghost use Rattle.std.specs.Prelude.{◌≡◌, ◌≤◌, ◌<◌, ◌^◌, [], 
 ghost use Rattle.lnfs_program.specs.Ending.{told_by};
 ghost use Rattle.lnfs_program.specs.Handed.{dealings};
 ghost use Rattle.lnfs_program.specs.Runs.{Judges, Runs, Gives, HasReason, NoneFell, status_of};
-ghost use Rattle.lnfs_program.specs.Streams.{counts, streams};
+ghost use Rattle.lnfs_program.specs.Streams.{HandsOn, counts, streams};
 ghost use Rattle.lnfs_program.specs.Words.{form_of, texts};
 
 use crate::status::{Status, Stop};
@@ -137,6 +137,7 @@ where
     ensures runs { Runs (F.content files.old) (C.may clock.now) (form_of (texts words.now)) (status_of result) (streams (K.taken out.old) (A.taken audit.old)) (streams (K.taken out.new) (A.taken audit.new)) (dealings (N.dealt net.old) (N.dealt net.new) (N.backs net.old) (N.backs net.new)) }
     ensures told { IfOk result (λ status. IsSome (told_by status)) }
     ensures handed { OnOk result ((K.waiting out.new ≡ []) × (A.waiting audit.new ≡ [])) }
+    ensures rests { (HandsOn (K.waiting out.new) (K.write_faults out.old) (K.write_faults out.new)) × (HandsOn (A.waiting audit.new) (A.write_faults audit.old) (A.write_faults audit.new)) }
     ensures content { F.content files.new ≡ F.content files.old }
     ensures cause { Gives result (F.faults files.old) (F.faults files.new) (N.faults net.old) (N.faults net.new) (counts (K.write_faults out.old) (A.write_faults audit.old)) (counts (K.write_faults out.new) (A.write_faults audit.new)) }
 {
@@ -169,8 +170,9 @@ where
     ensures runs { Runs (F.content files.old) (C.may clock.now) (form_of (texts words.now)) result (streams (K.taken out.old) (A.taken audit.old)) (streams (K.taken out.new) (A.taken audit.new)) (dealings (N.dealt net.old) (N.dealt net.new) (N.backs net.old) (N.backs net.new)) }
     // it gives up only where a count rose, or for want of memory
     ensures reason { HasReason result (F.faults files.old) (F.faults files.new) (N.faults net.old) (N.faults net.new) (counts (K.write_faults out.old) (A.write_faults audit.old)) (counts (K.write_faults out.new) (A.write_faults audit.new)) }
-    // otherwise the streams hold nothing back
+    // otherwise the streams hold nothing back; and else neither does, unless a call of it failed
     ensures handed { IfSome (told_by result) (λ _. (K.waiting out.new ≡ []) × (A.waiting audit.new ≡ [])) }
+    ensures rests { (HandsOn (K.waiting out.new) (K.write_faults out.old) (K.write_faults out.new)) × (HandsOn (A.waiting audit.new) (A.write_faults audit.old) (A.write_faults audit.new)) }
     // no count falls, and no file changes
     ensures files { F.faults files.old ≤ F.faults files.new }
     ensures streams { NoneFell (counts (K.write_faults out.old) (A.write_faults audit.old)) (counts (K.write_faults out.new) (A.write_faults audit.new)) }

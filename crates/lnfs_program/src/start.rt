@@ -5,7 +5,7 @@ ghost use Rattle.lnfs_format.specs.Kinds.{reads, writes};
 ghost use Rattle.lnfs_program.specs.Ending.{told_by};
 ghost use Rattle.lnfs_program.specs.Handed.{dealings};
 ghost use Rattle.lnfs_program.specs.Runs.{HasReason, NoneFell, Runs};
-ghost use Rattle.lnfs_program.specs.Streams.{counts, streams};
+ghost use Rattle.lnfs_program.specs.Streams.{HandsOn, counts, streams};
 ghost use Rattle.lnfs_program.specs.Words.{form_of, texts};
 
 use crate::run::run;
@@ -37,6 +37,7 @@ where
     ensures runs { IfOk result (λ status. Runs (F.content files.old) (C.may clock.now) (form_of (texts words.now)) status (streams (K.taken out.old) (A.taken audit.old)) (streams (K.taken out.new) (A.taken audit.new)) (dealings (N.dealt net.old) (N.dealt net.new) (N.backs net.old) (N.backs net.new))) }
     ensures reason { IfOk result (λ status. HasReason status (F.faults files.old) (F.faults files.new) (N.faults net.old) (N.faults net.new) (counts (K.write_faults out.old) (A.write_faults audit.old)) (counts (K.write_faults out.new) (A.write_faults audit.new))) }
     ensures handed { IfOk result (λ status. IfSome (told_by status) (λ _. (K.waiting out.new ≡ []) × (A.waiting audit.new ≡ []))) }
+    ensures rests { IfOk result (λ _. (HandsOn (K.waiting out.new) (K.write_faults out.old) (K.write_faults out.new)) × (HandsOn (A.waiting audit.new) (A.write_faults audit.old) (A.write_faults audit.new))) }
     ensures files { F.faults files.old ≤ F.faults files.new }
     ensures streams { NoneFell (counts (K.write_faults out.old) (A.write_faults audit.old)) (counts (K.write_faults out.new) (A.write_faults audit.new)) }
     ensures net { N.faults net.old < 2 ^ 64 → N.faults net.old ≤ N.faults net.new }

@@ -4,7 +4,7 @@ ghost use Rattle.lnfs_outside.specs.Causes.{Rose};
 ghost use Rattle.lnfs_outside.specs.Bytes.{Opens, Puts};
 ghost use Rattle.lnfs_program.specs.Ending.{told_by};
 ghost use Rattle.lnfs_program.specs.Runs.{Holds, ReadsOnly, WritesOnly, held};
-ghost use Rattle.lnfs_program.specs.Streams.{counts, streams};
+ghost use Rattle.lnfs_program.specs.Streams.{HandsOn, counts, streams};
 ghost use Rattle.lnfs_program.specs.Writes.{Does, to_audit};
 ghost use Rattle.lnfs_workers.specs.Transcripts.{framed};
 
@@ -32,6 +32,7 @@ pub fn put<K: Sink>(sink: &mut K, bytes: &[u8]) -> Result<(), Stop>
 fn hand_on<K: Sink>(sink: &mut K) -> Result<(), Stop>
     ensures taken { K.taken sink.new ≡ K.taken sink.old }
     ensures handed { OnOk result (K.waiting sink.new ≡ []) }
+    ensures rests { HandsOn (K.waiting sink.new) (K.write_faults sink.old) (K.write_faults sink.new) }
     ensures later { K.write_faults sink.old ≤ K.write_faults sink.new }
     ensures excused { IfErr result (λ stop. (stop ≡ Stop.WriteFault) × Rose (K.write_faults sink.old) (K.write_faults sink.new)) }
 {
@@ -46,6 +47,7 @@ pub fn hand_on_both<K: Sink, A: Sink>(out: &mut K, audit: &mut A) -> Result<(), 
     ensures out { K.taken out.new ≡ K.taken out.old }
     ensures audit { A.taken audit.new ≡ A.taken audit.old }
     ensures handed { OnOk result ((K.waiting out.new ≡ []) × (A.waiting audit.new ≡ [])) }
+    ensures rests { (HandsOn (K.waiting out.new) (K.write_faults out.old) (K.write_faults out.new)) × (HandsOn (A.waiting audit.new) (A.write_faults audit.old) (A.write_faults audit.new)) }
     ensures cause { WritesOnly result (counts (K.write_faults out.old) (A.write_faults audit.old)) (counts (K.write_faults out.new) (A.write_faults audit.new)) }
 {
     let first = hand_on(out);

@@ -62,6 +62,30 @@ fn count<M: Mechanism + Drop>(
     Ok(())
 }
 
+/// Serves events in a vault that has served none, one after another, and adds what they come to.
+fn count_all<M: Mechanism + Drop>(
+    alloc: Global,
+    codecs: &Codecs,
+    vault: &mut Vault<M>,
+    events: Vec<Event>,
+    tally: &mut Tally,
+) -> Result<(), AllocError>
+    requires first { vault.old.journal ≡ [] }
+    requires fits { AllByRecursion Fits events.items }
+    requires replies { tally.old.replies ≡ 0 }
+    requires failed { tally.old.failed ≡ 0 }
+    requires frames { Holds256 tally.old.frames [] }
+    ensures replies { OnOk result (tally.new.replies ≡ count_after (answer M.signing vault.old.policy) [] events.items) }
+    ensures failed { OnOk result (tally.new.failed ≡ count_after (line_at M.signing vault.old.policy) [] events.items) }
+    ensures frames { OnOk result (Holds256 tally.new.frames (frames_after (answer M.signing vault.old.policy) [] events.items)) }
+{
+    let mut rest = VecDeque::from_vec(events);
+    while let Some(event) = rest.pop_front() {
+        count(alloc, codecs, vault, event, tally)?;
+    }
+    Ok(())
+}
+
 /// Serves events in a new server, one after another.
 fn tally_of<M: Mechanism + Drop>(
     alloc: Global,
@@ -81,10 +105,7 @@ fn tally_of<M: Mechanism + Drop>(
         failed: 0,
         frames: Sha256::new(),
     };
-    let mut rest = VecDeque::from_vec(events);
-    while let Some(event) = rest.pop_front() {
-        count(alloc, codecs, &mut vault, event, &mut tally)?;
-    }
+    count_all(alloc, codecs, &mut vault, events, &mut tally)?;
     Ok(tally)
 }
 

@@ -1,4 +1,4 @@
-use Rattle.std.proofs.Common.{◌+◌, [], ◌∷◌, ◌++◌, length, sym, ap, ◌∙◌, subst, arith}
+use Rattle.std.proofs.Common.{◌+◌, [], ◌∷◌, ◌++◌, length, refl, sym, ap, ◌∙◌, subst, arith}
 use Rattle.std.proofs.lemmas.List.{length-append, append_assoc}
 use Rattle.std.specs.List.{AllByRecursion}
 use Rattle.sha2.specs.Hashers.{Holds256}
@@ -9,22 +9,21 @@ use Rattle.lnfs_program.specs.Summary.{one_of, count_after}
 use Rattle.lnfs_workers.specs.Transcripts.{framed}
 use Rattle.lnfs_program.specs.Writes.{frames_after}
 use Rattle.lnfs_program.proofs.Summing.{count_more, count_few, frames_more}
-use Rattle.lnfs_program.proofs.summary.tally_of.Goals as goal
+use Rattle.lnfs_program.proofs.summary.count_all.Goals as goal
 
 pub loop-event-init : goal.loop-event-init
 unfolding count_after frames_after
 loop-event-init g c =
     let m = g.M.Mechanism.signing in
-    let p = c.args.policy in
-    let e = c.in_ok-vault.ensures in
+    let p = c.args.vault.now.policy in
     let items = c.from_vec-rest.ensures.items in
-    let journal = ap (λ (v : Kept). v.journal) e in (
+    let journal = c.requires.first in (
       (λ i. journal i ++ c.from_vec-rest.result.items) ∙ items,
-      ap (λ (v : Kept). v.policy) e,
-      subst (AllByRecursion Fits) (sym items) c.requires,
-      sym (ap (count_after (answer m p) []) journal),
-      sym (ap (count_after (line_at m p) []) journal),
-      subst (Holds256 c.new-2.result) (sym (ap (frames_after (answer m p) []) journal)) c.new-2.ensures,
+      refl,
+      subst (AllByRecursion Fits) (sym items) c.requires.fits,
+      c.requires.replies ∙ sym (ap (count_after (answer m p) []) journal),
+      c.requires.failed ∙ sym (ap (count_after (line_at m p) []) journal),
+      subst (Holds256 c.args.tally.now.frames) (sym (ap (frames_after (answer m p) []) journal)) c.requires.frames,
     )
 
 pub count-requires-clause-replies : goal.count-requires-clause-replies
@@ -32,19 +31,19 @@ count-requires-clause-replies g c =
     let v = c.loop-event.vault in
     let all = c.args.events in
     let n = c.loop-event.invariant in
-    omega (arith, n.3, count_few (answer g.M.Mechanism.signing c.args.policy) [] v.journal, ap length n.0, length-append v.journal c.loop-event.rest.items, all.ok.0, all.ok.1, all.small)
+    omega (arith, n.3, count_few (answer g.M.Mechanism.signing c.args.vault.now.policy) [] v.journal, ap length n.0, length-append v.journal c.loop-event.rest.items, all.ok.0, all.ok.1, all.small)
 
 pub count-requires-clause-failed : goal.count-requires-clause-failed
 count-requires-clause-failed g c =
     let v = c.loop-event.vault in
     let all = c.args.events in
     let n = c.loop-event.invariant in
-    omega (arith, n.4, count_few (line_at g.M.Mechanism.signing c.args.policy) [] v.journal, ap length n.0, length-append v.journal c.loop-event.rest.items, all.ok.0, all.ok.1, all.small)
+    omega (arith, n.4, count_few (line_at g.M.Mechanism.signing c.args.vault.now.policy) [] v.journal, ap length n.0, length-append v.journal c.loop-event.rest.items, all.ok.0, all.ok.1, all.small)
 
 pub loop-event-preserved : goal.loop-event-preserved
 loop-event-preserved g c =
     let m = g.M.Mechanism.signing in
-    let p = c.args.policy in
+    let p = c.args.vault.now.policy in
     let v = c.loop-event.vault in
     let event = c.in-Some.event in
     let n = c.loop-event.invariant in
