@@ -4,6 +4,10 @@
 //! against what is due for these words, the files that they name, and what a service came to.
 #![tactic(auto)]
 
+ghost use Rattle.std.specs.Prelude.{◌≡◌, IfOk, OnErr};
+ghost use Rattle.std.specs.Process.{exit_status};
+ghost use Rattle.lnfs_program.specs.Ending.{number_of};
+
 use lnfs_outside::{DiskFiles, StdClock, StdSink, TcpNet};
 use lnfs_program::Status;
 use lnfs_program::start::start;
@@ -51,6 +55,19 @@ fn status_of<R: Threads + Wait + Sync>(
     )
 }
 
+/// How the process ends: with the number of the status that was told, and with 7 where there was no
+/// memory for one.
+fn exit_of(told: Result<Status, AllocError>) -> ExitCode
+    ensures told { IfOk told (λ status. exit_status result ≡ number_of status) }
+    ensures memory { OnErr told (exit_status result ≡ 7) }
+{
+    let status = match told {
+        Ok(status) => status,
+        Err(_) => Status::Memory,
+    };
+    ExitCode::from(status.number())
+}
+
 fn main(rt: HostRuntime) -> ExitCode {
     let told = match words_of(rt) {
         Ok(words) => status_of(&rt, rt, &words),
@@ -58,9 +75,5 @@ fn main(rt: HostRuntime) -> ExitCode {
         // a word that is no text stands in no form of the command line
         Err(_) => status_of(&rt, rt, &[]),
     };
-    let status = match told {
-        Ok(status) => status,
-        Err(_) => Status::Memory,
-    };
-    ExitCode::from(status.number())
+    exit_of(told)
 }
