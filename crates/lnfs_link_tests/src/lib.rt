@@ -4,6 +4,8 @@
 #[cfg(test)]
 mod codecs;
 #[cfg(test)]
+mod meeting;
+#[cfg(test)]
 mod order;
 #[cfg(test)]
 mod ordinary;

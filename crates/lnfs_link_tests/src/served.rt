@@ -3,9 +3,10 @@ ghost use Rattle.std.specs.Prelude.{◌≡◌, ◌≤◌, ◌<◌, [], All, IfOk
 ghost use Rattle.lnfs_outside.specs.Moments.{Fits};
 
 use crate::codecs::codecs_of;
+use lnfs_engine::NoExtra;
 use lnfs_format::Codecs;
 use lnfs_gss3::Mechanism;
-use lnfs_outside::{Event, Link};
+use lnfs_outside::{Clock, Event, Link};
 use lnfs_policy::read_policy;
 use lnfs_traffic::write_traffic;
 use lnfs_trials::runs::still;
@@ -72,28 +73,13 @@ fn told(
     Ok((order, recording, places_in(alloc, lines)?))
 }
 
-/// Serves links in a vault.
-fn serve_in<
-    M: Mechanism + Send + Drop,
-    L: Link + Send + Drop,
-    G: Gate + Sync,
-    R: Threads + Wait + Sync,
->(
-    rt: &R,
+/// What is told of a service that has ended.
+fn served_of<M: Mechanism + Drop, L: Drop>(
     alloc: Global,
-    codecs: &Codecs,
-    vault: Vault<M>,
-    gate: &G,
-    links: Vec<(u32, L)>,
-    workers: u32,
+    ended: Ended<M, NoExtra, L>,
 ) -> Result<Served<L>, AllocError>
-    requires journal { vault.journal ≡ [] }
-    requires links { length links.items ≤ 64 }
-    requires some { 0 < workers }
-    requires few { workers ≤ 16 }
+    requires { All Fits ended.vault.journal }
 {
-    let clock = still(alloc)?;
-    let ended = serve_all(rt, alloc, codecs, vault, &clock, gate, links, workers)?;
     let Ended { vault, ends, lines } = ended;
     let (order, recording, lines) = told(alloc, vault.journal(), &lines)?;
     Ok(Served {
@@ -102,6 +88,32 @@ fn serve_in<
         ends,
         lines,
     })
+}
+
+/// Serves links in a new vault, at the times of a clock.
+fn serve_at<
+    M: Mechanism + Send + Drop,
+    L: Link + Send + Drop,
+    C: Clock + Sync,
+    G: Gate + Sync,
+    R: Threads + Wait + Sync + Abort,
+>(
+    rt: &R,
+    alloc: Global,
+    codecs: &Codecs,
+    mechanism: M,
+    clock: &C,
+    gate: &G,
+    links: Vec<(u32, L)>,
+    workers: u32,
+) -> Result<Served<L>, AllocError>
+    requires links { length links.items ≤ 64 }
+    requires some { 0 < workers }
+    requires few { workers ≤ 16 }
+{
+    let vault = new_vault(rt, alloc, codecs, mechanism)?;
+    let ended = serve_all(rt, alloc, codecs, vault, clock, gate, links, workers)?;
+    served_of(alloc, ended)
 }
 
 /// Serves links in a new vault, under a mechanism of signatures.
@@ -125,6 +137,6 @@ pub fn serve<
         return Err(AllocError);
     }
     let codecs = codecs_of(alloc)?;
-    let vault = new_vault(rt, alloc, &codecs, mechanism)?;
-    serve_in(rt, alloc, &codecs, vault, gate, links, workers)
+    let clock = still(alloc)?;
+    serve_at(rt, alloc, &codecs, mechanism, &clock, gate, links, workers)
 }
