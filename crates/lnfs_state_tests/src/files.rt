@@ -1,11 +1,13 @@
 //! The data of a file in the tree, each call with ample memory.
 
+use crate::compare::same;
 use crate::many::root_alone;
 use lnfs_calipso::Level;
 use lnfs_lists::Octets;
 use lnfs_outside::Moment;
 use lnfs_tree::{Fresh, NodeId, NodeKind, Tree, TreeError};
-use std::alloc::Global;
+use std::alloc::{AllocError, Global};
+use std::process::Abort;
 use std::test::Fail;
 
 const NOW: Moment = Moment { secs: 9, nanos: 1 };
@@ -28,10 +30,8 @@ const OTHER: NodeId = NodeId {
     number: 3,
 };
 
-/// A root with one node, a file or a symbolic link.
-fn with_node(alloc: Global, kind: NodeKind) -> Result<Tree, Fail> {
-    let mut tree = root_alone(alloc)?;
-    let fresh = Fresh {
+fn fresh(alloc: Global, kind: NodeKind) -> Result<Fresh, AllocError> {
+    Ok(Fresh {
         kind,
         home: Level(0),
         label: Level(0),
@@ -39,7 +39,13 @@ fn with_node(alloc: Global, kind: NodeKind) -> Result<Tree, Fail> {
         mode: 0o640,
         text: Octets::from_slice(alloc, b"text")?,
         verifier: None,
-    };
+    })
+}
+
+/// A root with one node, a file or a symbolic link.
+fn with_node(alloc: Global, kind: NodeKind) -> Result<Tree, Fail> {
+    let fresh = fresh(alloc, kind)?;
+    let mut tree = root_alone(alloc)?;
     tree.insert(alloc, ROOT, b"node", fresh, NOW)?;
     Ok(tree)
 }
@@ -52,54 +58,89 @@ fn told(tree: &Tree) -> Option<(u64, u64)> {
     }
 }
 
+/// Compares what is read of the node with the bytes that are due.
+fn reads(
+    rt: &impl Abort,
+    alloc: Global,
+    tree: &Tree,
+    offset: u64,
+    count: u32,
+    due: &[u8],
+) -> Result<(), TreeError> {
+    let bytes = tree.read(alloc, NODE, offset, count)?;
+    same(rt, bytes.as_slice(), due);
+    Ok(())
+}
+
+fn write_behind(rt: &impl Abort, alloc: Global, tree: &mut Tree) -> Result<(), TreeError> {
+    same(rt, told(tree), Some((0, 1)));
+    tree.write(alloc, NODE, u64::MAX, b"", LATER)?;
+    same(rt, told(tree), Some((0, 1)));
+    tree.write(alloc, NODE, 9_000, b"end", LATER)?;
+    same(rt, told(tree), Some((9_003, 2)));
+    reads(rt, alloc, tree, 8_998, 4, b"\0\0en")?;
+    reads(rt, alloc, tree, 9_003, 4, b"")
+}
+
 #[test]
 fn a_write_behind_the_end(rt: HostRuntime) -> Result<(), Fail> {
-    let alloc = rt.alloc();
-    let mut tree = with_node(alloc, NodeKind::File)?;
-    assert!(rt; told(&tree) == Some((0, 1)));
-    tree.write(alloc, NODE, u64::MAX, b"", LATER)?;
-    assert!(rt; told(&tree) == Some((0, 1)));
-    tree.write(alloc, NODE, 9_000, b"end", LATER)?;
-    assert!(rt; told(&tree) == Some((9_003, 2)));
-    assert!(rt; tree.read(alloc, NODE, 8_998, 4)?.as_slice() == b"\0\0en".as_slice());
-    assert!(rt; tree.read(alloc, NODE, 9_003, 4)?.is_empty());
+    let mut tree = with_node(rt.alloc(), NodeKind::File)?;
+    write_behind(&rt, rt.alloc(), &mut tree)?;
+    Ok(())
+}
+
+/// How many bytes the node's file has.
+fn length(tree: &Tree) -> Result<u64, TreeError> {
+    Ok(tree.file(NODE)?.len())
+}
+
+fn cut_and_grow(rt: &impl Abort, alloc: Global, tree: &mut Tree) -> Result<(), TreeError> {
+    tree.write(alloc, NODE, 0, b"begin", NOW)?;
+    tree.set_size(NODE, 2, NOW)?;
+    tree.set_size(NODE, 4, NOW)?;
+    same(rt, told(tree), Some((4, 4)));
+    reads(rt, alloc, tree, 1, 9, b"e\0\0")?;
+    same(rt, length(tree), Ok(4));
     Ok(())
 }
 
 #[test]
 fn cut_and_grown(rt: HostRuntime) -> Result<(), Fail> {
-    let alloc = rt.alloc();
-    let mut tree = with_node(alloc, NodeKind::File)?;
-    tree.write(alloc, NODE, 0, b"begin", NOW)?;
-    tree.set_size(NODE, 2, NOW)?;
-    tree.set_size(NODE, 4, NOW)?;
-    assert!(rt; told(&tree) == Some((4, 4)));
-    assert!(rt; tree.read(alloc, NODE, 1, 9)?.as_slice() == b"e\0\0".as_slice());
-    assert!(rt; tree.file(NODE)?.len() == 4);
+    let mut tree = with_node(rt.alloc(), NodeKind::File)?;
+    cut_and_grow(&rt, rt.alloc(), &mut tree)?;
     Ok(())
+}
+
+fn fill(rt: &impl Abort, alloc: Global, tree: &mut Tree) {
+    same(rt, tree.set_size(NODE, 16_777_216, NOW), Ok(()));
+    let big = Err(TreeError::FBig);
+    same(rt, tree.set_size(NODE, 16_777_217, NOW), big);
+    same(rt, tree.write(alloc, NODE, 16_777_215, b"zz", NOW), big);
+    same(rt, tree.write(alloc, NODE, u64::MAX, b"z", NOW), big);
+    same(rt, told(tree), Some((16_777_216, 2)));
 }
 
 #[test]
 fn the_most_bytes(rt: HostRuntime) -> Result<(), Fail> {
-    let alloc = rt.alloc();
-    let mut tree = with_node(alloc, NodeKind::File)?;
-    tree.set_size(NODE, 16_777_216, NOW)?;
-    assert!(rt; tree.set_size(NODE, 16_777_217, NOW) == Err(TreeError::FBig));
-    assert!(rt; tree.write(alloc, NODE, 16_777_215, b"zz", NOW) == Err(TreeError::FBig));
-    assert!(rt; tree.write(alloc, NODE, u64::MAX, b"z", NOW) == Err(TreeError::FBig));
-    assert!(rt; told(&tree) == Some((16_777_216, 2)));
+    let mut tree = with_node(rt.alloc(), NodeKind::File)?;
+    fill(&rt, rt.alloc(), &mut tree);
     Ok(())
+}
+
+fn refuse(rt: &impl Abort, alloc: Global, tree: &mut Tree) {
+    same(rt, told(tree), Some((4, 1)));
+    let none = Err(TreeError::Inval);
+    same(rt, tree.set_size(NODE, 0, NOW), none);
+    same(rt, tree.set_size(ROOT, 0, NOW), Err(TreeError::IsDir));
+    same(rt, tree.set_size(OTHER, 0, NOW), Err(TreeError::Stale));
+    same(rt, tree.write(alloc, NODE, 0, b"z", NOW), none);
+    same(rt, tree.file(ROOT).is_err(), true);
+    same(rt, tree.read(alloc, OTHER, 0, 1).is_err(), true);
 }
 
 #[test]
 fn what_is_no_file(rt: HostRuntime) -> Result<(), Fail> {
-    let alloc = rt.alloc();
-    let mut tree = with_node(alloc, NodeKind::Link)?;
-    assert!(rt; told(&tree) == Some((4, 1)));
-    assert!(rt; tree.set_size(NODE, 0, NOW) == Err(TreeError::Inval));
-    assert!(rt; tree.set_size(ROOT, 0, NOW) == Err(TreeError::IsDir));
-    assert!(rt; tree.set_size(OTHER, 0, NOW) == Err(TreeError::Stale));
-    assert!(rt; tree.write(alloc, NODE, 0, b"z", NOW) == Err(TreeError::Inval));
-    assert!(rt; tree.file(ROOT).is_err() && tree.read(alloc, OTHER, 0, 1).is_err());
+    let mut tree = with_node(rt.alloc(), NodeKind::Link)?;
+    refuse(&rt, rt.alloc(), &mut tree);
     Ok(())
 }

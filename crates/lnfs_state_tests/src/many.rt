@@ -3,11 +3,13 @@
 ghost use Rattle.std.specs.Prelude.{◌≡◌, IfOk};
 ghost use Rattle.lnfs_tree.specs.Changed.{IsSound};
 
+use crate::compare::same;
 use lnfs_calipso::{Label, Lattice, Level};
 use lnfs_lists::Octets;
 use lnfs_outside::Moment;
 use lnfs_tree::{Fresh, NodeId, NodeKind, Tree};
 use std::alloc::Global;
+use std::process::Abort;
 use std::test::Fail;
 
 const NAMES: u32 = 400_000;
@@ -59,34 +61,69 @@ fn make(alloc: Global, tree: &mut Tree, name: &[u8]) -> Result<NodeId, Fail>
     Ok(node)
 }
 
-/// Makes a file for each number, under its digits.
-fn filled(alloc: Global) -> Result<Tree, Fail> {
-    let mut tree = root_alone(alloc)?;
+/// Makes a file under the digits of a number.
+fn make_numbered(alloc: Global, tree: &mut Tree, number: u32) -> Result<(), Fail>
+    requires { IsSound tree.old }
+    ensures { IfOk result (λ _. IsSound tree.new) }
+{
+    let name = format!(in alloc; "{number}")?;
+    make(alloc, tree, name.as_bytes())?;
+    Ok(())
+}
+
+/// Makes a file for each number.
+fn fill(alloc: Global, tree: &mut Tree) -> Result<(), Fail>
+    requires { IsSound tree.old }
+{
     for number in 0..NAMES {
-        let name = format!(in alloc; "{number}")?;
-        make(alloc, &mut tree, name.as_bytes())?;
+        make_numbered(alloc, tree, number)?;
     }
-    Ok(tree)
+    Ok(())
+}
+
+/// The number of the node that goes by the digits of a number.
+fn find(alloc: Global, tree: &Tree, number: u32) -> Result<u32, Fail> {
+    let name = format!(in alloc; "{number}")?;
+    let node = tree.lookup(ROOT, name.as_bytes())?;
+    Ok(node.number)
+}
+
+/// Looks for the name of a number behind a cookie, and gives its own.
+fn next(
+    rt: &impl Abort,
+    alloc: Global,
+    tree: &Tree,
+    number: u32,
+    cookie: u64,
+) -> Result<u64, Fail> {
+    let Some(entry) = tree.next_entry(ROOT, cookie)? else {
+        return Err(Fail::new("too few names"));
+    };
+    let name = format!(in alloc; "{number}")?;
+    same(rt, entry.name.as_slice(), name.as_bytes());
+    Ok(entry.cookie)
+}
+
+fn look_up(rt: &impl Abort, alloc: Global, tree: &Tree) -> Result<(), Fail> {
+    for number in 0..NAMES {
+        same(rt, find(alloc, tree, number)?, number + 2);
+    }
+    Ok(())
+}
+
+fn list(rt: &impl Abort, alloc: Global, tree: &Tree) -> Result<(), Fail> {
+    let mut cookie = 2;
+    for number in 0..NAMES {
+        cookie = next(rt, alloc, tree, number, cookie)?;
+    }
+    assert!(rt; tree.next_entry(ROOT, cookie)?.is_none());
+    Ok(())
 }
 
 #[test]
 fn many_names(rt: HostRuntime) -> Result<(), Fail> {
-    let alloc = rt.alloc();
-    let tree = filled(alloc)?;
-    for number in 0..NAMES {
-        let name = format!(in alloc; "{number}")?;
-        let node = tree.lookup(ROOT, name.as_bytes())?;
-        assert_eq!(rt; node.number, number + 2);
-    }
-    let mut cookie = 2;
-    for number in 0..NAMES {
-        let Some(entry) = tree.next_entry(ROOT, cookie)? else {
-            return Err(Fail::new("too few names"));
-        };
-        let name = format!(in alloc; "{number}")?;
-        assert!(rt; entry.name.as_slice() == name.as_bytes());
-        cookie = entry.cookie;
-    }
-    assert!(rt; tree.next_entry(ROOT, cookie)?.is_none());
-    Ok(())
+    let mut tree = root_alone(rt.alloc())?;
+    fill(rt.alloc(), &mut tree)?;
+    look_up(&rt, rt.alloc(), &tree)?;
+    list(&rt, rt.alloc(), &tree)
 }

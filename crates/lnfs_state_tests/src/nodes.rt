@@ -1,13 +1,15 @@
 //! The tree of four lines, each call with ample memory.
 
-ghost use Rattle.std.specs.Prelude.{IfOk};
 ghost use Rattle.lnfs_tree.specs.Changed.{HasFacts};
 
-use lnfs_calipso::{Label, Lattice, Level};
+use crate::compare::same;
+use crate::first::{Lines, first_tree, levels, planted, tree_of};
+use lnfs_calipso::{Lattice, Level};
 use lnfs_lists::Octets;
 use lnfs_outside::Moment;
-use lnfs_tree::{DirSpec, Facts, Fresh, NodeId, NodeKind, Stored, Tree, TreeError};
-use std::alloc::{AllocError, Global};
+use lnfs_tree::{Facts, Fresh, NodeId, NodeKind, Tree, TreeError};
+use std::alloc::Global;
+use std::process::Abort;
 use std::test::Fail;
 
 const BEGINNING: Moment = Moment { secs: 0, nanos: 0 };
@@ -45,42 +47,6 @@ const OTHER: NodeId = NodeId {
     number: 1,
 };
 
-/// Two levels beside each other, between the bottom and one above both.
-fn levels(alloc: Global) -> Result<Lattice, Fail> {
-    let bottom = Label::new(alloc, 1, 0, &[])?;
-    let one = Label::new(alloc, 1, 1, &[0])?;
-    let two = Label::new(alloc, 1, 1, &[1])?;
-    let top = Label::new(alloc, 1, 3, &[0, 1, 2, 5])?;
-    Ok(Lattice::new(alloc, &[bottom, one, two, top])?)
-}
-
-fn line(alloc: Global, path: &[u8], level: u32) -> Result<DirSpec, AllocError> {
-    Ok(DirSpec {
-        path: Octets::from_slice(alloc, path)?,
-        level: Level(level),
-        stored: None,
-    })
-}
-
-fn first_tree(alloc: Global) -> Result<Tree, Fail>
-    ensures { IfOk result (λ tree. HasFacts tree) }
-{
-    let lines = [
-        line(alloc, b"/one", 1)?,
-        line(alloc, b"/two", 2)?,
-        line(alloc, b"/top", 3)?,
-        line(alloc, b"/one/up", 3)?,
-    ];
-    let stored = Stored {
-        lfs: 7,
-        pi: 0,
-        bytes: Octets::from_slice(alloc, b"lowest")?,
-    };
-    let lattice = levels(alloc)?;
-    lattice.is_preordered();
-    Ok(Tree::new(alloc, &lattice, &lines, Some(stored))?)
-}
-
 fn directory(label: u32, names: u64) -> Option<Facts> {
     Some(Facts {
         kind: NodeKind::Dir,
@@ -111,23 +77,32 @@ fn made(label: u32, at: Moment) -> Option<Facts> {
     })
 }
 
-#[test]
-fn nodes_of_the_first_tree(rt: HostRuntime) -> Result<(), Fail> {
-    let tree = first_tree(rt.alloc())?;
-    assert_eq!(rt; tree.root(), ROOT);
-    assert!(rt; tree.node(ROOT) == directory(0, 3));
-    assert!(rt; tree.node(ONE) == directory(1, 1));
-    assert!(rt; tree.node(TWO) == directory(2, 0));
-    assert!(rt; tree.node(TOP) == directory(3, 0));
-    assert!(rt; tree.node(UP) == directory(3, 0));
-    assert!(rt; tree.node(OTHER).is_none());
-    assert!(rt; tree.text(ONE).is_none());
-    assert!(rt; tree.stored(ONE).is_none());
+fn tell_nodes(rt: &impl Abort, tree: &Tree) {
+    same(rt, tree.root(), ROOT);
+    same(rt, tree.node(ROOT), directory(0, 3));
+    same(rt, tree.node(ONE), directory(1, 1));
+    same(rt, tree.node(TWO), directory(2, 0));
+    same(rt, tree.node(TOP), directory(3, 0));
+    same(rt, tree.node(UP), directory(3, 0));
+    same(rt, tree.node(OTHER), None);
+    same(rt, tree.text(ONE), None);
+}
+
+fn tell_stored(rt: &impl Abort, tree: &Tree) -> Result<(), Fail> {
+    same(rt, tree.stored(ONE).is_none(), true);
     let Some(stored) = tree.stored(ROOT) else {
         return Err(Fail::new("no label is stored"));
     };
-    assert!(rt; stored.lfs == 7 && stored.bytes.as_slice() == b"lowest".as_slice());
+    same(rt, stored.lfs, 7);
+    same(rt, stored.bytes.as_slice(), b"lowest".as_slice());
     Ok(())
+}
+
+#[test]
+fn nodes_of_the_first_tree(rt: HostRuntime) -> Result<(), Fail> {
+    let tree = first_tree(rt.alloc())?;
+    tell_nodes(&rt, &tree);
+    tell_stored(&rt, &tree)
 }
 
 /// Whether a name comes behind a cookie, and is that of a directory.
@@ -148,61 +123,85 @@ fn comes_next(
     tree.lookup(dir, name) == Ok(node) && tree.parent(node) == Ok(dir)
 }
 
+/// Whether no name comes behind a cookie.
+fn ends_at(tree: &Tree, dir: NodeId, after: u64) -> bool {
+    matches!(tree.next_entry(dir, after), Ok(None))
+}
+
+fn tell_names(rt: &impl Abort, tree: &Tree) {
+    same(rt, comes_next(tree, ROOT, 0, 3, b"one", ONE), true);
+    same(rt, comes_next(tree, ROOT, 2, 3, b"one", ONE), true);
+    same(rt, comes_next(tree, ROOT, 3, 4, b"two", TWO), true);
+    same(rt, comes_next(tree, ROOT, 4, 5, b"top", TOP), true);
+    same(rt, comes_next(tree, ONE, 0, 3, b"up", UP), true);
+    same(rt, ends_at(tree, ROOT, 5), true);
+    same(rt, ends_at(tree, UP, 0), true);
+}
+
 #[test]
 fn names_of_the_first_tree(rt: HostRuntime) -> Result<(), Fail> {
     let tree = first_tree(rt.alloc())?;
-    assert!(rt; comes_next(&tree, ROOT, 0, 3, b"one", ONE));
-    assert!(rt; comes_next(&tree, ROOT, 2, 3, b"one", ONE));
-    assert!(rt; comes_next(&tree, ROOT, 3, 4, b"two", TWO));
-    assert!(rt; comes_next(&tree, ROOT, 4, 5, b"top", TOP));
-    assert!(rt; comes_next(&tree, ONE, 0, 3, b"up", UP));
-    assert!(rt; tree.next_entry(ROOT, 5)?.is_none());
-    assert!(rt; tree.next_entry(UP, 0)?.is_none());
+    tell_names(&rt, &tree);
     Ok(())
+}
+
+fn miss(rt: &impl Abort, tree: &mut Tree) {
+    let stale = TreeError::Stale;
+    same(rt, tree.lookup(ROOT, b"up"), Err(TreeError::NoEnt));
+    same(rt, tree.lookup(ROOT, b"on"), Err(TreeError::NoEnt));
+    same(rt, tree.lookup(OTHER, b"one"), Err(stale));
+    same(rt, tree.parent(ROOT), Err(TreeError::NoEnt));
+    same(rt, tree.parent(OTHER), Err(stale));
+    same(rt, tree.next_entry(OTHER, 0).is_err(), true);
+    same(rt, tree.touch(OTHER, BEGINNING), Err(stale));
 }
 
 #[test]
 fn what_is_not_there(rt: HostRuntime) -> Result<(), Fail> {
     let mut tree = first_tree(rt.alloc())?;
-    assert!(rt; tree.lookup(ROOT, b"up") == Err(TreeError::NoEnt));
-    assert!(rt; tree.lookup(ROOT, b"on") == Err(TreeError::NoEnt));
-    assert!(rt; tree.lookup(OTHER, b"one") == Err(TreeError::Stale));
-    assert!(rt; tree.parent(ROOT) == Err(TreeError::NoEnt));
-    assert!(rt; tree.parent(OTHER) == Err(TreeError::Stale));
-    assert!(rt; tree.next_entry(OTHER, 0).is_err());
-    assert!(rt; tree.touch(OTHER, BEGINNING) == Err(TreeError::Stale));
+    miss(&rt, &mut tree);
+    Ok(())
+}
+
+fn touch(rt: &impl Abort, tree: &mut Tree) -> Result<(), Fail> {
+    tree.touch(UP, NOW)?;
+    let Some(facts) = tree.node(UP) else {
+        return Err(Fail::new("no node"));
+    };
+    same(rt, facts.access, NOW);
+    same(rt, facts.modify, BEGINNING);
+    same(rt, tree.node(TOP), directory(3, 0));
     Ok(())
 }
 
 #[test]
 fn a_node_is_touched(rt: HostRuntime) -> Result<(), Fail> {
     let mut tree = first_tree(rt.alloc())?;
-    tree.touch(UP, NOW)?;
-    let Some(facts) = tree.node(UP) else {
-        return Err(Fail::new("no node"));
-    };
-    assert!(rt; facts.access == NOW && facts.modify == BEGINNING);
-    assert!(rt; tree.node(TOP) == directory(3, 0));
-    Ok(())
+    touch(&rt, &mut tree)
+}
+
+const LEFT_OUT: Lines<'_> = &[
+    ("/one/up", 3),
+    ("/one", 1),
+    ("/one", 3),
+    ("/one/two", 2),
+    ("/one/low", 0),
+    ("", 1),
+    ("/one/up", 3),
+];
+
+fn tell_left(rt: &impl Abort, tree: &Tree) {
+    same(rt, tree.node(ROOT), directory(0, 1));
+    same(rt, tree.node(ONE), directory(1, 1));
+    same(rt, tree.lookup(ONE, b"up"), Ok(UP));
+    same(rt, tree.stored(ROOT).is_none(), true);
 }
 
 #[test]
 fn lines_that_are_left_out(rt: HostRuntime) -> Result<(), Fail> {
-    let alloc = rt.alloc();
-    let lines = [
-        line(alloc, b"/one/up", 3)?,
-        line(alloc, b"/one", 1)?,
-        line(alloc, b"/one", 3)?,
-        line(alloc, b"/one/two", 2)?,
-        line(alloc, b"/one/low", 0)?,
-        line(alloc, b"", 1)?,
-        line(alloc, b"/one/up", 3)?,
-    ];
-    let tree = Tree::new(alloc, &levels(alloc)?, &lines, None)?;
-    assert!(rt; tree.node(ROOT) == directory(0, 1));
-    assert!(rt; tree.node(ONE) == directory(1, 1));
-    assert_eq!(rt; tree.lookup(ONE, b"up")?, UP);
-    assert!(rt; tree.stored(ROOT).is_none());
+    let lattice = levels(rt.alloc())?;
+    let tree = tree_of(rt.alloc(), &lattice, LEFT_OUT, None)?;
+    tell_left(&rt, &tree);
     Ok(())
 }
 
@@ -218,101 +217,180 @@ fn file(alloc: Global, home: u32, label: u32) -> Fresh {
     }
 }
 
-/// Makes a file in a directory of the first tree, and looks at it. Its number, or why it is not made.
-fn made_in(
+fn look_at(rt: &impl Abort, tree: &mut Tree, dir: NodeId, name: &[u8], node: NodeId) {
+    same(rt, tree.lookup(dir, name), Ok(node));
+    same(rt, tree.lookup(node, name), Err(TreeError::NotDir));
+    same(rt, tree.raise(dir, Level(3), NOW), Err(TreeError::NotEmpty));
+    same(rt, tree.set_mode(node, 0o600, NOW), Ok(()));
+    same(rt, tree.node(node), made(3, NOW));
+}
+
+/// Makes a file in a directory, and looks at it. Its number, or why it is not made.
+fn make_in(
+    rt: &impl Abort,
     alloc: Global,
+    tree: &mut Tree,
     dir: NodeId,
     name: &[u8],
     home: u32,
-) -> Result<Result<u32, TreeError>, Fail> {
-    let mut tree = first_tree(alloc)?;
-    let (node, info) = match tree.insert(alloc, dir, name, file(alloc, home, 3), NOW) {
-        Ok(made) => made,
-        Err(error) => return Ok(Err(error)),
+) -> Result<u32, TreeError>
+    requires { HasFacts tree.old }
+{
+    let (node, info) = tree.insert(alloc, dir, name, file(alloc, home, 3), NOW)?;
+    same(rt, (info.before, info.after), (1, 2));
+    look_at(rt, tree, dir, name, node);
+    Ok(node.number)
+}
+
+/// The same in a tree of the four lines, beside what is due.
+fn makes(
+    rt: &impl Abort,
+    alloc: Global,
+    lattice: &Lattice,
+    dir: NodeId,
+    name: &[u8],
+    home: u32,
+    due: Result<u32, TreeError>,
+) {
+    let Ok(mut tree) = planted(alloc, lattice) else {
+        panic!(rt; "no memory");
     };
-    if info.before != 1 || info.after != 2 {
-        return Err(Fail::new("other change numbers"));
-    }
-    if tree.lookup(dir, name) != Ok(node) || tree.lookup(node, name) != Err(TreeError::NotDir) {
-        return Err(Fail::new("another node"));
-    }
-    if tree.raise(dir, Level(3), NOW) != Err(TreeError::NotEmpty) {
-        return Err(Fail::new("an empty directory"));
-    }
-    tree.set_mode(node, 0o600, NOW)?;
-    if tree.node(node) != made(3, NOW) {
-        return Err(Fail::new("other facts"));
-    }
-    Ok(Ok(node.number))
+    same(rt, make_in(rt, alloc, &mut tree, dir, name, home), due);
+}
+
+fn make_each(rt: &impl Abort, alloc: Global, lattice: &Lattice) {
+    makes(rt, alloc, lattice, ROOT, b"new", 0, Ok(5));
+    makes(rt, alloc, lattice, ONE, b"one", 1, Ok(2));
+    makes(rt, alloc, lattice, UP, b"up", 3, Ok(1));
+    makes(rt, alloc, lattice, ROOT, b"one", 0, Err(TreeError::Exist));
+    makes(rt, alloc, lattice, OTHER, b"new", 3, Err(TreeError::Stale));
 }
 
 #[test]
 fn nodes_that_are_made(rt: HostRuntime) -> Result<(), Fail> {
-    let alloc = rt.alloc();
-    assert!(rt; made_in(alloc, ROOT, b"new", 0)? == Ok(5));
-    assert!(rt; made_in(alloc, ONE, b"one", 1)? == Ok(2));
-    assert!(rt; made_in(alloc, UP, b"up", 3)? == Ok(1));
-    assert!(rt; made_in(alloc, ROOT, b"one", 0)? == Err(TreeError::Exist));
-    assert!(rt; made_in(alloc, OTHER, b"new", 3)? == Err(TreeError::Stale));
+    let lattice = levels(rt.alloc())?;
+    make_each(&rt, rt.alloc(), &lattice);
     Ok(())
 }
 
-/// Moves a name in the first tree, and looks at it. The node that goes by it, or why it is not moved.
-fn moved(
-    alloc: Global,
-    from: NodeId,
-    old: &[u8],
-    to: NodeId,
-    new: &[u8],
-) -> Result<Result<Option<NodeId>, TreeError>, Fail> {
-    let mut tree = first_tree(alloc)?;
-    let gone = match tree.rename(alloc, from, old, to, new, NOW) {
-        Ok((_, _, gone)) => gone,
-        Err(error) => return Ok(Err(error)),
-    };
-    let node = tree.lookup(to, new)?;
-    if tree.parent(node) != Ok(to) {
-        return Err(Fail::new("another parent"));
+/// Whether a directory goes by a name in another, and lies under it.
+fn lies_under(tree: &Tree, dir: NodeId, name: &[u8]) -> bool {
+    match tree.lookup(dir, name) {
+        Ok(node) => tree.parent(node) == Ok(dir),
+        Err(_) => false,
     }
-    Ok(Ok(gone.map(|dropped| dropped.node)))
+}
+
+/// A name in a directory.
+type Place<'a> = (NodeId, &'a [u8]);
+
+/// Moves a name, and looks at it. The node that went by the new one, or why it is not moved.
+fn move_in(
+    rt: &impl Abort,
+    alloc: Global,
+    tree: &mut Tree,
+    from: Place<'_>,
+    to: Place<'_>,
+) -> Result<Option<NodeId>, TreeError>
+    requires { HasFacts tree.old }
+{
+    let (_, _, gone) = tree.rename(alloc, from.0, from.1, to.0, to.1, NOW)?;
+    same(rt, lies_under(tree, to.0, to.1), true);
+    Ok(gone.map(|dropped| dropped.node))
+}
+
+/// The same in a tree of the four lines, beside what is due.
+fn moves(
+    rt: &impl Abort,
+    alloc: Global,
+    lattice: &Lattice,
+    from: Place<'_>,
+    to: Place<'_>,
+    due: Result<Option<NodeId>, TreeError>,
+) {
+    let Ok(mut tree) = planted(alloc, lattice) else {
+        panic!(rt; "no memory");
+    };
+    same(rt, move_in(rt, alloc, &mut tree, from, to), due);
+}
+
+fn move_each(rt: &impl Abort, alloc: Global, lattice: &Lattice) {
+    let one = (ROOT, b"one".as_slice());
+    let two = (ROOT, b"two".as_slice());
+    let top = (ROOT, b"top".as_slice());
+    moves(rt, alloc, lattice, two, (ONE, b"second"), Ok(None));
+    moves(rt, alloc, lattice, top, (ONE, b"up"), Ok(Some(UP)));
+    moves(rt, alloc, lattice, two, two, Ok(None));
+    moves(rt, alloc, lattice, two, one, Err(TreeError::Exist));
+    moves(rt, alloc, lattice, one, (UP, b"one"), Err(TreeError::Inval));
+    let three = (ROOT, b"three".as_slice());
+    moves(
+        rt,
+        alloc,
+        lattice,
+        three,
+        (ONE, b"third"),
+        Err(TreeError::NoEnt),
+    );
+    moves(
+        rt,
+        alloc,
+        lattice,
+        two,
+        (OTHER, b"two"),
+        Err(TreeError::Stale),
+    );
 }
 
 #[test]
 fn names_that_move(rt: HostRuntime) -> Result<(), Fail> {
-    let alloc = rt.alloc();
-    assert!(rt; moved(alloc, ROOT, b"two", ONE, b"second")? == Ok(None));
-    assert!(rt; moved(alloc, ROOT, b"top", ONE, b"up")? == Ok(Some(UP)));
-    assert!(rt; moved(alloc, ROOT, b"two", ROOT, b"two")? == Ok(None));
-    assert!(rt; moved(alloc, ROOT, b"two", ROOT, b"one")? == Err(TreeError::Exist));
-    assert!(rt; moved(alloc, ROOT, b"one", UP, b"one")? == Err(TreeError::Inval));
-    assert!(rt; moved(alloc, ROOT, b"three", ONE, b"third")? == Err(TreeError::NoEnt));
-    assert!(rt; moved(alloc, ROOT, b"two", OTHER, b"two")? == Err(TreeError::Stale));
+    let lattice = levels(rt.alloc())?;
+    move_each(&rt, rt.alloc(), &lattice);
     Ok(())
 }
 
-/// Takes a name out of a directory of the first tree, and looks for it. Why it stays.
-fn taken_out(alloc: Global, dir: NodeId, name: &[u8]) -> Result<Option<TreeError>, Fail> {
-    let mut tree = first_tree(alloc)?;
-    let (info, gone) = match tree.remove(dir, name, NOW) {
-        Ok(removed) => removed,
-        Err(error) => return Ok(Some(error)),
+/// Takes a name out of a directory, and looks for it. Why it stays.
+fn take_out(rt: &impl Abort, tree: &mut Tree, dir: NodeId, name: &[u8]) -> Result<(), TreeError>
+    requires { HasFacts tree.old }
+{
+    let (info, gone) = tree.remove(dir, name, NOW)?;
+    same(rt, (info.before, info.after), (1, 2));
+    same(rt, gone.is_some(), true);
+    same(rt, tree.lookup(dir, name), Err(TreeError::NoEnt));
+    Ok(())
+}
+
+/// The same of a tree of the four lines, beside what is due.
+fn goes(
+    rt: &impl Abort,
+    alloc: Global,
+    lattice: &Lattice,
+    dir: NodeId,
+    name: &[u8],
+    due: Result<(), TreeError>,
+) {
+    let Ok(mut tree) = planted(alloc, lattice) else {
+        panic!(rt; "no memory");
     };
-    if info.before != 1 || info.after != 2 || gone.is_none() {
-        return Err(Fail::new("other change numbers, or the node is there"));
-    }
-    if tree.lookup(dir, name) != Err(TreeError::NoEnt) {
-        return Err(Fail::new("the name is there"));
-    }
-    Ok(None)
+    same(rt, take_out(rt, &mut tree, dir, name), due);
+}
+
+/// A directory gets no other name.
+fn link_none(rt: &impl Abort, alloc: Global, lattice: &Lattice) {
+    let Ok(mut tree) = planted(alloc, lattice) else {
+        panic!(rt; "no memory");
+    };
+    let linked = tree.link(alloc, UP, ROOT, b"up", NOW);
+    same(rt, linked, Err(TreeError::IsDir));
 }
 
 #[test]
 fn names_that_go(rt: HostRuntime) -> Result<(), Fail> {
     let alloc = rt.alloc();
-    assert!(rt; taken_out(alloc, ONE, b"up")? == None);
-    assert!(rt; taken_out(alloc, ROOT, b"one")? == Some(TreeError::NotEmpty));
-    assert!(rt; taken_out(alloc, UP, b"up")? == Some(TreeError::NoEnt));
-    let mut tree = first_tree(alloc)?;
-    assert!(rt; tree.link(alloc, UP, ROOT, b"up", NOW) == Err(TreeError::IsDir));
+    let lattice = levels(alloc)?;
+    goes(&rt, alloc, &lattice, ONE, b"up", Ok(()));
+    goes(&rt, alloc, &lattice, ROOT, b"one", Err(TreeError::NotEmpty));
+    goes(&rt, alloc, &lattice, UP, b"up", Err(TreeError::NoEnt));
+    link_none(&rt, alloc, &lattice);
     Ok(())
 }
