@@ -9,7 +9,6 @@ use lnfs_arguments::{CompoundError, ExtraGrammar, NoExtraGrammar, Op, read_compo
 use lnfs_xdr::{XdrError, XdrReader, XdrWriter};
 use std::alloc::{AllocError, Global};
 use std::process::Abort;
-use std::test::Fail;
 
 /// In a table: words, and behind `=>` what is read of them, or the offset of what is refused. A and B are
 /// the words of the names `a` and `b`.
@@ -152,7 +151,22 @@ fn count_in(alloc: Global, bytes: &[u8]) -> Option<u32> {
     }
 }
 
-/// Reads each row of a table, which has so many, behind the words of a head.
+/// Reads the row of a table, behind the words of a head.
+fn is_read<G: ExtraGrammar>(
+    rt: &impl Abort,
+    alloc: Global,
+    row: &str,
+    head: &str,
+    grammar: &G,
+) -> Result<(), AllocError> {
+    let (words, expected) = row.split_once(" => ").expect(rt, row);
+    let bytes = message(alloc, head, words)?.expect(rt, row);
+    let found = told(alloc, &bytes, grammar)?;
+    assert_eq!(rt; found.as_str(), expected, "{words}");
+    Ok(())
+}
+
+/// Reads each row of a table, which has so many.
 fn are_read<G: ExtraGrammar>(
     rt: &impl Abort,
     alloc: Global,
@@ -164,10 +178,7 @@ fn are_read<G: ExtraGrammar>(
     let mut count: usize = 0;
     for row in rows.lines() {
         if !row.is_empty() {
-            let (words, expected) = row.split_once(" => ").expect(rt, row);
-            let bytes = message(alloc, head, words)?.expect(rt, row);
-            let found = told(alloc, &bytes, grammar)?;
-            assert_eq!(rt; found.as_str(), expected, "{words}");
+            is_read(rt, alloc, row, head, grammar)?;
             count = count.saturating_add(1);
         }
     }
@@ -176,34 +187,35 @@ fn are_read<G: ExtraGrammar>(
 }
 
 #[test]
-fn operations_are_read(rt: HostRuntime) -> Result<(), Fail> {
+fn operations_are_read(rt: HostRuntime) -> Result<(), AllocError> {
     for table in [(NAMES, 17), (FILES, 10), (SESSIONS, 7), (OUTSIDE, 10)] {
         are_read(&rt, rt.alloc(), table, "2 1", &NoExtraGrammar)?;
     }
     Ok(())
 }
 
+/// Compares the offset at which bytes that are no tag are refused.
+fn is_refused(
+    rt: &impl Abort,
+    alloc: Global,
+    bytes: &[u8],
+    expected: &str,
+) -> Result<(), AllocError> {
+    let found = told(alloc, bytes, &NoExtraGrammar)?;
+    assert_eq!(rt; found.as_str(), expected);
+    Ok(())
+}
+
 #[test]
-fn what_is_left_unread(rt: HostRuntime) -> Result<(), Fail> {
+fn what_is_left_unread(rt: HostRuntime) -> Result<(), AllocError> {
     let alloc = rt.alloc();
     are_read(&rt, alloc, (UNREAD, 13), "", &NoExtraGrammar)?;
-    let other = message(alloc, "", "3 5")?.ok_or("no words")?;
+    let other = message(alloc, "", "3 5")?.expect(&rt, "words");
     assert_eq!(rt; count_in(alloc, &other), Some(0));
     let cut: [u8; 5] = [0, 0, 0, 0, 0];
-    assert_eq!(rt;
-        told(alloc, &cut, &NoExtraGrammar)?.as_str(),
-        "garbage at 4"
-    );
-    assert_eq!(rt;
-        told(alloc, &cut[..3], &NoExtraGrammar)?.as_str(),
-        "garbage at 0"
-    );
-    let long: [u8; 4] = [0, 0, 4, 1];
-    assert_eq!(rt;
-        told(alloc, &long, &NoExtraGrammar)?.as_str(),
-        "garbage at 0"
-    );
-    Ok(())
+    is_refused(&rt, alloc, &cut, "garbage at 4")?;
+    is_refused(&rt, alloc, &cut[..3], "garbage at 0")?;
+    is_refused(&rt, alloc, &[0, 0, 4, 1], "garbage at 0")
 }
 
 /// One operation beside those of the table, of number 70: at most 16 bytes.
@@ -233,7 +245,6 @@ impl ExtraGrammar for OneBlock {
 }
 
 #[test]
-fn an_operation_beside_the_table(rt: HostRuntime) -> Result<(), Fail> {
-    are_read(&rt, rt.alloc(), (BESIDE, 3), "", &OneBlock)?;
-    Ok(())
+fn an_operation_beside_the_table(rt: HostRuntime) -> Result<(), AllocError> {
+    are_read(&rt, rt.alloc(), (BESIDE, 3), "", &OneBlock)
 }

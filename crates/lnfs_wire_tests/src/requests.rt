@@ -7,7 +7,7 @@ use lnfs_lists::{Items, Octets};
 use lnfs_requests::write_compound;
 use lnfs_xdr::XdrWriter;
 use std::alloc::{AllocError, Global};
-use std::test::Fail;
+use std::process::Abort;
 
 /// The bytes of the words, behind an empty tag, minor version 2 and a count of 1.
 fn laid_out(alloc: Global, words: &[u32]) -> Result<Vec<u8>, AllocError> {
@@ -34,6 +34,16 @@ fn written(alloc: Global, op: Op<'_>) -> Result<Vec<u8>, AllocError>
         ops: Items::new(ops),
     };
     write_compound(alloc, &compound)
+}
+
+/// Compares what is written of one operation with words.
+fn is_written(rt: &impl Abort, alloc: Global, op: Op<'_>, words: &[u32]) -> Result<(), AllocError>
+    requires { OpFits op }
+{
+    let found = written(alloc, op)?;
+    let due = laid_out(alloc, words)?;
+    assert_eq!(rt; found.as_slice(), due.as_slice());
+    Ok(())
 }
 
 /// A state id of the words 7, 1, 0, 2.
@@ -64,18 +74,14 @@ fn none(alloc: Global) -> RawAttrs
 }
 
 #[test]
-fn operations_are_written(rt: HostRuntime) -> Result<(), Fail> {
+fn operations_are_written(rt: HostRuntime) -> Result<(), AllocError> {
     let alloc = rt.alloc();
-    assert_eq!(rt; written(alloc, Op::GetFh)?, laid_out(alloc, &[10])?);
-    assert_eq!(rt;
-        written(alloc, Op::Access { bits: 63 })?,
-        laid_out(alloc, &[3, 63])?
-    );
-    Ok(())
+    is_written(&rt, alloc, Op::GetFh, &[10])?;
+    is_written(&rt, alloc, Op::Access { bits: 63 }, &[3, 63])
 }
 
 #[test]
-fn structures_are_written(rt: HostRuntime) -> Result<(), Fail> {
+fn structures_are_written(rt: HostRuntime) -> Result<(), AllocError> {
     let alloc = rt.alloc();
     let read = Op::Read {
         id: StateId {
@@ -85,10 +91,7 @@ fn structures_are_written(rt: HostRuntime) -> Result<(), Fail> {
         offset: 8,
         count: 9,
     };
-    assert_eq!(rt;
-        written(alloc, read)?,
-        laid_out(alloc, &[25, 7, 1, 0, 2, 0, 8, 9])?
-    );
+    is_written(&rt, alloc, read, &[25, 7, 1, 0, 2, 0, 8, 9])?;
     let sequence = Op::Sequence(Sequence {
         session: [0, 0, 0, 1, 0, 0, 0, 2, 0, 0, 0, 3, 0, 0, 0, 4],
         sequence: 5,
@@ -97,12 +100,11 @@ fn structures_are_written(rt: HostRuntime) -> Result<(), Fail> {
         cachethis: true,
     });
     let words = [53, 1, 2, 3, 4, 5, 6, 7, 1];
-    assert_eq!(rt; written(alloc, sequence)?, laid_out(alloc, &words)?);
-    Ok(())
+    is_written(&rt, alloc, sequence, &words)
 }
 
 #[test]
-fn an_open_is_written(rt: HostRuntime) -> Result<(), Fail> {
+fn an_open_is_written(rt: HostRuntime) -> Result<(), AllocError> {
     let alloc = rt.alloc();
     let open = Op::Open {
         seqid: 1,
@@ -114,114 +116,93 @@ fn an_open_is_written(rt: HostRuntime) -> Result<(), Fail> {
         claim: Claim::Handle,
     };
     let words = [18, 1, 2, 3, 1, 5, 1, 0x61000000, 0, 4];
-    assert_eq!(rt; written(alloc, open)?, laid_out(alloc, &words)?);
-    Ok(())
+    is_written(&rt, alloc, open, &words)
 }
 
 #[test]
-fn operations_without_arguments_are_written(rt: HostRuntime) -> Result<(), Fail> {
+fn operations_without_arguments_are_written(rt: HostRuntime) -> Result<(), AllocError> {
     let alloc = rt.alloc();
-    assert_eq!(rt; written(alloc, Op::LookupP)?, laid_out(alloc, &[16])?);
-    assert_eq!(rt; written(alloc, Op::PutRootFh)?, laid_out(alloc, &[24])?);
-    assert_eq!(rt; written(alloc, Op::ReadLink)?, laid_out(alloc, &[27])?);
-    assert_eq!(rt; written(alloc, Op::RestoreFh)?, laid_out(alloc, &[31])?);
-    assert_eq!(rt; written(alloc, Op::SaveFh)?, laid_out(alloc, &[32])?);
-    Ok(())
+    is_written(&rt, alloc, Op::LookupP, &[16])?;
+    is_written(&rt, alloc, Op::PutRootFh, &[24])?;
+    is_written(&rt, alloc, Op::ReadLink, &[27])?;
+    is_written(&rt, alloc, Op::RestoreFh, &[31])?;
+    is_written(&rt, alloc, Op::SaveFh, &[32])
 }
 
 #[test]
-fn names_are_written(rt: HostRuntime) -> Result<(), Fail> {
+fn names_are_written(rt: HostRuntime) -> Result<(), AllocError> {
     let alloc = rt.alloc();
     let link = Op::Link {
         name: Octets::from_slice(alloc, b"ab")?,
     };
-    assert_eq!(rt;
-        written(alloc, link)?,
-        laid_out(alloc, &[11, 2, 0x6162_0000])?
-    );
+    is_written(&rt, alloc, link, &[11, 2, 0x6162_0000])?;
     let lookup = Op::Lookup {
         name: Octets::from_slice(alloc, b"abcd")?,
     };
-    assert_eq!(rt;
-        written(alloc, lookup)?,
-        laid_out(alloc, &[15, 4, 0x6162_6364])?
-    );
+    is_written(&rt, alloc, lookup, &[15, 4, 0x6162_6364])?;
     let remove = Op::Remove {
         name: Octets::from_slice(alloc, b"a")?,
     };
-    assert_eq!(rt;
-        written(alloc, remove)?,
-        laid_out(alloc, &[28, 1, 0x6100_0000])?
-    );
-    Ok(())
+    is_written(&rt, alloc, remove, &[28, 1, 0x6100_0000])
 }
 
 #[test]
-fn handles_and_two_names_are_written(rt: HostRuntime) -> Result<(), Fail> {
+fn handles_and_two_names_are_written(rt: HostRuntime) -> Result<(), AllocError> {
     let alloc = rt.alloc();
     let putfh = Op::PutFh {
         handle: Octets::from_slice(alloc, &[0, 0, 2, 1])?,
     };
-    assert_eq!(rt; written(alloc, putfh)?, laid_out(alloc, &[22, 4, 0x0201])?);
+    is_written(&rt, alloc, putfh, &[22, 4, 0x0201])?;
     let rename = Op::Rename {
         old: Octets::from_slice(alloc, b"a")?,
         new: Octets::from_slice(alloc, b"b")?,
     };
     let words = [29, 1, 0x6100_0000, 1, 0x6200_0000];
-    assert_eq!(rt; written(alloc, rename)?, laid_out(alloc, &words)?);
-    Ok(())
+    is_written(&rt, alloc, rename, &words)
 }
 
 #[test]
-fn attributes_are_written(rt: HostRuntime) -> Result<(), Fail> {
+fn attributes_are_written(rt: HostRuntime) -> Result<(), AllocError> {
     let alloc = rt.alloc();
     let nverify = Op::NVerify { attrs: none(alloc) };
-    assert_eq!(rt; written(alloc, nverify)?, laid_out(alloc, &[17, 0, 0])?);
+    is_written(&rt, alloc, nverify, &[17, 0, 0])?;
     let verify = Op::Verify { attrs: none(alloc) };
-    assert_eq!(rt; written(alloc, verify)?, laid_out(alloc, &[37, 0, 0])?);
+    is_written(&rt, alloc, verify, &[37, 0, 0])?;
     let setattr = Op::SetAttr {
         id: ID,
         attrs: none(alloc),
     };
-    assert_eq!(rt;
-        written(alloc, setattr)?,
-        laid_out(alloc, &[34, 7, 1, 0, 2, 0, 0])?
-    );
-    Ok(())
+    is_written(&rt, alloc, setattr, &[34, 7, 1, 0, 2, 0, 0])
 }
 
 #[test]
-fn bitmaps_and_directories_are_written(rt: HostRuntime) -> Result<(), Fail> {
+fn bitmaps_and_directories_are_written(rt: HostRuntime) -> Result<(), AllocError> {
     let alloc = rt.alloc();
     let getattr = Op::GetAttr {
         asked: Bitmap {
             words: [2, 1, 0, 0, 0, 0, 0, 0],
         },
     };
-    assert_eq!(rt; written(alloc, getattr)?, laid_out(alloc, &[9, 2, 2, 1])?);
+    is_written(&rt, alloc, getattr, &[9, 2, 2, 1])?;
     let create = Op::Create {
         what: What::Dir,
         name: Octets::from_slice(alloc, b"a")?,
         attrs: none(alloc),
     };
     let words = [6, 2, 1, 0x6100_0000, 0, 0];
-    assert_eq!(rt; written(alloc, create)?, laid_out(alloc, &words)?);
-    Ok(())
+    is_written(&rt, alloc, create, &words)
 }
 
 #[test]
-fn operations_on_files_are_written(rt: HostRuntime) -> Result<(), Fail> {
+fn operations_on_files_are_written(rt: HostRuntime) -> Result<(), AllocError> {
     let alloc = rt.alloc();
     let close = Op::Close { seqid: 3, id: ID };
-    assert_eq!(rt;
-        written(alloc, close)?,
-        laid_out(alloc, &[4, 3, 7, 1, 0, 2])?
-    );
+    is_written(&rt, alloc, close, &[4, 3, 7, 1, 0, 2])?;
     let commit = Op::Commit {
         offset: 4_294_967_301,
         count: 6,
     };
-    assert_eq!(rt; written(alloc, commit)?, laid_out(alloc, &[5, 1, 5, 6])?);
+    is_written(&rt, alloc, commit, &[5, 1, 5, 6])?;
     let write = Op::Write {
         id: ID,
         offset: 8,
@@ -229,12 +210,11 @@ fn operations_on_files_are_written(rt: HostRuntime) -> Result<(), Fail> {
         content: Span::new(b"hi"),
     };
     let words = [38, 7, 1, 0, 2, 0, 8, 2, 2, 0x6869_0000];
-    assert_eq!(rt; written(alloc, write)?, laid_out(alloc, &words)?);
-    Ok(())
+    is_written(&rt, alloc, write, &words)
 }
 
 #[test]
-fn a_reading_of_a_directory_is_written(rt: HostRuntime) -> Result<(), Fail> {
+fn a_reading_of_a_directory_is_written(rt: HostRuntime) -> Result<(), AllocError> {
     let alloc = rt.alloc();
     let readdir = Op::ReadDir {
         cookie: 5,
@@ -243,15 +223,11 @@ fn a_reading_of_a_directory_is_written(rt: HostRuntime) -> Result<(), Fail> {
         maxcount: 4,
         asked: Bitmap { words: [0; 8] },
     };
-    assert_eq!(rt;
-        written(alloc, readdir)?,
-        laid_out(alloc, &[26, 0, 5, 1, 2, 3, 4, 0])?
-    );
-    Ok(())
+    is_written(&rt, alloc, readdir, &[26, 0, 5, 1, 2, 3, 4, 0])
 }
 
 #[test]
-fn clients_are_written(rt: HostRuntime) -> Result<(), Fail> {
+fn clients_are_written(rt: HostRuntime) -> Result<(), AllocError> {
     let alloc = rt.alloc();
     let exchange = Op::ExchangeId {
         verifier: [0, 0, 0, 1, 0, 0, 0, 2],
@@ -260,18 +236,17 @@ fn clients_are_written(rt: HostRuntime) -> Result<(), Fail> {
         implementation: None,
     };
     let words = [42, 1, 2, 2, 0x6331_0000, 3, 0, 0];
-    assert_eq!(rt; written(alloc, exchange)?, laid_out(alloc, &words)?);
+    is_written(&rt, alloc, exchange, &words)?;
     let destroy = Op::DestroyClientId {
         client: 4_294_967_301,
     };
-    assert_eq!(rt; written(alloc, destroy)?, laid_out(alloc, &[57, 1, 5])?);
+    is_written(&rt, alloc, destroy, &[57, 1, 5])?;
     let reclaim = Op::ReclaimComplete { one_fs: false };
-    assert_eq!(rt; written(alloc, reclaim)?, laid_out(alloc, &[58, 0])?);
-    Ok(())
+    is_written(&rt, alloc, reclaim, &[58, 0])
 }
 
 #[test]
-fn sessions_are_written(rt: HostRuntime) -> Result<(), Fail> {
+fn sessions_are_written(rt: HostRuntime) -> Result<(), AllocError> {
     let alloc = rt.alloc();
     let create = Op::CreateSession(CreateSession {
         client: 5,
@@ -285,13 +260,9 @@ fn sessions_are_written(rt: HostRuntime) -> Result<(), Fail> {
     let words = [
         43, 0, 5, 6, 7, 1, 2, 3, 4, 5, 6, 0, 1, 2, 3, 4, 5, 6, 0, 8, 0,
     ];
-    assert_eq!(rt; written(alloc, create)?, laid_out(alloc, &words)?);
+    is_written(&rt, alloc, create, &words)?;
     let destroy = Op::DestroySession {
         session: [0, 0, 0, 1, 0, 0, 0, 2, 0, 0, 0, 3, 0, 0, 0, 4],
     };
-    assert_eq!(rt;
-        written(alloc, destroy)?,
-        laid_out(alloc, &[44, 1, 2, 3, 4])?
-    );
-    Ok(())
+    is_written(&rt, alloc, destroy, &[44, 1, 2, 3, 4])
 }

@@ -5,7 +5,7 @@ use lnfs_compound::{
 };
 use lnfs_lists::{Items, Octets};
 use std::alloc::{AllocError, Global};
-use std::test::Fail;
+use std::process::Abort;
 
 /// Words in the order of the network.
 fn bytes_of(alloc: Global, words: &[u32]) -> Result<Vec<u8>, AllocError> {
@@ -131,17 +131,40 @@ static ROWS: [(&[u32], &str); 34] = [
     (&[10044, 10044], "Failed { number: 10044, status: 10044 }"),
 ];
 
+/// The bytes of a message with one result.
+fn message_of(alloc: Global, words: &[u32]) -> Result<Vec<u8>, AllocError> {
+    let mut bytes = bytes_of(alloc, &BEFORE)?;
+    bytes.extend_from_slice(&bytes_of(alloc, words)?)?;
+    Ok(bytes)
+}
+
+/// Compares the one result with what is due, as it is shown.
+fn is_shown(
+    rt: &impl Abort,
+    alloc: Global,
+    results: &[OpResult],
+    text: &str,
+) -> Result<(), AllocError> {
+    assert_eq!(rt; results.len(), 1);
+    let shown = format!(in alloc; "{:?}", results[0])?;
+    assert_eq!(rt; shown.as_str(), text);
+    Ok(())
+}
+
+/// Compares what is read of a message with the one result that is due.
+fn is_read(rt: &impl Abort, alloc: Global, bytes: &[u8], text: &str) -> Result<(), AllocError> {
+    match read_results(alloc, bytes) {
+        Ok(read) => is_shown(rt, alloc, read.results.as_slice(), text),
+        Err(refused) => panic!(rt; "{refused:?} for {text}"),
+    }
+}
+
 #[test]
-fn each_result_is_read(rt: HostRuntime) -> Result<(), Fail> {
+fn each_result_is_read(rt: HostRuntime) -> Result<(), AllocError> {
     let alloc = rt.alloc();
     for (words, text) in &ROWS {
-        let mut bytes = bytes_of(alloc, &BEFORE)?;
-        bytes.extend_from_slice(&bytes_of(alloc, words)?)?;
-        let read = read_results(alloc, &bytes)?;
-        let results = read.results.as_slice();
-        assert_eq!(rt; results.len(), 1);
-        let shown = format!(in alloc; "{:?}", results[0])?;
-        assert_eq!(rt; shown.as_str(), *text);
+        let bytes = message_of(alloc, words)?;
+        is_read(&rt, alloc, &bytes, text)?;
     }
     Ok(())
 }
@@ -174,35 +197,44 @@ static GARBAGE: [(&[u32], usize, &str); 12] = [
     (&[0, 0, 2, 15, 0], 20, "one result of two"),
 ];
 
+/// The offset at which bytes are refused.
+fn refused_at(alloc: Global, bytes: &[u8]) -> Result<Option<usize>, AllocError> {
+    match read_results(alloc, bytes) {
+        Err(CompoundError::Garbage { at }) => Ok(Some(at)),
+        Err(CompoundError::Memory) => Err(AllocError),
+        Ok(_) => Ok(None),
+    }
+}
+
 #[test]
-fn garbage_is_refused_where_it_begins(rt: HostRuntime) -> Result<(), Fail> {
+fn garbage_is_refused_where_it_begins(rt: HostRuntime) -> Result<(), AllocError> {
+    let alloc = rt.alloc();
     for (words, want, text) in &GARBAGE {
-        let bytes = bytes_of(rt.alloc(), words)?;
-        let at = match read_results(rt.alloc(), &bytes) {
-            Err(CompoundError::Garbage { at }) => Some(at),
-            Err(CompoundError::Memory) => return Err(Fail::from(AllocError)),
-            Ok(_) => None,
-        };
-        assert_eq!(rt; at, Some(*want), "{text}");
+        let bytes = bytes_of(alloc, words)?;
+        assert_eq!(rt; refused_at(alloc, &bytes)?, Some(*want), "{text}");
     }
     Ok(())
 }
 
-#[test]
-fn results_are_written_with_zero_pad_bytes(rt: HostRuntime) -> Result<(), Fail> {
-    let alloc = rt.alloc();
+/// What is written of the results of PUTROOTFH, of READ and of an operation beside the table.
+fn three_written(alloc: Global) -> Result<Vec<u8>, AllocError> {
     let content = Octets::from_slice(alloc, b"hi")?;
-    let answer = Octets::from_slice(alloc, b"\x00\x00\x00\x07")?;
-    let mut list = Vec::new(alloc);
-    list.push(OpResult::PutRootFh)?;
-    list.push(OpResult::Read { eof: true, content })?;
-    list.push(OpResult::Extra {
+    let bytes = Octets::from_slice(alloc, b"\x00\x00\x00\x07")?;
+    let extra = OpResult::Extra {
         number: 69,
         status: 0,
-        bytes: answer,
-    })?;
-    let results = Results::of(Octets::from_slice(alloc, b"t")?, Items::new(list));
-    let written = write_results(alloc, &results)?;
+        bytes,
+    };
+    let read = OpResult::Read { eof: true, content };
+    let list = vec![in alloc; OpResult::PutRootFh, read, extra]?;
+    let tag = Octets::from_slice(alloc, b"t")?;
+    write_results(alloc, &Results::of(tag, Items::new(list)))
+}
+
+#[test]
+fn results_are_written_with_zero_pad_bytes(rt: HostRuntime) -> Result<(), AllocError> {
+    let alloc = rt.alloc();
+    let written = three_written(alloc)?;
     let want = [
         0,
         1,
@@ -223,17 +255,21 @@ fn results_are_written_with_zero_pad_bytes(rt: HostRuntime) -> Result<(), Fail> 
     Ok(())
 }
 
+/// The bound of an operation, which is dropped here.
+fn bound_of(op: Op<'_>) -> u32 {
+    reply_bound(&op, &NoExtraGrammar)
+}
+
 fn read_bound(count: u32) -> u32 {
     let id = StateId {
         seqid: 0,
         other: [0; 12],
     };
-    let op = Op::Read {
+    bound_of(Op::Read {
         id,
         offset: 0,
         count,
-    };
-    reply_bound(&op, &NoExtraGrammar)
+    })
 }
 
 #[test]
@@ -241,5 +277,5 @@ fn a_read_has_room_for_its_data(rt: HostRuntime) {
     for (count, want) in [(0, 16), (1, 20), (4, 20), (32768, 32784), (32769, 32784)] {
         assert_eq!(rt; read_bound(count), want, "at {count}");
     }
-    assert_eq!(rt; reply_bound(&Op::GetFh, &NoExtraGrammar), 24);
+    assert_eq!(rt; bound_of(Op::GetFh), 24);
 }

@@ -1,11 +1,13 @@
 //! Calls, replies and records of RPC (RFC 5531).
+ghost use Rattle.lnfs_rpc.specs.Replies.{seen_head, BodyFits, ResultsFit};
+
 use lnfs_rpc::{
-    Auth, CallError, DeframeError, Deframer, Head, Sys, frame, read_call, read_reply, read_sys,
-    write_reply,
+    Auth, Call, CallError, DeframeError, Deframer, Head, Sys, frame, read_call, read_reply,
+    read_sys, write_reply,
 };
 use lnfs_xdr::XdrError;
 use std::alloc::{AllocError, Global};
-use std::test::Fail;
+use std::process::Abort;
 
 /// The bytes of words.
 fn bytes_of(alloc: Global, words: &[u32]) -> Result<Vec<u8>, AllocError> {
@@ -22,17 +24,21 @@ const CALL: [u32; 27] = [
     0x63310000, 0, 0, 0,
 ];
 
-#[test]
-fn a_call_is_read(rt: HostRuntime) -> Result<(), Fail> {
-    let record = bytes_of(rt.alloc(), &CALL)?;
-    let Ok(call) = read_call(&record) else {
-        return Err(Fail::from(AllocError));
-    };
+fn parts_are_read(rt: &impl Abort, call: &Call<'_>) {
     assert_eq!(rt; (call.xid, call.proc), (1, 1));
     assert_eq!(rt; (call.cred.flavor, call.cred.body.len()), (1, 24));
     assert_eq!(rt; (call.verf.flavor, call.verf.body.len()), (0, 0));
     assert_eq!(rt; (call.header.len(), call.args.len()), (56, 44));
     assert_eq!(rt; read_sys(call.cred.body), Ok(Sys { uid: 0, gid: 0 }));
+}
+
+#[test]
+fn a_call_is_read(rt: HostRuntime) -> Result<(), AllocError> {
+    let record = bytes_of(rt.alloc(), &CALL)?;
+    match read_call(&record) {
+        Ok(call) => parts_are_read(&rt, &call),
+        Err(refused) => panic!(rt; "{refused:?}"),
+    }
     Ok(())
 }
 
@@ -40,148 +46,179 @@ fn refusal(record: &[u8]) -> Option<CallError> {
     read_call(record).err()
 }
 
+/// Why the first bytes of the call are refused.
+fn refusal_due(len: usize) -> Option<CallError> {
+    match len {
+        0..=7 => Some(CallError::NotACall),
+        8..=63 => Some(CallError::BadHeader { xid: 1 }),
+        _ => None,
+    }
+}
+
 #[test]
-fn a_call_that_ends_early(rt: HostRuntime) -> Result<(), Fail> {
+fn a_call_that_ends_early(rt: HostRuntime) -> Result<(), AllocError> {
     let record = bytes_of(rt.alloc(), &CALL)?;
     for n in 0..=record.len() {
-        let want = if n < 8 {
-            Some(CallError::NotACall)
-        } else if n < 64 {
-            Some(CallError::BadHeader { xid: 1 })
-        } else {
-            None
-        };
-        assert_eq!(rt; refusal(&record[..n]), want, "of {n} bytes");
+        assert_eq!(rt; refusal(&record[..n]), refusal_due(n), "of {n} bytes");
     }
     Ok(())
 }
 
-#[test]
-fn refused_calls(rt: HostRuntime) -> Result<(), Fail> {
-    let alloc = rt.alloc();
-    let xid = 1;
-    // two words of the call, by their places, are replaced
-    let cases = [
-        (1, 1, 2, 3, CallError::NotACall),
-        (2, 3, 3, 100005, CallError::BadVersion { xid }),
-        (2, 1, 7, 401, CallError::BadVersion { xid }),
-        (7, 401, 3, 100005, CallError::BadHeader { xid }),
-        (15, 401, 3, 100005, CallError::BadHeader { xid }),
-        (15, 45, 4, 3, CallError::BadHeader { xid }),
-        (3, 100005, 4, 3, CallError::BadProgram { xid, stat: 1 }),
-        (4, 3, 5, 2, CallError::BadProgram { xid, stat: 2 }),
-        (5, 2, 5, 2, CallError::BadProgram { xid, stat: 3 }),
-    ];
-    for (i, (a, x, b, y, want)) in cases.into_iter().enumerate() {
-        let mut words = CALL;
-        if a < 27 && b < 27 {
-            words[a] = x;
-            words[b] = y;
+const XID: u32 = 1;
+
+/// Two words of the call, by their places, are replaced, and it is refused for this.
+static REFUSED: [(usize, u32, usize, u32, CallError); 9] = [
+    (1, 1, 2, 3, CallError::NotACall),
+    (2, 3, 3, 100005, CallError::BadVersion { xid: XID }),
+    (2, 1, 7, 401, CallError::BadVersion { xid: XID }),
+    (7, 401, 3, 100005, CallError::BadHeader { xid: XID }),
+    (15, 401, 3, 100005, CallError::BadHeader { xid: XID }),
+    (15, 45, 4, 3, CallError::BadHeader { xid: XID }),
+    (3, 100005, 4, 3, CallError::BadProgram { xid: XID, stat: 1 }),
+    (4, 3, 5, 2, CallError::BadProgram { xid: XID, stat: 2 }),
+    (5, 2, 5, 2, CallError::BadProgram { xid: XID, stat: 3 }),
+];
+
+/// The call, where words are replaced: each stands behind its place.
+fn call_with(alloc: Global, replaced: &[(usize, u32)]) -> Result<Vec<u8>, AllocError> {
+    let mut words = CALL;
+    for pair in replaced {
+        let (place, word) = *pair;
+        if place < words.len() {
+            words[place] = word;
         }
-        assert_eq!(rt; refusal(&bytes_of(alloc, &words)?), Some(want), "case {i}");
+    }
+    bytes_of(alloc, &words)
+}
+
+#[test]
+fn refused_calls(rt: HostRuntime) -> Result<(), AllocError> {
+    for (i, (a, x, b, y, want)) in REFUSED.iter().enumerate() {
+        let record = call_with(rt.alloc(), &[(*a, *x), (*b, *y)])?;
+        assert_eq!(rt; refusal(&record), Some(*want), "case {i}");
     }
     Ok(())
 }
 
-#[test]
-fn credentials_of_400_and_401_bytes(rt: HostRuntime) -> Result<(), Fail> {
-    let alloc = rt.alloc();
-    for (len, taken) in [(400, true), (401, false)] {
-        let mut record = bytes_of(alloc, &[7, 0, 2, 100003, 4, 0, 0, len])?;
-        record.extend_from_slice(&[255; 404])?;
-        record.truncate(32 + 400 + if taken { 0 } else { 4 });
-        record.extend_from_slice(&[0; 8])?;
-        assert_eq!(rt; read_call(&record).is_ok(), taken, "of {len} bytes");
-    }
-    Ok(())
+/// A call with a credential of so many bytes, all set, that ends at an offset.
+fn call_by(alloc: Global, len: u32, end: usize) -> Result<Vec<u8>, AllocError> {
+    let mut record = bytes_of(alloc, &[7, 0, 2, 100003, 4, 0, 0, len])?;
+    record.resize(end, 255)?;
+    record.extend_from_slice(&[0; 8])?;
+    Ok(record)
 }
 
 #[test]
-fn bodies_of_auth_sys(rt: HostRuntime) -> Result<(), Fail> {
-    let alloc = rt.alloc();
-    let good = bytes_of(alloc, &[9, 2, 0x61620101, 1000, 100, 2, 7, 8])?;
-    assert_eq!(rt;
-        read_sys(&good),
-        Ok(Sys {
-            uid: 1000,
-            gid: 100
-        })
-    );
+fn credentials_of_400_and_401_bytes(rt: HostRuntime) -> Result<(), AllocError> {
+    let taken = call_by(rt.alloc(), 400, 32 + 400)?;
+    assert!(rt; read_call(&taken).is_ok(), "of 400 bytes");
+    let refused = call_by(rt.alloc(), 401, 32 + 404)?;
+    assert!(rt; read_call(&refused).is_err(), "of 401 bytes");
+    Ok(())
+}
+
+/// What a body of words and so many zero bytes behind them gives.
+fn sys_in(alloc: Global, words: &[u32], zeros: usize) -> Result<Result<Sys, XdrError>, AllocError> {
+    let mut body = bytes_of(alloc, words)?;
+    body.resize(body.len().saturating_add(zeros), 0)?;
+    Ok(read_sys(&body))
+}
+
+fn short_bodies_are_refused(rt: &impl Abort, good: &[u8]) {
     for n in 0..good.len() {
         assert_eq!(rt; read_sys(&good[..n]), Err(XdrError::Short), "of {n} bytes");
     }
-    let mut groups = bytes_of(alloc, &[0, 0, 1, 2, 16])?;
-    groups.extend_from_slice(&[0; 64])?;
-    assert_eq!(rt; read_sys(&groups), Ok(Sys { uid: 1, gid: 2 }));
-    groups.extend_from_slice(&[0; 4])?;
-    assert_eq!(rt; read_sys(&groups), Err(XdrError::TooLong));
-    let many = bytes_of(alloc, &[0, 0, 1, 2, 17])?;
-    assert_eq!(rt; read_sys(&many), Err(XdrError::TooLong));
-    let name = bytes_of(alloc, &[0, 256])?;
-    assert_eq!(rt; read_sys(&name), Err(XdrError::TooLong));
+}
+
+/// 16 groups are read, and no more; and a name of 255 bytes at most.
+fn limits_are_kept(rt: &impl Abort, alloc: Global) -> Result<(), AllocError> {
+    let groups = [0, 0, 1, 2, 16];
+    assert_eq!(rt; sys_in(alloc, &groups, 64)?, Ok(Sys { uid: 1, gid: 2 }));
+    assert_eq!(rt; sys_in(alloc, &groups, 68)?, Err(XdrError::TooLong));
+    let many = [0, 0, 1, 2, 17];
+    assert_eq!(rt; sys_in(alloc, &many, 0)?, Err(XdrError::TooLong));
+    assert_eq!(rt; sys_in(alloc, &[0, 256], 0)?, Err(XdrError::TooLong));
     Ok(())
 }
 
 #[test]
-fn replies_as_bytes(rt: HostRuntime) -> Result<(), Fail> {
+fn bodies_of_auth_sys(rt: HostRuntime) -> Result<(), AllocError> {
+    let good = bytes_of(rt.alloc(), &[9, 2, 0x61620101, 1000, 100, 2, 7, 8])?;
+    let sys = Sys {
+        uid: 1000,
+        gid: 100,
+    };
+    assert_eq!(rt; read_sys(&good), Ok(sys));
+    short_bodies_are_refused(&rt, &good);
+    limits_are_kept(&rt, rt.alloc())
+}
+
+/// Compares a reply to the call 5 with words.
+fn is_written(
+    rt: &impl Abort,
+    alloc: Global,
+    head: &Head<'_>,
+    results: &[u8],
+    want: &[u32],
+) -> Result<(), AllocError>
+    requires verifier { BodyFits (seen_head head.now) }
+    requires denial { ResultsFit (seen_head head.now) results.now }
+{
+    let written = write_reply(alloc, 5, head, results)?;
+    let due = bytes_of(alloc, want)?;
+    assert_eq!(rt; written.as_slice(), due.as_slice());
+    Ok(())
+}
+
+#[test]
+fn replies_as_bytes(rt: HostRuntime) -> Result<(), AllocError> {
     let alloc = rt.alloc();
-    let none = Auth {
+    let words = [5, 1, 1, 0, 2, 2];
+    is_written(&rt, alloc, &Head::VersionMismatch, &[], &words)?;
+    let words = [5, 1, 1, 1, 5];
+    is_written(&rt, alloc, &Head::AuthError { stat: 5 }, &[], &words)?;
+    let verf = Auth {
         flavor: 0,
         body: &[],
     };
-    let cases: [(Head<'_>, &[u8], &[u32]); 4] = [
-        (Head::VersionMismatch, &[], &[5, 1, 1, 0, 2, 2]),
-        (Head::AuthError { stat: 5 }, &[], &[5, 1, 1, 1, 5]),
-        (
-            Head::Accepted {
-                verf: none,
-                stat: 1,
-            },
-            &[],
-            &[5, 1, 0, 0, 0, 1],
-        ),
-        (
-            Head::Accepted {
-                verf: none,
-                stat: 2,
-            },
-            &[0, 0, 0, 4, 0, 0, 0, 4],
-            &[5, 1, 0, 0, 0, 2, 4, 4],
-        ),
-    ];
-    for (head, results, want) in cases {
-        let written = write_reply(alloc, 5, &head, results)?;
-        assert_eq!(rt; written.as_slice(), bytes_of(alloc, want)?.as_slice());
-    }
-    Ok(())
+    let head = Head::Accepted { verf, stat: 1 };
+    is_written(&rt, alloc, &head, &[], &[5, 1, 0, 0, 0, 1])?;
+    let head = Head::Accepted { verf, stat: 2 };
+    let versions = [0, 0, 0, 4, 0, 0, 0, 4];
+    let words = [5, 1, 0, 0, 0, 2, 4, 4];
+    is_written(&rt, alloc, &head, &versions, &words)
 }
 
 fn place(message: &[u8]) -> Option<usize> {
     read_reply(message).err()
 }
 
+/// The item that isn't there in the first bytes of the reply below.
+fn place_due(len: usize) -> Option<usize> {
+    match len {
+        0..=3 => Some(0),
+        4..=7 => Some(4),
+        8..=11 => Some(8),
+        12..=15 => Some(12),
+        16..=27 => Some(16),
+        28..=31 => Some(28),
+        _ => None,
+    }
+}
+
 #[test]
-fn a_reply_that_ends_early(rt: HostRuntime) -> Result<(), Fail> {
+fn a_reply_that_ends_early(rt: HostRuntime) -> Result<(), AllocError> {
     // a verifier of 5 bytes and 3 pad bytes, and 8 bytes of results
     let words = [5, 1, 0, 6, 5, 0x01020304, 0x05ffffff, 0, 9, 9];
     let message = bytes_of(rt.alloc(), &words)?;
     for n in 0..=message.len() {
-        let want = match n {
-            0..=3 => Some(0),
-            4..=7 => Some(4),
-            8..=11 => Some(8),
-            12..=15 => Some(12),
-            16..=27 => Some(16),
-            28..=31 => Some(28),
-            _ => None,
-        };
-        assert_eq!(rt; place(&message[..n]), want, "of {n} bytes");
+        assert_eq!(rt; place(&message[..n]), place_due(n), "of {n} bytes");
     }
     Ok(())
 }
 
 #[test]
-fn refused_replies(rt: HostRuntime) -> Result<(), Fail> {
+fn refused_replies(rt: HostRuntime) -> Result<(), AllocError> {
     let alloc = rt.alloc();
     let cases: [(&[u32], usize); 7] = [
         (&[5, 0, 0, 0, 0, 0], 4),
@@ -198,63 +235,109 @@ fn refused_replies(rt: HostRuntime) -> Result<(), Fail> {
     Ok(())
 }
 
-/// The records of a stream that is fed in pieces of one length, and how the last call ended.
+/// Takes the records that are whole, and tells how the last call ended.
+fn take_records(
+    deframer: &mut Deframer,
+    records: &mut Vec<Vec<u8>>,
+) -> Result<Option<DeframeError>, AllocError> {
+    for _ in 0..5000 {
+        match deframer.next() {
+            Ok(None) => break,
+            Ok(Some(record)) => records.push(record)?,
+            Err(e) => return Ok(Some(e)),
+        }
+    }
+    Ok(None)
+}
+
+/// Takes the records of a stream that is fed in pieces of one length, and tells how the last call ended.
 fn records_in(
     alloc: Global,
     stream: &[u8],
     len: usize,
-) -> Result<(Vec<Vec<u8>>, Option<DeframeError>), AllocError> {
+    records: &mut Vec<Vec<u8>>,
+) -> Result<Option<DeframeError>, AllocError> {
     let mut deframer = Deframer::new(alloc);
-    let mut records = Vec::new(alloc);
     for piece in stream.chunks(len.max(1)) {
         deframer.feed(piece)?;
-        for _ in 0..5000 {
-            match deframer.next() {
-                Ok(None) => break,
-                Ok(Some(record)) => records.push(record)?,
-                Err(e) => return Ok((records, Some(e))),
-            }
+        let end = take_records(&mut deframer, records)?;
+        if end.is_some() {
+            return Ok(end);
         }
     }
-    Ok((records, None))
+    Ok(None)
+}
+
+/// How many records there are in a stream, and how the last call ended.
+fn count_in(
+    alloc: Global,
+    stream: &[u8],
+    len: usize,
+) -> Result<(usize, Option<DeframeError>), AllocError> {
+    let mut records = Vec::new(alloc);
+    let end = records_in(alloc, stream, len, &mut records)?;
+    Ok((records.len(), end))
 }
 
 /// The call in fragments of 40, 0 and 68 bytes.
 fn call_in_fragments(alloc: Global) -> Result<Vec<u8>, AllocError> {
-    let mut stream = bytes_of(alloc, &[40])?;
-    stream.extend_from_slice(&bytes_of(alloc, &CALL[..10])?)?;
-    stream.extend_from_slice(&bytes_of(alloc, &[0, 0x80000044])?)?;
-    stream.extend_from_slice(&bytes_of(alloc, &CALL[10..])?)?;
+    let mut stream = Vec::new(alloc);
+    let parts: [&[u32]; 4] = [&[40], &CALL[..10], &[0, 0x80000044], &CALL[10..]];
+    for part in parts {
+        stream.extend_from_slice(&bytes_of(alloc, part)?)?;
+    }
     Ok(stream)
 }
 
-#[test]
-fn fragments_in_any_pieces(rt: HostRuntime) -> Result<(), Fail> {
-    let alloc = rt.alloc();
-    let record = bytes_of(alloc, &CALL)?;
-    let stream = call_in_fragments(alloc)?;
-    for len in [1, 3, 44, 116, 1000] {
-        let (records, end) = records_in(alloc, &stream, len)?;
-        assert_eq!(rt; (records.len(), end), (1, None), "pieces of {len}");
-        for found in &records {
-            assert_eq!(rt; found.as_slice(), record.as_slice());
-        }
+/// Compares the one record of a stream in pieces of one length.
+fn is_one_record(
+    rt: &impl Abort,
+    alloc: Global,
+    stream: &[u8],
+    len: usize,
+    record: &[u8],
+) -> Result<(), AllocError> {
+    let mut records = Vec::new(alloc);
+    let end = records_in(alloc, stream, len, &mut records)?;
+    assert_eq!(rt; (records.len(), end), (1, None), "pieces of {len}");
+    for found in &records {
+        assert_eq!(rt; found.as_slice(), record);
     }
     Ok(())
 }
 
 #[test]
-fn a_frame_is_a_record(rt: HostRuntime) -> Result<(), Fail> {
+fn fragments_in_any_pieces(rt: HostRuntime) -> Result<(), AllocError> {
     let alloc = rt.alloc();
-    let framed = frame(alloc, &[1, 2, 3])?;
-    assert_eq!(rt; framed.as_slice(), [128, 0, 0, 3, 1, 2, 3].as_slice());
-    let (records, end) = records_in(alloc, &framed, 2)?;
-    assert_eq!(rt; (records.len(), end), (1, None));
+    let record = bytes_of(alloc, &CALL)?;
+    let stream = call_in_fragments(alloc)?;
+    for len in [1, 3, 44, 116, 1000] {
+        is_one_record(&rt, alloc, &stream, len, &record)?;
+    }
     Ok(())
 }
 
 #[test]
-fn records_at_the_limit(rt: HostRuntime) -> Result<(), Fail> {
+fn a_frame_is_a_record(rt: HostRuntime) -> Result<(), AllocError> {
+    let alloc = rt.alloc();
+    let framed = frame(alloc, &[1, 2, 3])?;
+    assert_eq!(rt; framed.as_slice(), [128, 0, 0, 3, 1, 2, 3].as_slice());
+    assert_eq!(rt; count_in(alloc, &framed, 2)?, (1, None));
+    Ok(())
+}
+
+/// The bytes of fragments: the head of each, and how many bytes follow it.
+fn stream_of(alloc: Global, fragments: &[(u32, usize)]) -> Result<Vec<u8>, AllocError> {
+    let mut stream = Vec::new(alloc);
+    for (head, len) in fragments {
+        stream.extend_from_slice(&head.to_be_bytes())?;
+        stream.resize(stream.len().saturating_add(*len), 7)?;
+    }
+    Ok(stream)
+}
+
+#[test]
+fn records_at_the_limit(rt: HostRuntime) -> Result<(), AllocError> {
     let alloc = rt.alloc();
     // heads and the bytes that follow each, how many records there are, and whether one is too long
     let cases: [(&[(u32, usize)], usize, bool); 6] = [
@@ -265,35 +348,19 @@ fn records_at_the_limit(rt: HostRuntime) -> Result<(), Fail> {
         (&[(0x80000001, 1), (0xffffffff, 0)], 1, true),
         (&[(0x0001ffff, 131071), (0x80000001, 0)], 0, false),
     ];
-    for (i, (fragments, count, too_long)) in cases.into_iter().enumerate() {
-        let mut stream = Vec::new(alloc);
-        for (head, len) in fragments {
-            stream.extend_from_slice(&head.to_be_bytes())?;
-            stream.resize(stream.len().saturating_add(*len), 7)?;
-        }
-        let (records, end) = records_in(alloc, &stream, 4096)?;
-        assert_eq!(rt;
-            (records.len(), end.is_some()),
-            (count, too_long),
-            "case {i}"
-        );
+    for (i, (fragments, want, too_long)) in cases.into_iter().enumerate() {
+        let stream = stream_of(alloc, fragments)?;
+        let (count, end) = count_in(alloc, &stream, 4096)?;
+        assert_eq!(rt; (count, end.is_some()), (want, too_long), "case {i}");
     }
     Ok(())
 }
 
-#[test]
-fn fragments_at_the_limit(rt: HostRuntime) -> Result<(), Fail> {
-    let alloc = rt.alloc();
-    let mut heads = Vec::new(alloc);
-    heads.resize(4 * 4095, 0)?;
-    let mut whole = Vec::from_slice(alloc, &heads)?;
-    whole.extend_from_slice(&[128, 0, 0, 0])?;
-    let (records, end) = records_in(alloc, &whole, 1)?;
-    assert_eq!(rt; (records.len(), end), (1, None));
-
+/// Feeds heads of fragments, and one more that comes in two pieces: it is too long, and stays so.
+fn one_more_is_refused(rt: &impl Abort, alloc: Global, heads: &[u8]) -> Result<(), AllocError> {
     let mut deframer = Deframer::new(alloc);
     assert!(rt; !deframer.inside());
-    deframer.feed(&heads)?;
+    deframer.feed(heads)?;
     deframer.feed(&[0, 0, 0, 0, 128, 0, 0])?;
     assert!(rt; deframer.inside());
     assert!(rt; matches!(deframer.next(), Ok(None)));
@@ -302,5 +369,16 @@ fn fragments_at_the_limit(rt: HostRuntime) -> Result<(), Fail> {
         assert!(rt; matches!(deframer.next(), Err(DeframeError::TooLong)));
         deframer.feed(&[128, 0, 0, 0])?;
     }
+    Ok(())
+}
+
+#[test]
+fn fragments_at_the_limit(rt: HostRuntime) -> Result<(), AllocError> {
+    let alloc = rt.alloc();
+    let mut heads = Vec::new(alloc);
+    heads.resize(4 * 4095, 0)?;
+    one_more_is_refused(&rt, alloc, &heads)?;
+    heads.extend_from_slice(&[128, 0, 0, 0])?;
+    assert_eq!(rt; count_in(alloc, &heads, 1)?, (1, None));
     Ok(())
 }
