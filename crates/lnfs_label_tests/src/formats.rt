@@ -1,8 +1,12 @@
 //! Spellings of labels.
+ghost use Rattle.std.specs.Prelude.{◌≡◌, ◌<◌, IfOk, length};
+ghost use Rattle.std.specs.Option.{option_map};
+ghost use Rattle.lnfs_format.specs.Kinds.{reads, writes};
+
 use crate::codecs::codecs_of;
 use lnfs_calipso::{Label, Lattice, Level};
 use lnfs_format::{
-    AddError, Codec, Codecs, FormatEntry, Formats, Kind, NameRow, ReadError, WriteError,
+    AddError, Codec, Codecs, FormatEntry, Formats, Kind, NameRow, Pair, ReadError, WriteError,
     read_comps, read_text, write_comps, write_text,
 };
 use lnfs_lists::{Items, Octets};
@@ -96,6 +100,24 @@ const SPELLED: &[(u32, u32, &[u8])] = &[
     (103, 0, b"open"),
 ];
 
+/// Whether the bytes are read as a label.
+fn is_read(alloc: Global, bytes: &[u8], label: &Label) -> Result<bool, AllocError> {
+    Ok(read_text(alloc, 7, bytes)? == Some(*label))
+}
+
+/// Whether the bytes are what is written of a label, or nothing is where there are none.
+fn is_written(
+    alloc: Global,
+    doi: u32,
+    label: &Label,
+    bytes: Option<&[u8]>,
+) -> Result<bool, AllocError> {
+    match write_text(alloc, doi, label)? {
+        Some(text) => Ok(bytes == Some(text.as_slice())),
+        None => Ok(bytes.is_none()),
+    }
+}
+
 fn expect_text(
     rt: &impl Abort,
     alloc: Global,
@@ -104,65 +126,108 @@ fn expect_text(
     comps: &[u16],
 ) -> Result<(), Fail> {
     let label = Label::new(alloc, 7, sens, comps)?;
-    assert!(rt; read_text(alloc, 7, bytes)? == Some(label), "{bytes:?}");
-    let text = write_text(alloc, 7, &label)?.ok_or("no text")?;
-    assert!(rt; text.as_slice() == bytes, "{bytes:?}");
-    assert!(rt; write_text(alloc, 8, &label)?.is_none(), "{bytes:?}");
+    let is_text = is_read(alloc, bytes, &label)?
+        && is_written(alloc, 7, &label, Some(bytes))?
+        && is_written(alloc, 8, &label, None)?;
+    assert!(rt; is_text, "{bytes:?}");
     Ok(())
 }
 
-#[test]
-fn texts_are_read_and_written(rt: HostRuntime) -> Result<(), Fail> {
-    let alloc = rt.alloc();
+fn expect_texts(rt: &impl Abort, alloc: Global) -> Result<(), Fail> {
     for (bytes, sens, comps) in TEXTS {
-        expect_text(&rt, alloc, bytes, *sens, comps)?;
+        expect_text(rt, alloc, bytes, *sens, comps)?;
     }
+    Ok(())
+}
+
+fn expect_no_texts(rt: &impl Abort, alloc: Global) -> Result<(), AllocError> {
     for bytes in NO_TEXTS {
         assert!(rt; read_text(alloc, 7, bytes)?.is_none(), "{bytes:?}");
     }
+    Ok(())
+}
+
+fn expect_runs(rt: &impl Abort, alloc: Global) -> Result<(), Fail> {
     let label = Label::new(alloc, 1, 3, &[0, 1, 2, 5])?;
     assert!(rt; write_comps(alloc, &label)?.as_slice() == b"c0.c2,c5".as_slice());
     assert!(rt; read_comps(alloc, 1, 3, b"c0.c2,c5")? == Some(label));
+    Ok(())
+}
+
+fn expect_no_runs(rt: &impl Abort, alloc: Global) -> Result<(), AllocError> {
     for bytes in NO_RUNS {
         assert!(rt; read_comps(alloc, 1, 3, bytes)?.is_none(), "{bytes:?}");
     }
     Ok(())
 }
 
-/// Formats of the three kinds, of which the last has a name for one label.
-fn three_formats(alloc: Global, named: Label) -> Result<Formats, Fail> {
+#[test]
+fn texts_are_read_and_written(rt: HostRuntime) -> Result<(), Fail> {
+    let alloc = rt.alloc();
+    expect_texts(&rt, alloc)?;
+    expect_no_texts(&rt, alloc)?;
+    expect_runs(&rt, alloc)?;
+    expect_no_runs(&rt, alloc)?;
+    Ok(())
+}
+
+/// The names of one label.
+fn one_name(alloc: Global, label: Label) -> Result<Kind, AllocError> {
+    let bytes = Octets::from_slice(alloc, b"open")?;
     let mut rows = Vec::new(alloc);
-    rows.push(NameRow {
-        label: named,
-        bytes: Octets::from_slice(alloc, b"open")?,
-    })?;
-    let name = Kind::Name {
-        rows: Items::new(rows),
-    };
-    let mut formats = Formats::new(alloc);
-    for (lfs, kind) in [
-        (101, Kind::Calipso),
-        (102, Kind::Text { doi: 1 }),
-        (103, name),
-    ] {
-        formats
-            .add(FormatEntry { lfs, pi: 1, kind })
-            .map_err(|_error| "not added")?;
+    rows.push(NameRow { label, bytes })?;
+    let rows = Items::new(rows);
+    Ok(Kind::Name { rows })
+}
+
+fn add(formats: &mut Formats, pair: Pair, kind: Kind) -> Result<(), Fail> {
+    let Pair { lfs, pi } = pair;
+    match formats.add(FormatEntry { lfs, pi, kind }) {
+        Ok(()) => Ok(()),
+        Err(_error) => Err(Fail::from("not added")),
     }
+}
+
+/// Formats of the three kinds, of which the last has a name for one label.
+pub fn three_formats(alloc: Global, named: Label, pairs: [Pair; 3]) -> Result<Formats, Fail> {
+    let [body, text, name] = pairs;
+    let mut formats = Formats::new(alloc);
+    add(&mut formats, body, Kind::Calipso)?;
+    add(&mut formats, text, Kind::Text { doi: 1 })?;
+    add(&mut formats, name, one_name(alloc, named)?)?;
     Ok(formats)
 }
 
-#[test]
-fn formats_are_added(rt: HostRuntime) -> Result<(), Fail> {
-    let mut formats = three_formats(rt.alloc(), Label::bare(1, 0))?;
+const PAIRS: [Pair; 3] = [
+    Pair { lfs: 101, pi: 1 },
+    Pair { lfs: 102, pi: 1 },
+    Pair { lfs: 103, pi: 1 },
+];
+
+/// The number of the first format.
+fn first_number(formats: &Formats) -> Option<u32> {
+    match formats.first() {
+        Some(entry) => Some(entry.lfs),
+        None => None,
+    }
+}
+
+fn expect_added(rt: &impl Abort, formats: &mut Formats) {
     let again = FormatEntry {
         lfs: 102,
         pi: 1,
         kind: Kind::Calipso,
     };
     assert!(rt; formats.add(again) == Err(AddError::Taken));
-    assert!(rt; formats.first().is_some_and(|entry| entry.lfs == 101));
-    assert!(rt; Formats::new(rt.alloc()).first().is_none());
+    assert!(rt; first_number(formats) == Some(101));
+}
+
+#[test]
+fn formats_are_added(rt: HostRuntime) -> Result<(), Fail> {
+    let none = Formats::new(rt.alloc());
+    assert!(rt; first_number(&none).is_none());
+    let mut formats = three_formats(rt.alloc(), Label::bare(1, 0), PAIRS)?;
+    expect_added(&rt, &mut formats);
     Ok(())
 }
 
@@ -173,31 +238,67 @@ fn expect_read(rt: &impl Abort, codecs: &Codecs, lattice: &Lattice, formats: &Fo
     }
 }
 
-fn expect_written(
-    rt: &impl Abort,
+/// Whether the bytes are what is written of a level.
+fn is_spelled(
     codecs: &Codecs,
     lattice: &Lattice,
     formats: &Formats,
-) -> Result<(), Fail> {
+    lfs: u32,
+    level: Level,
+    bytes: &[u8],
+) -> bool
+    requires { level.0 < length lattice.now }
+{
+    match formats.write(codecs, lattice, lfs, 1, level) {
+        Ok(text) => text.as_slice() == bytes,
+        Err(_error) => false,
+    }
+}
+
+fn expect_written(rt: &impl Abort, codecs: &Codecs, lattice: &Lattice, formats: &Formats) {
     for (lfs, level, bytes) in SPELLED {
         assert!(rt; lattice.holds(Level(*level)));
-        let text = formats
-            .write(codecs, lattice, *lfs, 1, Level(*level))
-            .map_err(|_error| "no text")?;
-        assert!(rt; text.as_slice() == *bytes, "{lfs} {level}");
+        let spelled = is_spelled(codecs, lattice, formats, *lfs, Level(*level), bytes);
+        assert!(rt; spelled, "{lfs} {level}");
     }
+}
+
+/// Why a level isn't written.
+fn refusal(
+    codecs: &Codecs,
+    lattice: &Lattice,
+    formats: &Formats,
+    pair: Pair,
+    level: Level,
+) -> Option<WriteError>
+    requires { level.0 < length lattice.now }
+{
+    formats
+        .write(codecs, lattice, pair.lfs, pair.pi, level)
+        .err()
+}
+
+fn expect_unwritten(rt: &impl Abort, codecs: &Codecs, lattice: &Lattice, formats: &Formats) {
     assert!(rt; lattice.holds(Level(1)));
-    let unnamed = formats.write(codecs, lattice, 103, 1, Level(1));
-    assert!(rt; is_unwritten(unnamed, WriteError::NotInFormat));
-    let unknown = formats.write(codecs, lattice, 103, 2, Level(1));
-    assert!(rt; is_unwritten(unknown, WriteError::WrongLfs));
-    Ok(())
+    let unnamed = Pair { lfs: 103, pi: 1 };
+    let error = refusal(codecs, lattice, formats, unnamed, Level(1));
+    assert!(rt; error == Some(WriteError::NotInFormat));
+    let unknown = Pair { lfs: 103, pi: 2 };
+    let error = refusal(codecs, lattice, formats, unknown, Level(1));
+    assert!(rt; error == Some(WriteError::WrongLfs));
 }
 
 /// Two levels.
-fn two_levels(alloc: Global, bottom: Label) -> Result<Lattice, Fail> {
+pub fn two_levels(alloc: Global, bottom: Label) -> Result<Lattice, Fail> {
     let top = Label::new(alloc, 1, 3, &[0, 1, 2, 5])?;
-    Ok(Lattice::new(alloc, &[bottom, top]).map_err(|_error| "no levels")?)
+    Ok(Lattice::new(alloc, &[bottom, top])?)
+}
+
+fn expect_levels(rt: &impl Abort, codecs: &Codecs, lattice: &Lattice, formats: &Formats) {
+    assert_eq!(rt; lattice.len(), 2);
+    expect_read(rt, codecs, lattice, formats);
+    expect_written(rt, codecs, lattice, formats);
+    expect_unwritten(rt, codecs, lattice, formats);
 }
 
 #[test]
@@ -206,35 +307,48 @@ fn levels_are_read_and_written(rt: HostRuntime) -> Result<(), Fail> {
     let codecs = codecs_of(alloc)?;
     let bottom = Label::bare(1, 0);
     let lattice = two_levels(alloc, bottom)?;
-    assert_eq!(rt; lattice.len(), 2);
-    let formats = three_formats(alloc, bottom)?;
-    expect_read(&rt, &codecs, &lattice, &formats);
-    expect_written(&rt, &codecs, &lattice, &formats)
+    let formats = three_formats(alloc, bottom, PAIRS)?;
+    expect_levels(&rt, &codecs, &lattice, &formats);
+    Ok(())
 }
 
-fn is_unwritten(text: Result<Vec<u8>, WriteError>, error: WriteError) -> bool {
-    match text {
-        Ok(_text) => false,
-        Err(found) => found == error,
-    }
+/// A codec of a kind's number that never finds memory.
+fn failing_codec(alloc: Global, number: u32) -> Result<Codec, AllocError>
+    ensures { IfOk result (λ codec. codec.kind ≡ number) }
+{
+    let read = |kind: &Kind, bytes: &[u8]|
+        ensures { IfOk result (λ label. label ≡ reads kind.now bytes.now) }
+    { Err(AllocError) };
+    let write = |kind: &Kind, label: &Label|
+        ensures { IfOk result (λ text. option_map (λ v. v.items) text ≡ writes kind.now label.now) }
+    { Err(AllocError) };
+    let read = Box::new(alloc, read)?;
+    Ok(Codec::new(number, read, Box::new(alloc, write)?))
+}
+
+fn failing_codecs(alloc: Global) -> Result<Codecs, AllocError> {
+    let calipso = failing_codec(alloc, 0)?;
+    let text = failing_codec(alloc, 1)?;
+    let name = failing_codec(alloc, 2)?;
+    Ok(Codecs::new(calipso, text, name))
+}
+
+fn expect_no_memory(rt: &impl Abort, codecs: &Codecs, lattice: &Lattice, formats: &Formats) {
+    assert!(rt; lattice.holds(Level(0)));
+    let bytes = b"\x00\x00\x00\x01\x00\x00";
+    assert!(rt; formats.read(codecs, lattice, 101, 1, bytes) == Err(ReadError::Memory));
+    let [body, _, _] = PAIRS;
+    let error = refusal(codecs, lattice, formats, body, Level(0));
+    assert!(rt; error == Some(WriteError::Memory));
 }
 
 #[test]
 fn the_stored_closures_are_called(rt: HostRuntime) -> Result<(), Fail> {
     let alloc = rt.alloc();
-    let read = |_kind: &Kind, _bytes: &[u8]| Err(AllocError);
-    let write = |_kind: &Kind, _label: &Label| Err(AllocError);
-    let calipso = Codec::new(0, Box::new(alloc, read)?, Box::new(alloc, write)?);
-    let text = Codec::new(1, Box::new(alloc, read)?, Box::new(alloc, write)?);
-    let name = Codec::new(2, Box::new(alloc, read)?, Box::new(alloc, write)?);
-    let codecs = Codecs::new(calipso, text, name);
+    let codecs = failing_codecs(alloc)?;
     let bottom = Label::bare(1, 0);
-    let lattice = Lattice::new(alloc, &[bottom]).map_err(|_error| "no levels")?;
-    assert!(rt; lattice.holds(Level(0)));
-    let formats = three_formats(alloc, bottom)?;
-    let bytes = b"\x00\x00\x00\x01\x00\x00";
-    assert!(rt; formats.read(&codecs, &lattice, 101, 1, bytes) == Err(ReadError::Memory));
-    let unwritten = formats.write(&codecs, &lattice, 101, 1, Level(0));
-    assert!(rt; is_unwritten(unwritten, WriteError::Memory));
+    let lattice = Lattice::new(alloc, &[bottom])?;
+    let formats = three_formats(alloc, bottom, PAIRS)?;
+    expect_no_memory(&rt, &codecs, &lattice, &formats);
     Ok(())
 }

@@ -1,6 +1,8 @@
 //! The rules at four levels, of which level 3 dominates all, level 0 none but itself, and 1 and 2 neither the other.
+use crate::labels::four_levels;
 use lnfs_calipso::{Label, Lattice, Level};
 use lnfs_monitor::{Question, Rule, Verdict, judge};
+use std::process::Abort;
 use std::test::Fail;
 
 const ZERO: Level = Level(0);
@@ -107,23 +109,22 @@ const CASES: &[(Level, Question<'static>, Option<Rule>)] = &[
     (TOP, Question::Own { level: ONE }, Some(Rule::M9)),
 ];
 
-#[test]
-fn each_rule_allows_and_denies(rt: HostRuntime) -> Result<(), Fail> {
-    let alloc = rt.alloc();
-    let labels = [
-        Label::bare(1, 0),
-        Label::new(alloc, 1, 1, &[0])?,
-        Label::new(alloc, 1, 1, &[1])?,
-        Label::new(alloc, 1, 3, &[0, 1, 2, 5])?,
-    ];
-    let lattice = Lattice::new(alloc, &labels)?;
+fn expect_judged(rt: &impl Abort, lattice: &Lattice) {
     for (subject, question, denies) in CASES {
         let expected = match denies {
             Some(rule) => Verdict::Deny(*rule),
             None => Verdict::Allow,
         };
-        let found = judge(&lattice, *subject, question);
+        let found = judge(lattice, *subject, question);
         assert!(rt; found == expected, "{subject:?} {question:?}");
     }
+}
+
+#[test]
+fn each_rule_allows_and_denies(rt: HostRuntime) -> Result<(), Fail> {
+    let alloc = rt.alloc();
+    let top = Label::new(alloc, 1, 3, &[0, 1, 2, 5])?;
+    let lattice = four_levels(alloc, Label::bare(1, 0), top)?;
+    expect_judged(&rt, &lattice);
     Ok(())
 }

@@ -3,7 +3,6 @@ use crate::codecs::codecs_of;
 use lnfs_policy::{Cause, Policy, PolicyError, read_policy};
 use std::alloc::{AllocError, Global};
 use std::process::Abort;
-use std::test::Fail;
 
 /// Lines behind others, with the line and the cause that are told.
 type Rows = &'static [(&'static str, u64, Cause)];
@@ -14,7 +13,13 @@ const LEVELS: &str = "lnfs-policy 1\nmode enforcing\nlevel 0 1 0 -\nlevel 1 1 1 
 /// And three formats.
 const FORMATS: &str = "format 101 1 calipso\nformat 102 1 text\nformat 103 0 name\n";
 
-/// And a parent.
+/// And a quota of level 1.
+const QUOTA: &str = "quota 1 8 4096\n";
+
+/// And a directory behind it.
+const DIR: &str = "quota 1 8 4096\ndir /a 1\n";
+
+/// Or a parent.
 const PARENT: &str =
     "parent 7 0101010101010101010101010101010101010101010101010101010101010101 1\n";
 
@@ -210,12 +215,16 @@ pub fn read(alloc: Global, text: &str) -> Result<Policy, PolicyError> {
     }
 }
 
+/// Why a text is no policy, where it is none.
+pub fn refusal(alloc: Global, text: &str) -> Option<PolicyError> {
+    read(alloc, text).err()
+}
+
 /// Whether the text is refused at that line for that cause.
 fn expect(rt: &impl Abort, alloc: Global, text: &str, line: u64, cause: Cause) {
-    let refused = read(alloc, text).err();
-    assert_eq!(rt;
-        refused,
-        Some(PolicyError::Refused { line, cause }),
+    let refused = refusal(alloc, text);
+    assert!(rt;
+        refused == Some(PolicyError::Refused { line, cause }),
         "at {text}"
     );
 }
@@ -229,39 +238,39 @@ fn expect_rows(rt: &impl Abort, alloc: Global, front: &str, rows: Rows) -> Resul
     Ok(())
 }
 
+/// Lines in three parts, and the table of what may not stand behind them.
+const TABLES: &[([&str; 3], Rows)] = &[
+    (["", "", ""], FIRST_ROWS),
+    (["lnfs-policy 1\n", "", ""], MODE_ROWS),
+    ([LEVELS, "", ""], LEVEL_ROWS),
+    ([LEVELS, "", ""], FORMAT_ROWS),
+    ([LEVELS, FORMATS, ""], NAME_ROWS),
+    ([LEVELS, FORMATS, PARENT], PARENT_ROWS),
+    ([LEVELS, FORMATS, QUOTA], QUOTA_ROWS),
+    ([LEVELS, FORMATS, DIR], DIR_ROWS),
+];
+
 #[test]
-fn lines_that_break_a_rule(rt: HostRuntime) -> Result<(), Fail> {
+fn lines_that_break_a_rule(rt: HostRuntime) -> Result<(), AllocError> {
     let alloc = rt.alloc();
-    let named = format!(in alloc; "{LEVELS}{FORMATS}")?;
-    let parent = format!(in alloc; "{named}{PARENT}")?;
-    let quota = format!(in alloc; "{named}quota 1 8 4096\n")?;
-    let dir = format!(in alloc; "{quota}dir /a 1\n")?;
-    let tables: [(&str, Rows); 8] = [
-        ("", FIRST_ROWS),
-        ("lnfs-policy 1\n", MODE_ROWS),
-        (LEVELS, LEVEL_ROWS),
-        (LEVELS, FORMAT_ROWS),
-        (&named, NAME_ROWS),
-        (&parent, PARENT_ROWS),
-        (&quota, QUOTA_ROWS),
-        (&dir, DIR_ROWS),
-    ];
-    for (front, rows) in tables {
-        expect_rows(&rt, alloc, front, rows)?;
+    for (front, rows) in TABLES {
+        let [version, formats, others] = *front;
+        let front = format!(in alloc; "{version}{formats}{others}")?;
+        expect_rows(&rt, alloc, &front, rows)?;
     }
     Ok(())
 }
 
+/// A name of so many bytes, behind three formats.
+fn named(alloc: Global, length: usize) -> Result<String, AllocError> {
+    let name = "6f".repeat(alloc, length)?;
+    format!(in alloc; "{LEVELS}{FORMATS}name 103 0 0 {name}\n")
+}
+
 #[test]
-fn names_of_1024_bytes_and_no_longer(rt: HostRuntime) -> Result<(), Fail> {
+fn names_of_1024_bytes_and_no_longer(rt: HostRuntime) -> Result<(), AllocError> {
     let alloc = rt.alloc();
-    let mut text = format!(in alloc; "{LEVELS}{FORMATS}name 103 0 0 ")?;
-    for _ in 0..1024 {
-        text.push_str("6f")?;
-    }
-    let long = format!(in alloc; "{text}6f\n")?;
-    expect(&rt, alloc, &long, 8, Cause::Name);
-    text.push_str("\n")?;
-    assert!(rt; read(alloc, &text).is_ok());
+    expect(&rt, alloc, &named(alloc, 1_025)?, 8, Cause::Name);
+    assert!(rt; refusal(alloc, &named(alloc, 1_024)?).is_none());
     Ok(())
 }

@@ -1,7 +1,8 @@
 //! Policies that are read, and what they say.
 
-use crate::policy::read;
+use crate::policy::{read, refusal};
 use lnfs_calipso::Level;
+use lnfs_format::Formats;
 use lnfs_policy::{Cause, Limit, Mode, Policy, PolicyError, write_policy};
 use std::alloc::{AllocError, Global};
 use std::process::Abort;
@@ -48,27 +49,31 @@ fn expect_levels(rt: &impl Abort, policy: &Policy) {
     for (a, b, dominates) in DOMINATING {
         assert_eq!(rt; policy.lattice().dom(Level(*a), Level(*b)), *dominates);
     }
-    let formats = policy.formats();
-    assert!(rt;
-        formats
-            .first()
-            .is_some_and(|first| first.lfs == 101 && first.pi == 1)
-    );
+}
+
+/// Whether the first format is the one that counts as such.
+fn is_first(formats: &Formats) -> bool {
+    match formats.first() {
+        Some(first) => first.lfs == 101 && first.pi == 1,
+        None => false,
+    }
+}
+
+fn expect_formats(rt: &impl Abort, formats: &Formats) {
+    assert!(rt; is_first(formats));
     assert!(rt; formats.entry(103, 0).is_some());
     assert!(rt; formats.entry(104, 0).is_none());
 }
 
-fn expect_parents_limits_and_dirs(rt: &impl Abort, policy: &Policy) {
-    assert_eq!(rt;
-        policy.parent(7).map(|parent| parent.clearance),
-        Some(Level(3))
-    );
-    assert!(rt;
-        policy
-            .parent(7)
-            .is_some_and(|parent| parent.secret == [1; 32])
-    );
+fn expect_parents(rt: &impl Abort, policy: &Policy) -> Result<(), Fail> {
+    let parent = policy.parent(7).ok_or("no parent")?;
+    assert!(rt; parent.clearance == Level(3));
+    assert!(rt; parent.secret == [1; 32]);
     assert!(rt; policy.parent(8).is_none());
+    Ok(())
+}
+
+fn expect_limits(rt: &impl Abort, policy: &Policy) {
     let limit = Limit {
         nodes: 8,
         bytes: 4096,
@@ -79,6 +84,9 @@ fn expect_parents_limits_and_dirs(rt: &impl Abort, policy: &Policy) {
         bytes: 67_108_864,
     };
     assert_eq!(rt; policy.limit(Level(0)), default);
+}
+
+fn expect_dirs(rt: &impl Abort, policy: &Policy) {
     assert_eq!(rt; policy.dirs().len(), 3);
     let top = &policy.dirs()[2];
     assert!(rt; top.path.as_slice() == b"/top".as_slice() && top.level.0 == 3);
@@ -107,40 +115,38 @@ fn expect_guests(rt: &impl Abort, policy: &Policy) {
     }
 }
 
+fn expect_said(rt: &impl Abort, policy: &Policy) -> Result<(), Fail> {
+    expect_levels(rt, policy);
+    expect_formats(rt, policy.formats());
+    expect_limits(rt, policy);
+    expect_dirs(rt, policy);
+    expect_guests(rt, policy);
+    expect_parents(rt, policy)
+}
+
 #[test]
 fn what_a_site_says(rt: HostRuntime) -> Result<(), Fail> {
     let policy = read(rt.alloc(), SITE).ok().ok_or("refused")?;
-    expect_levels(&rt, &policy);
-    expect_parents_limits_and_dirs(&rt, &policy);
-    expect_guests(&rt, &policy);
-    Ok(())
+    expect_said(&rt, &policy)
 }
 
-/// Whether the canonical text of one text is the other.
-fn expect_canonical(
-    rt: &impl Abort,
-    alloc: Global,
-    text: &str,
-    canonical: &str,
-) -> Result<(), Fail> {
-    let policy = read(alloc, text).ok().ok_or("refused")?;
-    let written = write_policy(alloc, &policy)?;
-    assert!(rt; written.as_slice() == canonical.as_bytes());
-    Ok(())
+/// Whether a text is a policy, and the canonical text of it is the other.
+fn is_canonical(alloc: Global, text: &str, canonical: &str) -> Result<bool, AllocError> {
+    match read(alloc, text) {
+        Ok(policy) => Ok(write_policy(alloc, &policy)?.as_slice() == canonical.as_bytes()),
+        Err(_error) => Ok(false),
+    }
 }
 
 #[test]
-fn canonical_texts(rt: HostRuntime) -> Result<(), Fail> {
+fn canonical_texts(rt: HostRuntime) -> Result<(), AllocError> {
     let alloc = rt.alloc();
-    expect_canonical(&rt, alloc, SITE, SITE)?;
+    assert!(rt; is_canonical(alloc, SITE, SITE)?);
     let commented = format!(in alloc; "\n# a site\n#\t\x01 of four levels\n{SITE}\n#the end\n")?;
-    expect_canonical(&rt, alloc, &commented, SITE)?;
-    expect_canonical(
-        &rt,
-        alloc,
-        "lnfs-policy 1\n#\nmode limited\nlevel 0 9 7 c0.c255\n\nformat 2 9 text\n",
-        "lnfs-policy 1\nmode limited\nlevel 0 9 7 c0.c255\nformat 2 9 text\n",
-    )?;
+    assert!(rt; is_canonical(alloc, &commented, SITE)?);
+    let commented = "lnfs-policy 1\n#\nmode limited\nlevel 0 9 7 c0.c255\n\nformat 2 9 text\n";
+    let canonical = "lnfs-policy 1\nmode limited\nlevel 0 9 7 c0.c255\nformat 2 9 text\n";
+    assert!(rt; is_canonical(alloc, commented, canonical)?);
     Ok(())
 }
 
@@ -150,12 +156,15 @@ fn expect_refused(
     alloc: Global,
     text: &str,
     more: &str,
-    line: u64,
-    cause: Cause,
+    told: (u64, Cause),
 ) -> Result<(), AllocError> {
+    let (line, cause) = told;
     let longer = format!(in alloc; "{text}{more}")?;
-    let refused = read(alloc, &longer).err();
-    assert_eq!(rt; refused, Some(PolicyError::Refused { line, cause }));
+    let refused = refusal(alloc, &longer);
+    assert!(rt;
+        refused == Some(PolicyError::Refused { line, cause }),
+        "{more}"
+    );
     Ok(())
 }
 
@@ -165,11 +174,10 @@ fn expect_full(
     alloc: Global,
     text: &str,
     more: &str,
-    line: u64,
-    cause: Cause,
+    told: (u64, Cause),
 ) -> Result<(), AllocError> {
-    assert!(rt; read(alloc, text).is_ok());
-    expect_refused(rt, alloc, text, more, line, cause)
+    assert!(rt; refusal(alloc, text).is_none());
+    expect_refused(rt, alloc, text, more, told)
 }
 
 /// The version, the mode and 32 levels.
@@ -182,33 +190,32 @@ fn all_levels(alloc: Global) -> Result<String, AllocError> {
 }
 
 /// And eight formats.
-fn all_formats(alloc: Global) -> Result<String, AllocError> {
-    let mut text = all_levels(alloc)?;
+fn put_formats(alloc: Global, text: &mut String) -> Result<(), AllocError> {
     for pi in 0..8 {
         text.push_str(&format!(in alloc; "format 101 {pi} calipso\n")?)?;
     }
-    Ok(text)
+    Ok(())
 }
 
 /// And 256 directories.
-fn all_dirs(alloc: Global) -> Result<String, AllocError> {
-    let mut text = all_formats(alloc)?;
+fn put_dirs(alloc: Global, text: &mut String) -> Result<(), AllocError> {
     for dir in 0..256 {
         text.push_str(&format!(in alloc; "dir /d{dir} 31\n")?)?;
     }
-    Ok(text)
+    Ok(())
 }
 
 #[test]
-fn full_tables(rt: HostRuntime) -> Result<(), Fail> {
+fn full_tables(rt: HostRuntime) -> Result<(), AllocError> {
     let alloc = rt.alloc();
+    let mut text = all_levels(alloc)?;
     let more = "level 32 4294967295 255 -\n";
-    expect_refused(&rt, alloc, &all_levels(alloc)?, more, 35, Cause::Level)?;
+    expect_refused(&rt, alloc, &text, more, (35, Cause::Level))?;
+    put_formats(alloc, &mut text)?;
     let more = "format 101 8 calipso\n";
-    expect_full(&rt, alloc, &all_formats(alloc)?, more, 43, Cause::Format)?;
-    let more = "dir /d256 31\n";
-    expect_full(&rt, alloc, &all_dirs(alloc)?, more, 299, Cause::Dir)?;
-    Ok(())
+    expect_full(&rt, alloc, &text, more, (43, Cause::Format))?;
+    put_dirs(alloc, &mut text)?;
+    expect_full(&rt, alloc, &text, "dir /d256 31\n", (299, Cause::Dir))
 }
 
 /// Paths of so many names, each below the one before.
@@ -222,22 +229,26 @@ fn nested(alloc: Global, depth: u32) -> Result<String, AllocError> {
     Ok(lines)
 }
 
-#[test]
-fn long_paths(rt: HostRuntime) -> Result<(), Fail> {
-    let alloc = rt.alloc();
-    let front = "lnfs-policy 1\nmode enforcing\nlevel 0 1 0 -\nformat 1 1 calipso\n";
-    let text = format!(in alloc; "{front}{}", nested(alloc, 16)?)?;
-    expect_full(
-        &rt,
-        alloc,
-        &text,
-        "dir /d/d/d/d/d/d/d/d/d/d/d/d/d/d/d/d/d 0\n",
-        21,
-        Cause::Dir,
-    )?;
+/// A policy without directories.
+const FRONT: &str = "lnfs-policy 1\nmode enforcing\nlevel 0 1 0 -\nformat 1 1 calipso\n";
+
+fn expect_sixteen_names(rt: &impl Abort, alloc: Global) -> Result<(), AllocError> {
+    let lines = nested(alloc, 16)?;
+    let text = format!(in alloc; "{FRONT}{lines}")?;
+    let more = "dir /d/d/d/d/d/d/d/d/d/d/d/d/d/d/d/d/d 0\n";
+    expect_full(rt, alloc, &text, more, (21, Cause::Dir))
+}
+
+fn expect_names_of_255_bytes(rt: &impl Abort, alloc: Global) -> Result<(), AllocError> {
     let name = "n".repeat(alloc, 255)?;
-    let text = format!(in alloc; "{front}dir /{name} 0\n")?;
+    let text = format!(in alloc; "{FRONT}dir /{name} 0\n")?;
     let more = format!(in alloc; "dir /{name}n 0\n")?;
-    expect_full(&rt, alloc, &text, &more, 6, Cause::Dir)?;
-    Ok(())
+    expect_full(rt, alloc, &text, &more, (6, Cause::Dir))
+}
+
+#[test]
+fn long_paths(rt: HostRuntime) -> Result<(), AllocError> {
+    let alloc = rt.alloc();
+    expect_sixteen_names(&rt, alloc)?;
+    expect_names_of_255_bytes(&rt, alloc)
 }

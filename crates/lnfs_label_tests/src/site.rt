@@ -1,10 +1,11 @@
 //! Two policies of four levels, and what operations look at of them.
 use crate::codecs::codecs_of;
 use lnfs_calipso::Level;
+use lnfs_format::Codecs;
 use lnfs_monitor::{Question, Rule, Verdict};
-use lnfs_policy::read_policy;
+use lnfs_policy::{Policy, read_policy};
 use lnfs_site::{LabelRead, Labels, Site, first_dirs, root_label};
-use std::alloc::{AllocError, Global};
+use std::alloc::Global;
 use std::process::Abort;
 use std::test::Fail;
 
@@ -25,27 +26,29 @@ const BOTTOM: &[u8] = &[0, 0, 0, 1, 0, 0];
 
 const TOP: &[u8] = &[0, 0, 0, 1, 1, 3, 0xe4, 0, 0, 0];
 
-fn expect_levels(rt: &impl Abort, site: &Site<'_>) {
-    assert_eq!(rt; site.levels(), 4);
+fn expect_rules(rt: &impl Abort, site: &Site<'_>) {
     assert!(rt; site.dominates(Level(3), Level(1)));
     assert!(rt; !site.dominates(Level(1), Level(2)));
     let read = Question::Read { label: Level(2) };
-    assert_eq!(rt; site.judge(Level(2), &read), Verdict::Allow);
-    assert_eq!(rt; site.judge(Level(1), &read), Verdict::Deny(Rule::M1));
-    assert_eq!(rt; site.nodes_limit(Level(1)), 8);
-    assert_eq!(rt; site.bytes_limit(Level(1)), 4096);
-    assert_eq!(rt; site.nodes_limit(Level(2)), 4096);
-    assert_eq!(rt; site.policy().dirs().len(), 2);
+    assert!(rt; site.judge(Level(2), &read) == Verdict::Allow);
+    assert!(rt; site.judge(Level(1), &read) == Verdict::Deny(Rule::M1));
+}
+
+fn expect_limits(rt: &impl Abort, site: &Site<'_>) {
+    assert!(rt; site.levels() == 4);
+    assert!(rt; site.nodes_limit(Level(1)) == 8);
+    assert!(rt; site.bytes_limit(Level(1)) == 4096);
+    assert!(rt; site.nodes_limit(Level(2)) == 4096);
+    assert!(rt; site.policy().dirs().len() == 2);
 }
 
 fn expect_labels(rt: &impl Abort, site: &Site<'_>) {
     let top = site.label(Level(3));
-    assert_eq!(rt; (top.lfs, top.pi), (101, 1));
+    assert!(rt; top.lfs == 101 && top.pi == 1);
     assert!(rt; top.bytes.as_slice() == TOP);
     // A number that is no level counts as level 0.
-    for level in [0, 4] {
-        assert!(rt; site.label(Level(level)).bytes.as_slice() == BOTTOM);
-    }
+    assert!(rt; site.label(Level(0)).bytes.as_slice() == BOTTOM);
+    assert!(rt; site.label(Level(4)).bytes.as_slice() == BOTTOM);
 }
 
 /// What is read of labels in both formats, and of what is no label in them.
@@ -95,21 +98,27 @@ fn expect_dirs(
     bytes: Option<&[u8]>,
 ) -> Result<(), Fail> {
     let dirs = first_dirs(alloc, site)?;
-    assert_eq!(rt; dirs.len(), 2);
-    assert!(rt; dirs[0].path.as_slice() == b"/one".as_slice());
-    assert!(rt; dirs[1].path.as_slice() == b"/top".as_slice());
-    assert_eq!(rt; dirs[1].level, Level(level));
-    let borne = dirs[1].stored.as_ref().map(|label| label.bytes.as_slice());
-    assert!(rt; borne == bytes);
+    let [one, top] = dirs.as_slice() else {
+        return Err(Fail::from("not two directories"));
+    };
+    expect_paths(rt, one.path.as_slice(), top.path.as_slice());
+    let borne = top.stored.as_ref().map(|label| label.bytes.as_slice());
+    assert!(rt; top.level == Level(level) && borne == bytes);
     Ok(())
+}
+
+fn expect_paths(rt: &impl Abort, one: &[u8], top: &[u8]) {
+    assert!(rt; one == b"/one".as_slice());
+    assert!(rt; top == b"/top".as_slice());
 }
 
 /// What is otherwise under the two modes.
 fn expect_site(rt: &impl Abort, alloc: Global, site: &Site<'_>, limited: bool) -> Result<(), Fail> {
     assert_eq!(rt; site.is_limited(), limited);
-    expect_levels(rt, site);
+    expect_rules(rt, site);
+    expect_limits(rt, site);
     expect_labels(rt, site);
-    assert_eq!(rt; root_label(alloc, site)?.is_some(), limited);
+    assert!(rt; root_label(alloc, site)?.is_some() == limited);
     if limited {
         expect_carried(rt, site);
         return expect_dirs(rt, alloc, site, 0, Some(TOP));
@@ -118,18 +127,34 @@ fn expect_site(rt: &impl Abort, alloc: Global, site: &Site<'_>, limited: bool) -
     expect_dirs(rt, alloc, site, 3, None)
 }
 
+/// The site of a policy.
+fn expect_policy(
+    rt: &impl Abort,
+    alloc: Global,
+    policy: &Policy,
+    codecs: &Codecs,
+    limited: bool,
+) -> Result<(), Fail> {
+    let labels = Labels::new(alloc, policy, codecs)?;
+    expect_site(rt, alloc, &Site::new(policy, &labels), limited)
+}
+
 /// The site of the lines in a mode.
-fn expect_mode(rt: &impl Abort, alloc: Global, mode: &str, limited: bool) -> Result<(), Fail> {
-    let codecs = codecs_of(alloc)?;
+fn expect_mode(
+    rt: &impl Abort,
+    alloc: Global,
+    codecs: &Codecs,
+    mode: &str,
+    limited: bool,
+) -> Result<(), Fail> {
     let text = format!(in alloc; "lnfs-policy 1\nmode {mode}\n{LINES}")?;
-    let policy = read_policy(alloc, text.as_bytes(), &codecs)?;
-    let labels = Labels::new(alloc, &policy, &codecs)?;
-    let site = Site::new(&policy, &labels);
-    expect_site(rt, alloc, &site, limited)
+    let policy = read_policy(alloc, text.as_bytes(), codecs)?;
+    expect_policy(rt, alloc, &policy, codecs, limited)
 }
 
 #[test]
 fn what_operations_look_at(rt: HostRuntime) -> Result<(), Fail> {
-    expect_mode(&rt, rt.alloc(), "enforcing", false)?;
-    expect_mode(&rt, rt.alloc(), "limited", true)
+    let codecs = codecs_of(rt.alloc())?;
+    expect_mode(&rt, rt.alloc(), &codecs, "enforcing", false)?;
+    expect_mode(&rt, rt.alloc(), &codecs, "limited", true)
 }

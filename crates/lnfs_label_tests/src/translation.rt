@@ -1,10 +1,8 @@
 //! Labels from one spelling to another.
 use crate::codecs::codecs_of;
-use lnfs_calipso::{Label, Lattice};
-use lnfs_format::{FormatEntry, Formats, Kind, NameRow};
-use lnfs_lists::{Items, Octets};
+use crate::formats::{three_formats, two_levels};
+use lnfs_calipso::Label;
 use lnfs_map::{MapError, Pair, TranslationTable};
-use std::alloc::Global;
 use std::process::Abort;
 use std::test::Fail;
 
@@ -35,53 +33,42 @@ const REFUSED: &[(Pair, Pair, &[u8], MapError)] = &[
     (TEXT, NONE, b"s2", MapError::WrongLfs),
 ];
 
-/// Formats of the three kinds, of which the last has a name for one label.
-fn three_formats(alloc: Global, named: Label) -> Result<Formats, Fail> {
-    let mut rows = Vec::new(alloc);
-    rows.push(NameRow {
-        label: named,
-        bytes: Octets::from_slice(alloc, b"open")?,
-    })?;
-    let name = Kind::Name {
-        rows: Items::new(rows),
-    };
-    let mut formats = Formats::new(alloc);
-    for (pair, kind) in [
-        (BODY, Kind::Calipso),
-        (TEXT, Kind::Text { doi: 1 }),
-        (NAME, name),
-    ] {
-        let entry = FormatEntry {
-            lfs: pair.lfs,
-            pi: pair.pi,
-            kind,
-        };
-        formats.add(entry).map_err(|_error| "not added")?;
+/// Whether the bytes in one format are others in another.
+fn is_translated(
+    table: &TranslationTable<'_>,
+    from: Pair,
+    to: Pair,
+    bytes: &[u8],
+    wanted: &[u8],
+) -> bool {
+    match table.translate(from, to, bytes) {
+        Ok(given) => given.as_slice() == wanted,
+        Err(_error) => false,
     }
-    Ok(formats)
 }
 
-fn expect_translated(rt: &impl Abort, table: &TranslationTable<'_>) -> Result<(), Fail> {
+fn expect_translated(rt: &impl Abort, table: &TranslationTable<'_>) {
     for (from, to, bytes, wanted) in TRANSLATED {
-        let given = table
-            .translate(*from, *to, bytes)
-            .map_err(|_error| "not translated")?;
-        assert!(rt; given.as_slice() == *wanted, "{bytes:?}");
+        let translated = is_translated(table, *from, *to, bytes, wanted);
+        assert!(rt; translated, "{bytes:?}");
     }
-    Ok(())
+}
+
+/// Why the bytes in one format are nothing in another.
+fn refusal(table: &TranslationTable<'_>, from: Pair, to: Pair, bytes: &[u8]) -> Option<MapError> {
+    table.translate(from, to, bytes).err()
 }
 
 fn expect_refused(rt: &impl Abort, table: &TranslationTable<'_>) {
     for (from, to, bytes, error) in REFUSED {
-        let given = table.translate(*from, *to, bytes).err();
+        let given = refusal(table, *from, *to, bytes);
         assert!(rt; given == Some(*error), "{bytes:?}");
     }
 }
 
-/// Two levels.
-fn two_levels(alloc: Global, bottom: Label) -> Result<Lattice, Fail> {
-    let top = Label::new(alloc, 1, 3, &[0, 1, 2, 5])?;
-    Ok(Lattice::new(alloc, &[bottom, top]).map_err(|_error| "no levels")?)
+fn expect_table(rt: &impl Abort, table: &TranslationTable<'_>) {
+    expect_translated(rt, table);
+    expect_refused(rt, table);
 }
 
 #[test]
@@ -90,9 +77,7 @@ fn labels_are_translated(rt: HostRuntime) -> Result<(), Fail> {
     let codecs = codecs_of(alloc)?;
     let bottom = Label::bare(1, 0);
     let lattice = two_levels(alloc, bottom)?;
-    let formats = three_formats(alloc, bottom)?;
-    let table = TranslationTable::new(&formats, &codecs, &lattice);
-    expect_translated(&rt, &table)?;
-    expect_refused(&rt, &table);
+    let formats = three_formats(alloc, bottom, [BODY, TEXT, NAME])?;
+    expect_table(&rt, &TranslationTable::new(&formats, &codecs, &lattice));
     Ok(())
 }
