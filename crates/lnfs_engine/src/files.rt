@@ -40,8 +40,8 @@ use lnfs_tree::Tree;
 use lnfs_xdr::XdrWriter;
 use std::alloc::AllocError;
 
-/// The verifier of writes: the server keeps each at once, so that it never has to tell two of its lives apart (RFC 8881
-/// section 18.3.3).
+/// The verifier of writes (RFC 8881 section 18.32.3). It is the same in each life of the server: one begins without files,
+/// clients and sessions, so that a client has nothing uncommitted of a life before.
 const NO_VERIFIER: [u8; 8] = [0; 8];
 
 /// What OPEN tells: no flags, and no delegation. The file becomes the current file handle.

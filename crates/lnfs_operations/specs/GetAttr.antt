@@ -1,4 +1,4 @@
--- GETATTR, VERIFY and NVERIFY (RFC 8881 sections 18.7, 18.30 and 18.15).
+-- GETATTR, VERIFY and NVERIFY (RFC 8881 sections 18.7, 18.31 and 18.15).
 use Rattle.std.specs.Prelude.{◌||◌, Bool, true, not, []}
 use Rattle.std.specs.List.{list_all, range_with_len}
 use Rattle.std.specs.Str.{bytes_eq}

@@ -12,6 +12,7 @@ pub(crate) const SESSION: SessionRef = SessionRef {
 
 pub(crate) const SESSION_ID: [u8; 16] = [0, 0, 0, 0, 0, 0, 0, 0, 0, 0, 0, 1, 0, 0, 0, 0];
 
+/// The refusal of an operation, on a row of the caller's own level.
 pub(crate) fn failed(code: u32) -> SessionError {
     SessionError::Status {
         code,

@@ -3,7 +3,6 @@ use Rattle.std.specs.Prelude.{ℕ, ◌+◌, Bool, false, List, [], ◌∷◌, �
 use Rattle.std.specs.Fmt.{decimal}
 use Rattle.lnfs_outside.specs.declared.event.Event.{Event}
 use Rattle.lnfs_policy.specs.Policy.{Policy, dominance}
-use Rattle.lnfs_world.specs.World.{World}
 use Rattle.lnfs_world.specs.Facts.{Facts}
 use Rattle.lnfs_world.specs.Both.{Both, both, both_seen}
 use Rattle.lnfs_operations.specs.Extra.{Extra, no_extra}
@@ -65,13 +64,6 @@ unfoldable pub answer_with : (X : Extra) → Signing → Policy → List Event �
 answer_with X m p journal event = answer_to X m p journal event (level_of m p event.class event.message)
 
 -- ---- with the operations of the table alone
-
--- the world after a journal
-abbrev pub world_after : Signing → Policy → List Event → World
-world_after m p journal = (state_after no_extra m p journal).world
-
-abbrev pub reply_at : Signing → Policy → List Event → Event → Option (List ℕ)
-reply_at = reply_with no_extra
 
 abbrev pub line_at : Signing → Policy → List Event → Event → Option Line
 line_at = line_with no_extra

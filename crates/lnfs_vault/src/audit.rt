@@ -15,9 +15,9 @@ pub struct AuditLine {
     pub place: u32,
     /// The operation's number; 0 where the call as a whole was refused.
     pub number: u32,
-    /// Which kind of test refused: `S` (session, slot, client id, place), or `C` (who calls).
+    /// Which kind of test refused: the text of a `Gate`, or `C`, who calls; `P`, what is called; `V`, the version of RPC.
     pub gate: Octets,
-    /// The status of the operation, or the `auth_stat` of the call.
+    /// The status of the operation; or of the call as a whole its `auth_stat` (`C`), its `accept_stat` (`P`), or 0 (`V`).
     pub status: u32,
 }
 

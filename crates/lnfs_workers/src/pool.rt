@@ -317,7 +317,8 @@ fn serve_named<
 /// Serves links by worker threads, over one vault. Link i, which came by the listener of its class,
 /// is served whole by worker i mod `workers`, and each worker takes its links in rising order. For
 /// each record a worker passes the gate, takes the moment, and serves the event under the lock. The
-/// codecs read the labels that are asserted.
+/// codecs read the labels that are asserted. The clauses tell what comes of each link; which worker
+/// serves it, and when it passes the gate, they leave to this code.
 ///
 /// # Errors
 ///

@@ -30,7 +30,7 @@ pub record Site : Type 0 where
   pub reading : Stored → LabelRead
 
 -- Where an operation stands: who asks, and when; the client and the session under which it came, both
--- numbers of the subject's level; and the two file handles of its COMPOUND (RFC 8881 section 2.2.2).
+-- numbers of the subject's level; and the two file handles of its COMPOUND (RFC 8881 section 16.2.3.1).
 pub record Place : Type 0 where
   pub subject : ℕ
   pub moment : Moment
