@@ -120,7 +120,7 @@ module _ (may : Moment → Type 0) (m : Signing) (policy : Policy) (classes : Li
       let stopped : Serves may m policy classes (Err stop) s s net = record {
         session = None;
         plays = gave_up (served m policy None) tt;
-        links = says (unserved_is (IsSession may m policy) stop classes) deals;
+        links = says (unserved_is (Unit {0}) (IsSession may m policy) tt stop classes) deals;
       } in
       subst (λ (r : Result Status Stop). Serves may m policy classes r s s net) (sym is) stopped
 
@@ -147,6 +147,6 @@ module _ (may : Moment → Type 0) (m : Signing) (policy : Policy) (classes : Li
             backs = given;
             dealt = rw same came.dealt;
             handed = subst (λ (b : Option (List Back)). Adds b backs'' given) came.kept handed;
-            say = served_is (IsSession may m policy) session classes deals given result (OneRose before after) is all plays.ending w.excused;
+            say = served_is (Unit {0}) (IsSession may m policy) session classes deals given result (OneRose before after) is all plays.ending w.excused;
           };
         }

@@ -1,6 +1,6 @@
 -- What is due, case by case, and runs that do it.
-use Rattle.std.proofs.Common.{◌≡◌, ℕ, List, [], refl, sym, ap, ◌∙◌, subst}
-use Rattle.std.specs.Prelude.{Result, Ok, Err, OnOk, IfOk, IfErr, MatchOption}
+use Rattle.std.proofs.Common.{◌≡◌, ℕ, List, [], refl, sym, ◌∙◌, subst}
+use Rattle.std.specs.Prelude.{Result, Ok, Err, OnOk, IfOk, IfErr}
 use Rattle.std.specs.declared.option.Option.{Option}
 use Rattle.std.specs.declared.option.Option.TheVariants.{Some, None}
 use Rattle.std.specs.Global.{Vec}
@@ -8,8 +8,8 @@ use Rattle.lnfs_outside.specs.Bytes.{Told, Puts}
 use Rattle.lnfs_outside.specs.Nets.{Deal, Back}
 use Rattle.lnfs_outside.specs.declared.event.Moment.{Moment}
 use Rattle.lnfs_policy.specs.Policy.{Policy}
-use Rattle.lnfs_policy.specs.PolicyText.{Refused, policy_of, IsRefusal}
-use Rattle.lnfs_policy.specs.declared.cause.PolicyError.{PolicyError}
+use Rattle.lnfs_policy.specs.PolicyText.{policy_of, IsRefusal}
+use Rattle.lnfs_policy.specs.declared.cause.Cause.{Cause}
 use Rattle.lnfs_policy.specs.declared.cause.PolicyError.TheVariants as error
 use Rattle.lnfs_program.specs.declared.status.Status.{Status}
 use Rattle.lnfs_program.specs.declared.status.Status.TheVariants as statuses
@@ -17,15 +17,15 @@ use Rattle.lnfs_program.specs.declared.status.Stop.{Stop}
 use Rattle.lnfs_program.specs.declared.status.Stop.TheVariants as stops
 use Rattle.lnfs_program.specs.Ending.{told_by}
 use Rattle.lnfs_program.specs.Due.{Due, due, due_under, given, judged, only, shown}
-use Rattle.lnfs_program.specs.Refusals.{refusal_of}
-use Rattle.lnfs_program.specs.Handed.{Dealings, dealings, Handed, IsUnder, IsService}
-use Rattle.lnfs_program.specs.Runs.{Holds, Plays, Judges, Performs, status_of, held}
+use Rattle.lnfs_program.specs.Handed.{Dealings, dealings, Enforces, IsTaken, WithoutNet, IsUnder, IsService}
+use Rattle.lnfs_program.specs.Rules.{Spells, Ends}
+use Rattle.lnfs_program.specs.Runs.{Holds, IsExcused, Plays, Judges, JudgesAlone, Offers, Performs, status_of, held}
 use Rattle.lnfs_program.specs.Session.{Session}
-use Rattle.lnfs_program.specs.Words.{Task, Form, help, version, under, file_of, first_name, second_name, help_text, version_text}
+use Rattle.lnfs_program.specs.Words.{Task, serve, Form, help, version, under, file_of, first_name, second_name, help_text, version_text}
 use Rattle.lnfs_program.specs.Streams.{Streams, streams}
 use Rattle.lnfs_program.specs.Writes.{TakesFront}
-use Rattle.lnfs_program.proofs.Dealing.{says, untouched, nothing}
-use Rattle.lnfs_program.proofs.Handing.{Idle, idle_handed, idle_handed_by, idle_told, never_idle, handed_to}
+use Rattle.lnfs_program.proofs.Dealing.{says, untouched}
+use Rattle.lnfs_program.proofs.Handing.{told_idle, idle_so, idle_shown, idle_handed, served_to}
 use Rattle.lnfs_program.proofs.Writing.{does_out, front_none, takes_none}
 
 -- as far as contents are told, what a name stands for
@@ -77,76 +77,114 @@ module _ {result : Result Status Stop} {s : Streams} where
   ] told)
 
 -- whatever the files hold
-module _ (told : Told) {may : Moment → Type 0} (form : Option Form) {result : Result Status Stop} {s t : Streams} (dealt : Option (List Deal)) (backs : Option (List Back)) where
-  judges_with : ((policy file : Option (List ℕ)) (session : Option Session) → Plays (due form policy file session) result s t) → Handed (IsService may (seen told (first_name form))) None (status_of result) form [] [] → Judges told may form result s t (dealings dealt dealt backs backs)
-  judges_with plays links = record {
-    policy = seen told (first_name form);
-    file = seen told (second_name form);
-    session = None;
-    policy_held = seen_held told (first_name form);
-    file_held = seen_held told (second_name form);
-    plays = plays (seen told (first_name form)) (seen told (second_name form)) None;
-    links = untouched dealt backs links;
-  }
+pub alone_with : (told : Told) (form : Option Form) {result : Result Status Stop} {s t : Streams} → ((policy file : Option (List ℕ)) → Plays (due form policy file None) result s t) → JudgesAlone told form result s t
+alone_with told form plays = record {
+  policy = seen told (first_name form);
+  file = seen told (second_name form);
+  policy_held = seen_held told (first_name form);
+  file_held = seen_held told (second_name form);
+  plays = plays (seen told (first_name form)) (seen told (second_name form));
+}
 
-pub judges_gave_up : (told : Told) {may : Moment → Type 0} (form : Option Form) {result : Result Status Stop} {s : Streams} (dealt : Option (List Deal)) (backs : Option (List Back)) (stop : Stop) → result ≡ Err stop → Idle (status_of (Err stop)) → Judges told may form result s s (dealings dealt dealt backs backs)
+pub alone_gave_up : (told : Told) (form : Option Form) {result : Result Status Stop} {s : Streams} → OnOk result ⊥ → JudgesAlone told form result s s
+alone_gave_up told form never = alone_with told form (λ policy file. gave_up (due form policy file None) never)
+
+-- where no links are dealt with, none were, unless it was the net that failed
+pub judges_alone : {told : Told} {may : Moment → Type 0} {form : Option Form} {result : Result Status Stop} {s t : Streams} (dealt : Option (List Deal)) (backs : Option (List Back)) → WithoutNet (status_of result) → JudgesAlone told form result s t → Judges told may form result s t (dealings dealt dealt backs backs)
+judges_alone {may = may} {form = form} {result = result} dealt backs idle j = record {
+  policy = j.policy;
+  file = j.file;
+  session = None;
+  policy_held = j.policy_held;
+  file_held = j.file_held;
+  plays = j.plays;
+  links = untouched dealt backs (idle_handed (IsTaken j.policy Enforces) (IsService may j.policy) form (status_of result) idle);
+}
+
+pub judges_over : {told : Told} {may : Moment → Type 0} {form : Option Form} {result : Result Status Stop} {s t : Streams} (dealt : Option (List Deal)) (backs : Option (List Back)) (read write : Type 0) → IfErr result (λ stop. IsExcused stop read write ⊥) → JudgesAlone told form result s t → Judges told may form result s t (dealings dealt dealt backs backs)
+judges_over {form = form} {result = result} dealt backs read write excused j = judges_alone dealt backs (idle_so read write result (due form j.policy j.file None).ending j.plays.ending excused) j
+
+pub judges_gave_up : (told : Told) {may : Moment → Type 0} (form : Option Form) {result : Result Status Stop} {s : Streams} (dealt : Option (List Deal)) (backs : Option (List Back)) (stop : Stop) → result ≡ Err stop → WithoutNet (status_of (Err stop)) → Judges told may form result s s (dealings dealt dealt backs backs)
 judges_gave_up told {may} form {result} {s} dealt backs stop is idle =
-    let gave : Judges told may form (Err stop) s s (dealings dealt dealt backs backs) =
-    judges_with told form dealt backs (λ policy file session. gave_up (due form policy file session) tt) (idle_handed (IsService may (seen told (first_name form))) form (status_of (Err stop)) idle) in
+    let gave : Judges told may form (Err stop) s s (dealings dealt dealt backs backs) = judges_alone dealt backs idle (alone_gave_up told form tt) in
     subst (λ (r : Result Status Stop). Judges told may form r s s (dealings dealt dealt backs backs)) (sym is) gave
 
 pub judges_usage : (told : Told) {may : Moment → Type 0} {form : Option Form} {status : Status} {s : Streams} (dealt : Option (List Deal)) (backs : Option (List Back)) → form ≡ None → told_by status ≡ Some statuses.Usage → Judges told may form (Ok status) s s (dealings dealt dealt backs backs)
-judges_usage told {form = form} {status = status} {s = s} dealt backs e t = rw e (judges_with told None dealt backs (λ policy file session. told_only (due None policy file session) statuses.Usage (due_usage policy file session) t) nothing)
+judges_usage told {form = form} {status = status} {s = s} dealt backs e t = rw e (judges_alone dealt backs (told_idle status statuses.Usage t) (alone_with told None (λ policy file. told_only (due None policy file None) statuses.Usage (due_usage policy file None) t)))
 
 -- a text that is shown
 pub plays_shown : {result : Result Status Stop} {o o' : Option (List ℕ)} (a : Option (List ℕ)) {text written : List ℕ} → written ≡ text → Puts o o' result written → IfOk result (λ status. told_by status ≡ Some statuses.Ok) → Plays (shown text) result (streams o a) (streams o' a)
 plays_shown a e p t = record { does = does_out a e p; ending = t }
 
-module _ (told : Told) {may : Moment → Type 0} {form : Option Form} {result : Result Status Stop} {o o' : Option (List ℕ)} (a : Option (List ℕ)) (dealt : Option (List Deal)) (backs : Option (List Back)) {written : List ℕ} (p : Puts o o' result written) (t : IfOk result (λ status. told_by status ≡ Some statuses.Ok)) where
+module _ (told : Told) {may : Moment → Type 0} {form : Option Form} {result : Result Status Stop} {o o' : Option (List ℕ)} (a : Option (List ℕ)) (dealt : Option (List Deal)) (backs : Option (List Back)) {written : List ℕ} (p : Puts o o' result written) (t : IfOk result (λ status. told_by status ≡ Some statuses.Ok)) (rose : Type 0) (x : IfErr result (λ stop. (stop ≡ stops.WriteFault) × rose)) where
   pub judges_help : form ≡ Some help → written ≡ help_text → Judges told may form result (streams o a) (streams o' a) (dealings dealt dealt backs backs)
-  judges_help e w = rw e (judges_with told (Some help) dealt backs (λ policy file session. subst (λ d. Plays d result (streams o a) (streams o' a)) (sym (due_help policy file session)) (plays_shown a w p t)) nothing)
+  judges_help e w = rw e (judges_alone dealt backs (idle_shown rose result statuses.Ok t x) (alone_with told (Some help) (λ policy file. subst (λ d. Plays d result (streams o a) (streams o' a)) (sym (due_help policy file None)) (plays_shown a w p t))))
 
   pub judges_version : form ≡ Some version → written ≡ version_text → Judges told may form result (streams o a) (streams o' a) (dealings dealt dealt backs backs)
-  judges_version e w = rw e (judges_with told (Some version) dealt backs (λ policy file session. subst (λ d. Plays d result (streams o a) (streams o' a)) (sym (due_version policy file session)) (plays_shown a w p t)) nothing)
+  judges_version e w = rw e (judges_alone dealt backs (idle_shown rose result statuses.Ok t x) (alone_with told (Some version) (λ policy file. subst (λ d. Plays d result (streams o a) (streams o' a)) (sym (due_version policy file None)) (plays_shown a w p t))))
 
--- The exits of `under`, by the facts that it has there.
-module _ (told : Told) {may : Moment → Type 0} {name : List ℕ} (task : Task) {result : Result Status Stop} {s : Streams} (dealt : Option (List Deal)) (backs : Option (List Back)) (first : Option (Vec ℕ)) (held_first : Holds told name (held first)) where
-  -- by what the policy's file holds
-  judges_by : Plays (due (Some (under name task)) (held first) (seen told (file_of task)) None) result s s → Idle (status_of result) → Judges told may (Some (under name task)) result s s (dealings dealt dealt backs backs)
-  judges_by plays idle = record {
-    policy = held first;
+-- ---- by what the file of the policy comes to
+
+module _ {told : Told} {name : List ℕ} (task : Task) where
+  pub alone_unruled : {s : Streams} (status : Status) → Ends told name status → JudgesAlone told (Some (under name task)) (Ok status) s s
+  alone_unruled status e = record {
+    policy = e.policy;
     file = seen told (file_of task);
-    session = None;
-    policy_held = held_first;
+    policy_held = e.held;
     file_held = seen_held told (file_of task);
-    plays = plays;
-    links = untouched dealt backs (idle_handed_by (IsService may (held first)) task (status_of result) idle);
+    plays = told_only (due (Some (under name task)) e.policy (seen told (file_of task)) None) e.ending
+        (due_is name task e.policy (seen told (file_of task)) None ∙ e.due (λ rules. due_under rules task (seen told (file_of task)) None)) e.is_told;
   }
 
-  pub judges_no_policy : first ≡ None → IfOk result (λ status. told_by status ≡ Some (statuses.NoFile name)) → IfErr result (λ stop. stop ≡ stops.Memory) → Judges told may (Some (under name task)) result s s (dealings dealt dealt backs backs)
-  judges_no_policy e h x = judges_by
-      (told_only (due (Some (under name task)) (held first) (seen told (file_of task)) None) (statuses.NoFile name) (due_is name task (held first) (seen told (file_of task)) None ∙ rw e refl) h)
-      (idle_told result (statuses.NoFile name) tt h x)
+  pub alone_ruled : (rules : Policy) → Spells told name rules → {result : Result Status Stop} {s t : Streams} → Performs told rules task result s t → JudgesAlone told (Some (under name task)) result s t
+  alone_ruled rules r {result} {s} {t} p = record {
+    policy = Some r.text;
+    file = p.file;
+    policy_held = r.held;
+    file_held = p.file_held;
+    plays = subst (λ d. Plays d result s t) (sym (due_is name task (Some r.text) p.file None ∙ rw r.is_rules refl)) p.plays;
+  }
+
+-- what is said of a policy is said of its text
+taken : {told : Told} {name : List ℕ} {rules : Policy} (r : Spells told name rules) (Say : Policy → Type 0) → Say rules → IsTaken (Some r.text) Say
+taken {rules = rules} r Say say = record { text = r.text; rules = rules; is_text = refl; is_rules = r.is_rules; say = say }
+
+pub judges_service : {told : Told} {may : Moment → Type 0} {name : List ℕ} (classes : List ℕ) (workers : ℕ) (rules : Policy) → Spells told name rules → {result : Result Status Stop} {s t : Streams} {net : Dealings} → Offers may rules classes result s t net → Judges told may (Some (under name (serve classes workers))) result s t net
+judges_service {told} {may} {name} classes workers rules r {result} {s} {t} p = record {
+  policy = Some r.text;
+  file = seen told [];
+  session = p.session;
+  policy_held = r.held;
+  file_held = seen_held told [];
+  plays = subst (λ d. Plays d result s t) (sym (due_is name (serve classes workers) (Some r.text) (seen told []) p.session ∙ rw r.is_rules refl)) p.plays;
+  links = says (served_to (Enforces rules) (IsTaken (Some r.text) Enforces) (IsUnder may rules) (IsService may (Some r.text))
+      (taken r Enforces) (λ session all deals backs. taken r (λ rules. IsUnder may rules session all deals backs)) p.session (status_of result) classes) p.links;
+}
+
+-- ---- the exits of `rules_of`
+
+module _ (told : Told) (name : List ℕ) (first : Option (Vec ℕ)) (held_first : Holds told name (held first)) where
+  pub ends_without : (status : Status) → first ≡ None → told_by status ≡ Some (statuses.NoFile name) → Ends told name status
+  ends_without status none t = record {
+    policy = None;
+    ending = statuses.NoFile name;
+    held = subst (λ (o : Option (Vec ℕ)). Holds told name (held o)) none held_first;
+    is_told = t;
+    due = λ next. refl;
+  }
 
   module _ (text : Vec ℕ) (is_first : first ≡ Some text) where
-    judges_refused : (refused : Refused) → policy_of text.items ≡ Err refused → IfOk result (λ status. told_by status ≡ Some (statuses.PolicyRefused refused.line refused.cause)) → IfErr result (λ stop. stop ≡ stops.Memory) → Judges told may (Some (under name task)) result s s (dealings dealt dealt backs backs)
-    judges_refused refused q h x = judges_by
-        (told_only (due (Some (under name task)) (held first) (seen told (file_of task)) None) (statuses.PolicyRefused refused.line refused.cause) (due_is name task (held first) (seen told (file_of task)) None ∙ rw (is_first, q) refl) h)
-        (idle_told result (statuses.PolicyRefused refused.line refused.cause) tt h x)
+    text_held : Holds told name (Some text.items)
+    text_held = subst (λ (o : Option (Vec ℕ)). Holds told name (held o)) is_first held_first
 
-    -- or there was no memory for the policy
-    pub judges_no_rules : (error : PolicyError) → IsRefusal (policy_of text.items) error → MatchOption (refusal_of error) (OnOk result ⊥) (λ refused. IfOk result (λ status. told_by status ≡ Some (statuses.PolicyRefused refused.line refused.cause))) → IfErr result (λ stop. stop ≡ stops.Memory) → Judges told may (Some (under name task)) result s s (dealings dealt dealt backs backs)
-    judges_no_rules (error.Refused line cause) q h x = judges_refused (record { line = line; cause = cause }) q h x
-    judges_no_rules error.Memory q h x = judges_by (gave_up (due (Some (under name task)) (held first) (seen told (file_of task)) None) h) (never_idle result h x)
+    pub spells_rules : (rules : Policy) → policy_of text.items ≡ Ok rules → Spells told name rules
+    spells_rules rules good = record { text = text.items; held = text_held; is_rules = good }
 
-    -- a service under the policy is one under its text
-    pub judges_under : (rules : Policy) → policy_of text.items ≡ Ok rules → {t : Streams} {net : Dealings} → Performs told may rules task result s t net → Judges told may (Some (under name task)) result s t net
-    judges_under rules good {t} {net} p = record {
-      policy = held first;
-      file = p.file;
-      session = p.session;
-      policy_held = held_first;
-      file_held = p.file_held;
-      plays = subst (λ d. Plays d result s t) (sym (due_is name task (held first) p.file p.session ∙ rw (is_first, good) refl)) p.plays;
-      links = says (handed_to (IsUnder may rules) (IsService may (held first)) (λ session classes deals back is. record { text = text.items; rules = rules; is_text = ap held is_first; is_rules = good; is_under = is }) p.session task (status_of result)) p.links;
+    pub ends_refused : (line : ℕ) (cause : Cause) → IsRefusal (policy_of text.items) (error.Refused line cause) → Ends told name (statuses.PolicyRefused line cause)
+    ends_refused line cause refused = record {
+      policy = Some text.items;
+      ending = statuses.PolicyRefused line cause;
+      held = text_held;
+      is_told = refl;
+      due = λ next. rw refused refl;
     }

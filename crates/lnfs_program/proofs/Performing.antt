@@ -18,35 +18,19 @@ use Rattle.lnfs_program.specs.declared.status.Stop.{Stop}
 use Rattle.lnfs_program.specs.Ending.{told_by}
 use Rattle.lnfs_gss3.specs.Mechanism.{keyed_digest}
 use Rattle.lnfs_program.specs.Due.{due_under, enforced, given, shown, spelled, no_translation, replayed, served}
-use Rattle.lnfs_program.specs.Handed.{Dealings, dealings, IsUnder, HandedBy}
+use Rattle.lnfs_program.specs.Handed.{Dealings, dealings, Enforces, IsUnder}
 use Rattle.lnfs_program.specs.Replays.{ReplaysLeft}
-use Rattle.lnfs_program.specs.Runs.{Holds, Plays, Performs, Replays, Serves, status_of}
-use Rattle.lnfs_program.specs.Session.{Session, IsSession}
+use Rattle.lnfs_program.specs.Runs.{Holds, Offers, Plays, Performs, Serves, status_of}
+use Rattle.lnfs_program.specs.Session.{IsSession}
 use Rattle.lnfs_program.specs.Streams.{Streams}
-use Rattle.lnfs_program.specs.Words.{Task, replay, serve, file_of}
+use Rattle.lnfs_program.specs.Words.{Task, replay, file_of}
 use Rattle.lnfs_program.proofs.Dealing.{says, untouched, nothing}
 use Rattle.lnfs_program.proofs.Handing.{served_to}
 use Rattle.lnfs_program.proofs.Judging.{seen, seen_held, gave_up, told_only}
 
-module _ (told : Told) {may : Moment → Type 0} (policy : Policy) {result : Result Status Stop} {s : Streams} (dealt : Option (List Deal)) (backs : Option (List Back)) where
-  -- whatever the file holds, where no links are dealt with
-  pub performs_with : (task : Task) {t : Streams} → ((file : Option (List ℕ)) (session : Option Session) → Plays (due_under policy task file session) result s t) → HandedBy (IsUnder may policy) None (status_of result) task [] [] → Performs told may policy task result s t (dealings dealt dealt backs backs)
-  performs_with task plays links = record {
-    file = seen told (file_of task);
-    session = None;
-    file_held = seen_held told (file_of task);
-    plays = plays (seen told (file_of task)) None;
-    links = untouched dealt backs links;
-  }
-
-  pub performs_file : (name : List ℕ) {t : Streams} → Replays told policy name result s t → Performs told may policy (replay name) result s t (dealings dealt dealt backs backs)
-  performs_file name {t} p = record {
-    file = p.file;
-    session = None;
-    file_held = p.file_held;
-    plays = p.plays;
-    links = untouched dealt backs nothing;
-  }
+-- whatever the file holds
+pub performs_with : (told : Told) (policy : Policy) (task : Task) {result : Result Status Stop} {s t : Streams} → ((file : Option (List ℕ)) → Plays (due_under policy task file None) result s t) → Performs told policy task result s t
+performs_with told policy task plays = record { file = seen told (file_of task); file_held = seen_held told (file_of task); plays = plays (seen told (file_of task)) }
 
 -- what was left of a file that was opened is what the file holds
 holds_left : (told : Told) (name : List ℕ) (left : Option (List ℕ)) (traffic : List ℕ) → Opens told name left true → IfSome left (λ bytes. traffic ≡ bytes) → Holds told name (Some traffic)
@@ -56,30 +40,22 @@ holds_left (Some look) name (Some bytes) traffic o w = o.0 ∙ ap Some (sym w)
 
 -- a replay
 module _ (told : Told) (policy : Policy) {result : Result Status Stop} {s : Streams} where
-  pub performs_gave_up : (name : List ℕ) → OnOk result ⊥ → Replays told policy name result s s
-  performs_gave_up name never = record {
-    file = seen told name;
-    file_held = seen_held told name;
-    plays = gave_up (enforced policy.mode (given (seen told name) name (replayed keyed_digest policy))) never;
-  }
+  pub performs_gave_up : (name : List ℕ) → OnOk result ⊥ → Performs told policy (replay name) result s s
+  performs_gave_up name never = performs_with told policy (replay name) (λ file. gave_up (enforced policy.mode (given file name (replayed keyed_digest policy))) never)
 
   -- a policy whose labels the server doesn't enforce
-  pub performs_limited : (name : List ℕ) → policy.mode ≡ Limited → IfOk result (λ status. told_by status ≡ Some statuses.Usage) → Replays told policy name result s s
-  performs_limited name e h = record {
-    file = seen told name;
-    file_held = seen_held told name;
-    plays = told_only (enforced policy.mode (given (seen told name) name (replayed keyed_digest policy))) statuses.Usage (rw e refl) h;
-  }
+  pub performs_limited : (name : List ℕ) → policy.mode ≡ Limited → IfOk result (λ status. told_by status ≡ Some statuses.Usage) → Performs told policy (replay name) result s s
+  performs_limited name e h = performs_with told policy (replay name) (λ file. told_only (enforced policy.mode (given file name (replayed keyed_digest policy))) statuses.Usage (rw e refl) h)
 
   module _ (name : List ℕ) (e : policy.mode ≡ Enforcing) {left : Option (List ℕ)} where
-    pub performs_no_file : Opens told name left false → IfOk result (λ status. told_by status ≡ Some (statuses.NoFile name)) → Replays told policy name result s s
+    pub performs_no_file : Opens told name left false → IfOk result (λ status. told_by status ≡ Some (statuses.NoFile name)) → Performs told policy (replay name) result s s
     performs_no_file o h = record {
       file = None;
       file_held = o.0;
       plays = told_only (enforced policy.mode (given None name (replayed keyed_digest policy))) (statuses.NoFile name) (rw e refl) h;
     }
 
-    pub performs_replay : {t : Streams} (found : Bool) → found ≡ true → Opens told name left found → ReplaysLeft keyed_digest policy left result s t → Replays told policy name result s t
+    pub performs_replay : {t : Streams} (found : Bool) → found ≡ true → Opens told name left found → ReplaysLeft keyed_digest policy left result s t → Performs told policy (replay name) result s t
     performs_replay {t} found is o r = record {
       file = Some r.traffic;
       file_held = holds_left told name left r.traffic (subst (Opens told name left) is o) r.was_left;
@@ -87,17 +63,19 @@ module _ (told : Told) (policy : Policy) {result : Result Status Stop} {s : Stre
     }
 
 -- a service under a policy whose labels the server enforces, and under another
-pub performs_service : (told : Told) {may : Moment → Type 0} (policy : Policy) (classes : List ℕ) (workers : ℕ) {result : Result Status Stop} {s t : Streams} {net : Dealings} → policy.mode ≡ Enforcing → Serves may keyed_digest policy classes result s t net → Performs told may policy (serve classes workers) result s t net
-performs_service told {may} policy classes workers {result} {s} {t} e p = record {
-  file = seen told [];
+pub offers_service : {may : Moment → Type 0} (policy : Policy) (classes : List ℕ) {result : Result Status Stop} {s t : Streams} {net : Dealings} → policy.mode ≡ Enforcing → Serves may keyed_digest policy classes result s t net → Offers may policy classes result s t net
+offers_service {may} policy classes {result} {s} {t} e p = record {
   session = p.session;
-  file_held = seen_held told [];
   plays = subst (λ d. Plays d result s t) (sym (ap (λ m. enforced m (served keyed_digest policy p.session)) e)) p.plays;
-  links = says (served_to (IsSession may keyed_digest policy) (IsUnder may policy) (λ session all deals backs is. record { enforces = e; is_session = is }) p.session (status_of result) classes) p.links;
+  links = says (served_to (Unit {0}) (Enforces policy) (IsSession may keyed_digest policy) (IsUnder may policy) (λ begins. e) (λ session all deals backs is. record { enforces = e; is_session = is }) p.session (status_of result) classes) p.links;
 }
 
-pub performs_no_service : (told : Told) {may : Moment → Type 0} (policy : Policy) (classes : List ℕ) (workers : ℕ) {s : Streams} (dealt : Option (List Deal)) (backs : Option (List Back)) → policy.mode ≡ Limited → Performs told may policy (serve classes workers) (Ok statuses.Usage) s s (dealings dealt dealt backs backs)
-performs_no_service told policy classes workers dealt backs e = performs_with told policy dealt backs (serve classes workers) (λ file session. told_only (enforced policy.mode (served keyed_digest policy session)) statuses.Usage (rw e refl) refl) nothing
+pub offers_none : {may : Moment → Type 0} (policy : Policy) (classes : List ℕ) {s : Streams} (dealt : Option (List Deal)) (backs : Option (List Back)) → policy.mode ≡ Limited → Offers may policy classes (Ok statuses.Usage) s s (dealings dealt dealt backs backs)
+offers_none policy classes dealt backs e = record {
+  session = None;
+  plays = told_only (enforced policy.mode (served keyed_digest policy None)) statuses.Usage (rw e refl) refl;
+  links = untouched dealt backs nothing;
+}
 
 -- no status tells want of memory
 never_memory : (status : Status) → told_by status ≡ Some statuses.Memory → ⊥

@@ -1,5 +1,5 @@
 -- The links that a run was dealt, and those that it handed back.
-use Rattle.std.specs.Prelude.{◌≡◌, ℕ, List, ◌++◌, Ok, All}
+use Rattle.std.specs.Prelude.{◌≡◌, ◌⊎◌, ℕ, List, ◌++◌, Ok, All}
 use Rattle.std.specs.declared.option.Option.{Option}
 use Rattle.std.specs.declared.option.Option.TheVariants.{Some, None}
 use Rattle.lnfs_outside.specs.Nets.{Deal, Back}
@@ -36,34 +36,51 @@ pub record Deals (d : Dealings) (Say : List Deal → List Back → Type 0) : Typ
   pub handed : Adds d.backs d.backs_after backs
   pub say : Say deals backs
 
--- a service under a policy whose labels the server enforces
+-- the server enforces the labels of a policy
+abbrev pub Enforces : Policy → Type 0
+Enforces policy = policy.mode ≡ Enforcing
+
+-- a service under a policy whose labels are enforced
 pub record IsUnder (may : Moment → Type 0) (policy : Policy) (session : Session) (classes : List ℕ) (deals : List Deal) (backs : List Back) : Type 0 where
-  pub enforces : policy.mode ≡ Enforcing
+  pub enforces : Enforces policy
   pub is_session : IsSession may keyed_digest policy session classes deals backs
 
--- the same under the policy that a text spells
-pub record IsService (may : Moment → Type 0) (policy : Option (List ℕ)) (session : Session) (classes : List ℕ) (deals : List Deal) (backs : List Back) : Type 0 where
+-- a text spells a policy, of which something is said
+pub record IsTaken (policy : Option (List ℕ)) (Say : Policy → Type 0) : Type 0 where
   pub text : List ℕ
   pub rules : Policy
   pub is_text : policy ≡ Some text
   pub is_rules : policy_of text ≡ Ok rules
-  pub is_under : IsUnder may rules session classes deals backs
+  pub say : Say rules
 
--- the links that were to be served, by what the service came to, if it began, and the status
-abbrev pub AreServed : (Is : Session → List ℕ → List Deal → List Back → Type 0) → Option Session → Status → (classes : List ℕ) → List Deal → List Back → Type 0
-AreServed Is (Some session) status.Ok classes deals backs = Is session classes deals backs × All FoundMemory session.ends
-AreServed Is (Some session) status.WriteFault classes deals backs = Is session classes deals backs
-AreServed Is (Some session) status.Memory classes deals backs = Is session classes deals backs
-AreServed Is (Some session) ending classes deals backs = ⊥
-AreServed Is None status.NetFault classes deals backs = IsRefused classes deals backs
-AreServed Is None status.Memory classes deals backs = IsShort classes deals backs
-AreServed Is None ending classes deals backs = Nothing deals backs
+-- a service under the policy that a text spells
+abbrev pub IsService : (may : Moment → Type 0) (policy : Option (List ℕ)) → Session → (classes : List ℕ) → List Deal → List Back → Type 0
+IsService may policy session classes deals backs = IsTaken policy (λ rules. IsUnder may rules session classes deals backs)
 
--- the links of a task, which deals with links only where it is a service; and those of a form
-abbrev pub HandedBy : (Is : Session → List ℕ → List Deal → List Back → Type 0) → Option Session → Status → Task → List Deal → List Back → Type 0
-HandedBy Is session ending (serve classes workers) deals backs = AreServed Is session ending classes deals backs
-HandedBy Is session ending task deals backs = Nothing deals backs
+-- The links that were to be served, by what the service came to, if it began, and the status. The net is asked for links only where a service may begin.
+abbrev pub AreServed : (May : Type 0) (Is : Session → List ℕ → List Deal → List Back → Type 0) → Option Session → Status → (classes : List ℕ) → List Deal → List Back → Type 0
+AreServed May Is (Some session) status.Ok classes deals backs = Is session classes deals backs × All FoundMemory session.ends
+AreServed May Is (Some session) status.WriteFault classes deals backs = Is session classes deals backs
+AreServed May Is (Some session) status.Memory classes deals backs = Is session classes deals backs
+AreServed May Is (Some session) ending classes deals backs = ⊥
+AreServed May Is None status.NetFault classes deals backs = May × IsRefused classes deals backs
+AreServed May Is None status.Memory classes deals backs = Nothing deals backs ⊎ (May × IsShort classes deals backs)
+AreServed May Is None ending classes deals backs = Nothing deals backs
 
-abbrev pub Handed : (Is : Session → List ℕ → List Deal → List Back → Type 0) → Option Session → Status → Option Form → List Deal → List Back → Type 0
-Handed Is session ending (Some (under policy task)) deals backs = HandedBy Is session ending task deals backs
-Handed Is session ending form deals backs = Nothing deals backs
+-- a status that the net has no part in
+abbrev pub WithoutNet : Status → Type 0
+WithoutNet status.NetFault = ⊥
+WithoutNet ending = Unit {0}
+
+-- the links of what is no service
+abbrev pub AreNone : Status → List Deal → List Back → Type 0
+AreNone ending deals backs = WithoutNet ending × Nothing deals backs
+
+-- the links of a task, which deals with the net only where it is a service; and those of a form
+abbrev pub HandedBy : (May : Type 0) (Is : Session → List ℕ → List Deal → List Back → Type 0) → Option Session → Status → Task → List Deal → List Back → Type 0
+HandedBy May Is session ending (serve classes workers) deals backs = AreServed May Is session ending classes deals backs
+HandedBy May Is session ending task deals backs = AreNone ending deals backs
+
+abbrev pub Handed : (May : Type 0) (Is : Session → List ℕ → List Deal → List Back → Type 0) → Option Session → Status → Option Form → List Deal → List Back → Type 0
+Handed May Is session ending (Some (under policy task)) deals backs = HandedBy May Is session ending task deals backs
+Handed May Is session ending form deals backs = AreNone ending deals backs

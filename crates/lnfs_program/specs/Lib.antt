@@ -1,8 +1,6 @@
 -- What a run is to write, and how it is to end.
-pub mod Refusals
 pub mod Lines
 pub mod Words
-pub mod Tasks
 pub mod Streams
 pub mod Writes
 pub mod Ending
@@ -11,5 +9,6 @@ pub mod Due
 pub mod Handed
 pub mod Links
 pub mod Runs
+pub mod Rules
 pub mod Replays
 pub mod Summary

@@ -13,10 +13,10 @@ use Rattle.lnfs_program.specs.declared.status.Status.TheVariants as statuses
 use Rattle.lnfs_program.specs.Streams.{Streams, Counts}
 use Rattle.lnfs_policy.specs.Policy.{Policy}
 use Rattle.lnfs_gss3.specs.Mechanism.{Signing, keyed_digest}
-use Rattle.lnfs_program.specs.Due.{Due, due, due_under, enforced, given, replayed, served, all_writes}
+use Rattle.lnfs_program.specs.Due.{Due, due, due_under, enforced, served, all_writes}
 use Rattle.lnfs_program.specs.Ending.{told_by}
 use Rattle.lnfs_program.specs.Session.{Session, IsSession}
-use Rattle.lnfs_program.specs.Handed.{Dealings, Deals, IsUnder, IsService, AreServed, HandedBy, Handed}
+use Rattle.lnfs_program.specs.Handed.{Dealings, Deals, Enforces, IsTaken, IsUnder, IsService, AreServed, Handed}
 use Rattle.lnfs_program.specs.Words.{Task, Form, file_of, first_name, second_name}
 use Rattle.lnfs_program.specs.Writes.{Takes, TakesFront, Does}
 
@@ -43,7 +43,7 @@ pub record Runs (told : Told) (may : Moment → Type 0) (form : Option Form) (st
   pub file_held : Holds told (second_name form) file
   pub told_all : IfSome (told_by status) (λ e. (e ≡ (due form policy file session).ending) × Takes before after (all_writes (due form policy file session)))
   pub begun : TakesFront before after (all_writes (due form policy file session))
-  pub links : Deals net (Handed (IsService may policy) session status form)
+  pub links : Deals net (Handed (IsTaken policy Enforces) (IsService may policy) session status form)
 
 -- what is due was done, all but the ending's line
 pub record Plays (d : Due) (result : Result Status Stop) (before after : Streams) : Type 0 where
@@ -58,27 +58,33 @@ pub record Judges (told : Told) (may : Moment → Type 0) (form : Option Form) (
   pub policy_held : Holds told (first_name form) policy
   pub file_held : Holds told (second_name form) file
   pub plays : Plays (due form policy file session) result before after
-  pub links : Deals net (Handed (IsService may policy) session (status_of result) form)
+  pub links : Deals net (Handed (IsTaken policy Enforces) (IsService may policy) session (status_of result) form)
+
+-- the same where no links are dealt with
+pub record JudgesAlone (told : Told) (form : Option Form) (result : Result Status Stop) (before after : Streams) : Type 0 where
+  pub policy : Option (List ℕ)
+  pub file : Option (List ℕ)
+  pub policy_held : Holds told (first_name form) policy
+  pub file_held : Holds told (second_name form) file
+  pub plays : Plays (due form policy file None) result before after
 
 -- the same of a task under a policy that was read
-pub record Performs (told : Told) (may : Moment → Type 0) (policy : Policy) (task : Task) (result : Result Status Stop) (before after : Streams) (net : Dealings) : Type 0 where
+pub record Performs (told : Told) (policy : Policy) (task : Task) (result : Result Status Stop) (before after : Streams) : Type 0 where
   pub file : Option (List ℕ)
-  pub session : Option Session
   pub file_held : Holds told (file_of task) file
-  pub plays : Plays (due_under policy task file session) result before after
-  pub links : Deals net (HandedBy (IsUnder may policy) session (status_of result) task)
+  pub plays : Plays (due_under policy task file None) result before after
 
--- the same of a replay, which deals with no links
-pub record Replays (told : Told) (policy : Policy) (traffic : List ℕ) (result : Result Status Stop) (before after : Streams) : Type 0 where
-  pub file : Option (List ℕ)
-  pub file_held : Holds told traffic file
-  pub plays : Plays (enforced policy.mode (given file traffic (replayed keyed_digest policy))) result before after
+-- a service under a policy that was read, with a link of each of the classes, where the policy's labels are enforced
+pub record Offers (may : Moment → Type 0) (policy : Policy) (classes : List ℕ) (result : Result Status Stop) (before after : Streams) (net : Dealings) : Type 0 where
+  pub session : Option Session
+  pub plays : Plays (enforced policy.mode (served keyed_digest policy session)) result before after
+  pub links : Deals net (AreServed (Enforces policy) (IsUnder may policy) session (status_of result) classes)
 
--- the same of a service, whose callers sign by a mechanism, with a link of each of the classes
+-- the same whatever the mode is, of callers who sign by a mechanism
 pub record Serves (may : Moment → Type 0) (m : Signing) (policy : Policy) (classes : List ℕ) (result : Result Status Stop) (before after : Streams) (net : Dealings) : Type 0 where
   pub session : Option Session
   pub plays : Plays (served m policy session) result before after
-  pub links : Deals net (AreServed (IsSession may m policy) session (status_of result) classes)
+  pub links : Deals net (AreServed (Unit {0}) (IsSession may m policy) session (status_of result) classes)
 
 -- why a call gave up
 abbrev pub IsExcused : Stop → (read write net : Type 0) → Type 0

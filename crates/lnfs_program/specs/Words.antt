@@ -9,7 +9,9 @@ use Rattle.lnfs_words.specs.Hex.{hex_of}
 use Rattle.lnfs_words.specs.Words.{split}
 use Rattle.lnfs_format.specs.declared.formats.Pair.{Pair}
 use Rattle.lnfs_program.specs.declared.words.Command.{Command}
-use Rattle.lnfs_program.specs.declared.words.Command.TheVariants.{Help, Version, Check, Replay, Translate, Generate, Serve}
+use Rattle.lnfs_program.specs.declared.words.Command.TheVariants.{Help, Version, Under, Serve}
+use Rattle.lnfs_program.specs.declared.words.Task as code
+use Rattle.lnfs_program.specs.declared.words.Task.TheVariants.{Check, Replay, Translate, Generate}
 
 -- what is asked under a policy
 pub data Task : Type 0 where
@@ -102,14 +104,18 @@ form_of (a ∷ b ∷ c ∷ d ∷ []) = cond (bytes_eq a (codes "generate")) (gen
 form_of (a ∷ b ∷ c ∷ d ∷ e ∷ f ∷ g ∷ []) = cond (bytes_eq a (codes "translate")) (translation b (pair_in c d) (pair_in f g) (bytes_in e)) None
 form_of words = None
 
+-- the task that the code's value stands for
+abbrev pub task_of : code.Task → Task
+task_of Check = check
+task_of (Replay traffic) = replay traffic.now
+task_of (Translate source target bytes) = translate source target bytes.items
+task_of (Generate seed count) = generate seed count
+
 -- the form that a command is
 abbrev pub named : Command → Form
 named Help = help
 named Version = version
-named (Check policy) = under policy.now check
-named (Replay policy traffic) = under policy.now (replay traffic.now)
-named (Translate policy pairs bytes) = under policy.now (translate pairs.0 pairs.1 bytes.items)
-named (Generate policy seed count) = under policy.now (generate seed count)
+named (Under policy task) = under policy.now (task_of task)
 named (Serve policy team) = under policy.now (serve team.links.items team.workers)
 
 -- the words' bytes

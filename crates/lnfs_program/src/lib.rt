@@ -8,7 +8,9 @@
 
 pub mod laws;
 mod links;
+mod offer;
 pub mod replay;
+mod rules;
 pub mod run;
 mod service;
 pub mod start;

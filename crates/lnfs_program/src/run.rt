@@ -6,9 +6,10 @@ ghost use Rattle.lnfs_program.specs.Runs.{Judges, Runs, Gives, HasReason, NoneFe
 ghost use Rattle.lnfs_program.specs.Streams.{HandsOn, counts, streams};
 ghost use Rattle.lnfs_program.specs.Words.{form_of, texts};
 
+use crate::offer::offer_under;
 use crate::status::{Status, Stop};
 use crate::streams::{hand_on_both, put_line, show};
-use crate::under::{Task, under};
+use crate::under::under;
 use crate::words::{Command, command_of, help, version};
 use lnfs_format::Codecs;
 use lnfs_outside::{Clock, Files, Net, Sink};
@@ -38,60 +39,12 @@ where
         None => Ok(Status::Usage),
         Some(Command::Help) => show(out, help().as_bytes()),
         Some(Command::Version) => show(out, version().as_bytes()),
-        Some(Command::Check { policy }) => {
-            under(
-                rt,
-                alloc,
-                codecs,
-                policy,
-                Task::Check,
-                files,
-                out,
-                audit,
-                net,
-                clock,
-            )
+        Some(Command::Under { policy, task }) => {
+            under(alloc, codecs, policy, &task, files, out, audit)
         }
-        Some(Command::Replay { policy, traffic }) => {
-            let task = Task::Replay { traffic };
-            under(
-                rt, alloc, codecs, policy, task, files, out, audit, net, clock,
-            )
-        }
-        Some(
-            Command::Translate {
-                policy,
-                pairs,
-                bytes,
-            },
-        ) => {
-            let task = Task::Translate {
-                source: pairs.0,
-                target: pairs.1,
-                bytes: &bytes,
-            };
-            under(
-                rt, alloc, codecs, policy, task, files, out, audit, net, clock,
-            )
-        }
-        Some(
-            Command::Generate {
-                policy,
-                seed,
-                count,
-            },
-        ) => {
-            let task = Task::Generate { seed, count };
-            under(
-                rt, alloc, codecs, policy, task, files, out, audit, net, clock,
-            )
-        }
-        Some(Command::Serve { policy, team }) => {
-            let task = Task::Serve { team: &team };
-            under(
-                rt, alloc, codecs, policy, task, files, out, audit, net, clock,
-            )
-        }
+        Some(Command::Serve { policy, team }) => offer_under(
+            rt, alloc, codecs, policy, &team, files, out, audit, net, clock,
+        ),
     }
 }
 

@@ -71,34 +71,35 @@ exit status:\n\
 9 there is no such file\n\
 10 the label has no translation\n";
 
+/// What is asked under a policy, without links.
+#[derive(Debug, Drop)]
+pub enum Task<'a> {
+    Check,
+    Replay {
+        traffic: &'a str,
+    },
+    /// From the first format to the second.
+    Translate {
+        source: Pair,
+        target: Pair,
+        bytes: Vec<u8>,
+    },
+    /// So many events by a seed.
+    Generate {
+        seed: u64,
+        count: u32,
+    },
+}
+
 /// What the words ask for.
 #[derive(Debug, Drop)]
 pub enum Command<'a> {
     Help,
     Version,
-    Check {
-        policy: &'a str,
-    },
-    Replay {
-        policy: &'a str,
-        traffic: &'a str,
-    },
-    /// From the first format to the second.
-    Translate {
-        policy: &'a str,
-        pairs: (Pair, Pair),
-        bytes: Vec<u8>,
-    },
-    /// So many events by a seed.
-    Generate {
-        policy: &'a str,
-        seed: u64,
-        count: u32,
-    },
-    Serve {
-        policy: &'a str,
-        team: Team,
-    },
+    /// A task under the policy of a name.
+    Under { policy: &'a str, task: Task<'a> },
+    /// The service of links under the policy of a name.
+    Serve { policy: &'a str, team: Team },
 }
 
 /// What the words ask for; none where they are no form of the command line.
@@ -107,12 +108,15 @@ pub fn command_of<'a>(alloc: Global, words: &'a [String]) -> Result<Option<Comma
 {
     match words {
         [word] => Ok(option_of(word)),
-        [word, policy] if word.as_str() == "check" => Ok(Some(Command::Check {
+        [word, policy] if word.as_str() == "check" => Ok(Some(Command::Under {
             policy: policy.as_str(),
+            task: Task::Check,
         })),
-        [word, policy, traffic] if word.as_str() == "replay" => Ok(Some(Command::Replay {
+        [word, policy, traffic] if word.as_str() == "replay" => Ok(Some(Command::Under {
             policy: policy.as_str(),
-            traffic: traffic.as_str(),
+            task: Task::Replay {
+                traffic: traffic.as_str(),
+            },
         })),
         [word, policy, seed, count] if word.as_str() == "generate" => {
             Ok(generation_of(policy, seed, count))
@@ -146,10 +150,13 @@ fn translation_of<'a>(
     let Some(bytes) = bytes_of(alloc, hex)? else {
         return Ok(None);
     };
-    Ok(Some(Command::Translate {
+    Ok(Some(Command::Under {
         policy,
-        pairs: (source, target),
-        bytes,
+        task: Task::Translate {
+            source,
+            target,
+            bytes,
+        },
     }))
 }
 
@@ -162,10 +169,12 @@ fn generation_of<'a>(policy: &'a str, seed: &str, count: &str) -> Option<Command
     if count == 0 {
         return None;
     }
-    Some(Command::Generate {
+    Some(Command::Under {
         policy,
-        seed,
-        count: count as u32,
+        task: Task::Generate {
+            seed,
+            count: count as u32,
+        },
     })
 }
 

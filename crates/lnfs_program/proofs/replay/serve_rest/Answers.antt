@@ -1,10 +1,9 @@
-use Rattle.std.proofs.Common.{rules, refl, ap, ◌∙◌, arith}
+use Rattle.std.proofs.Common.{rules, refl, ◌∙◌, arith}
 use Rattle.std.specs.Prelude.{Ok, Err}
 use Rattle.std.specs.declared.option.Option.TheVariants.{Some, None}
 use Rattle.lnfs_traffic.specs.Pieces.{IsNext}
-use Rattle.lnfs_vault.specs.Kept.{Kept}
 use Rattle.lnfs_program.specs.Streams.{streams}
-use Rattle.lnfs_program.proofs.Replaying.{begins_reading, stops_at_first, fits_next, goes_on, stops_in, stops_there, stops_reading, goes_on_reading, ends_at_last, ends_early, was_more, was_none}
+use Rattle.lnfs_program.proofs.Replaying.{begins_reading, fits_next, goes_on, stops_in, stops_there, stops_reading, goes_on_reading, ends_at_last, ends_early, was_more, was_none}
 use Rattle.lnfs_program.proofs.Judging.{never_ok}
 use Rattle.lnfs_program.proofs.Serving.{none_fell, gives_writes, gives_reads, gives_ending}
 use Rattle.lnfs_program.proofs.replay.serve_rest.Goals as goal

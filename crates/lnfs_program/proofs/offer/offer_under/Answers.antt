@@ -1,0 +1,13 @@
+use Rattle.std.proofs.Common.{rules}
+use Rattle.lnfs_program.proofs.Handing.{stop_idle}
+use Rattle.lnfs_program.proofs.Judging.{judges_over, judges_gave_up, judges_service, alone_unruled}
+use Rattle.lnfs_program.proofs.offer.offer_under.Goals as goal
+
+pub returns-in_err-policy-clause-judges : goal.returns-in_err-policy-clause-judges
+returns-in_err-policy-clause-judges g c = judges_gave_up _ _ _ _ c.in_err-policy.field-0.0 (search rules) (stop_idle _ _ _ c.in_err-policy.ensures.cause.excused)
+
+pub returns-in-Ok-clause-judges : goal.returns-in-Ok-clause-judges
+returns-in-Ok-clause-judges g c = judges_service _ _ c.in-Ok.policy (rw c.in-Ok.is at c.in_ok-policy.ensures.rules) c.offer.ensures.offers
+
+pub returns-in-Err-clause-judges : goal.returns-in-Err-clause-judges
+returns-in-Err-clause-judges g c = judges_over _ _ ⊥ ⊥ tt (alone_unruled _ c.in-Err.status (rw c.in-Err.is at c.in_ok-policy.ensures.rules))
