@@ -1,4 +1,4 @@
--- The number of an operation (RFC 8881 section 16.2.2), and of its result.
+-- The number of an operation (RFC 8881 section 16.2.1), and of its result.
 use Rattle.std.specs.Prelude.{ℕ, if◌then◌else◌}
 use Rattle.lnfs_arguments.specs.declared.types.Op.{Op}
 use Rattle.lnfs_arguments.specs.declared.types.Op.TheVariants as ops

@@ -1,4 +1,4 @@
--- The numbers of operations (RFC 8881 section 18) and of the arms of their unions.
+-- The numbers of operations (RFC 8881 section 18).
 use Rattle.std.specs.Prelude.{ℕ, Bool, nat_le, ◌&&◌}
 
 abbrev pub op_access : ℕ

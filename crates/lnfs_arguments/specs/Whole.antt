@@ -1,4 +1,4 @@
--- The bytes of the arguments of a COMPOUND (RFC 8881 section 16.2.2), and what reading them promises.
+-- The bytes of the arguments of a COMPOUND (RFC 8881 section 16.2.1), and what reading them promises.
 use Rattle.std.specs.Prelude.{◌≡◌, ℕ, zero, suc, ◌+◌, Bool, true, false, List, [], ◌∷◌, ◌++◌, length, take, drop, Result, Ok, Err, nat_lt, nat_le, ◌==◌, if◌then◌else◌}
 use Rattle.std.specs.Int.{w32}
 use Rattle.lnfs_xdr.specs.declared.error.XdrError.{XdrError}

@@ -122,7 +122,7 @@ fn compound_of<'a, E: ExtraGrammar>(
     }
 }
 
-/// The COMPOUND whose arguments the bytes are (RFC 8881 section 16.2.2). The bytes of a WRITE are
+/// The COMPOUND whose arguments the bytes are (RFC 8881 section 16.2.1). The bytes of a WRITE are
 /// lent from them.
 ///
 /// With another minor version than 2 neither the count nor an operation is read, and `count` is 0;

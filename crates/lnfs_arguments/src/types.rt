@@ -188,8 +188,8 @@ pub enum Op<'a> {
         one_fs: bool,
     },
     /// An operation outside of what is served: its number as it was sent, and the status that it
-    /// answers. It ends reading. An operation that has no number in the protocol answers
-    /// `OP_ILLEGAL` as its number and as its status.
+    /// answers where there is room for it. It ends reading. The result of an operation that has no
+    /// number in the protocol has `OP_ILLEGAL` as its number.
     Outside {
         number: u32,
         status: u32,
@@ -252,12 +252,13 @@ impl Op<'_> {
     }
 }
 
-/// The arguments of a COMPOUND (RFC 8881 section 16.2.2).
+/// The arguments of a COMPOUND (RFC 8881 section 16.2.1).
 #[derive(Debug, Drop)]
 pub struct Compound<'a> {
     pub tag: Octets,
     pub minor: u32,
-    /// The count that was sent, which may be more than the operations that were read.
+    /// The count that was sent, which may be more than the operations that were read. It is 0 where
+    /// the minor version isn't 2, since nothing behind that is read.
     pub count: u32,
     pub ops: Items<Op<'a>>,
 }

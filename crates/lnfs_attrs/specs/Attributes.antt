@@ -1,4 +1,4 @@
--- The table of attributes (RFC 8881 section 5, RFC 7862 section 12.2.3).
+-- The table of attributes (RFC 8881 section 5, RFC 7862 section 12.2.4).
 use Rattle.std.specs.Prelude.{◌≡◌, ℕ, Bool, true, false, not, ◌&&◌, ◌||◌, List, [], ◌∷◌, ◌++◌, ◌==◌, if◌then◌else◌}
 use Rattle.std.specs.List.{flat_map, list_any}
 use Rattle.lnfs_xdr.specs.Canon.{word, long, opaque}

@@ -1,4 +1,4 @@
-//! The table of attributes (RFC 8881 section 5, RFC 7862 section 12.2.3): their numbers, in order,
+//! The table of attributes (RFC 8881 section 5, RFC 7862 section 12.2.4): their numbers, in order,
 //! and which of them are inner. They stand here alone.
 
 pub const SUPPORTED_ATTRS: u32 = 0;

@@ -7,7 +7,7 @@ mod laws;
 
 pub use laws::{hold_is_exclusive, hold_is_lawful};
 
-/// A lock that another holder has (RFC 8881 section 15.1.8.1).
+/// A lock that another holder has (RFC 8881 section 15.1.8.3).
 pub const NFS4ERR_DENIED: u32 = 10010;
 
 /// A state id that names nothing (RFC 8881 section 15.1.5.2).
