@@ -1,5 +1,5 @@
 -- No attribute is asked beyond the words of a bitmap.
-use Rattle.std.proofs.Common.{◌≡◌, ℕ, ◌<◌, ◌≤◌, ◌/◌, ◌^◌, Bool, true, false, length, ◌↔◌, IsTrue, refl, arith, inl, inr}
+use Rattle.std.proofs.Common.{◌≡◌, ℕ, ◌<◌, ◌≤◌, ◌/◌, ◌^◌, Bool, true, length, ◌↔◌, IsTrue, refl, arith, inl, inr}
 use Rattle.std.proofs.lemmas.Bool.{cases_lt}
 use Rattle.std.proofs.lemmas.List.{get_or_past}
 use Rattle.std.proofs.lemmas.Nat.{shr_le}
@@ -25,6 +25,3 @@ all_below b test end len le all n e = all n (omega (arith, has_below b n len e))
 
 pub is_all : (b : Bitmap) (test : ℕ → Bool) (end : ℕ) → length b.words ≡ 8 → 256 ≤ end → ((n : ℕ) → n < end → has_attr b n ≡ true → test n ≡ true) → IsTrue true ↔ AllAsked b test
 is_all b test end len le all = (λ t. all_below b test end len le all, λ t. refl)
-
-pub not_all : (b : Bitmap) (test : ℕ → Bool) (n : ℕ) → has_attr b n ≡ true → test n ≡ false → IsTrue false ↔ AllAsked b test
-not_all b test n e f = (λ t. absurd cc, λ t. absurd (let g = t n e in cc))

@@ -1,5 +1,5 @@
 -- Bytes in chunks, one place at a time.
-use Rattle.std.proofs.Common.{◌≡◌, ℕ, zero, suc, ◌+◌, ◌-◌, ◌*◌, ◌/◌, ◌%◌, ◌<◌, ◌≤◌, min, Bool, true, false, cond, List, [], ◌∷◌, ◌++◌, length, take, drop, get_or, replicate, set, refl, sym, ◌∙◌, ap, arith, length-append, length-drop}
+use Rattle.std.proofs.Common.{◌≡◌, ℕ, zero, suc, ◌+◌, ◌-◌, ◌*◌, ◌/◌, ◌%◌, ◌<◌, ◌≤◌, min, Bool, true, false, cond, List, [], ◌++◌, length, take, drop, get_or, replicate, set, refl, sym, ◌∙◌, ap, arith, length-append, length-drop}
 use Rattle.std.specs.Prelude.{◌&&◌, ◌==◌, nat_le, nat_lt, slice_index_or}
 use Rattle.std.proofs.lemmas.Bool.Decides.{nat_tests}
 use Rattle.std.proofs.lemmas.List.{get_or_past, get_or_default, get_or_append_left, get_or-set_same, get_or-set_other, length-set, get_or-take, get_or-drop, get_or-replicate, get_or-append_right, length-take, length-replicate}
@@ -19,11 +19,6 @@ get_or-bytes_from f i (suc n) zero lt = ap f (omega arith)
 get_or-bytes_from f i (suc n) (suc k) lt = get_or-bytes_from f (i + 1) n k (omega arith) ∙ ap f (omega arith)
 
 -- ---- an empty chunk more
-pub cell-push : (cs : List (List ℕ)) (c at : ℕ) → cell (cs ++ [] ∷ []) c at ≡ cell cs c at
-cell-push [] zero at = refl
-cell-push [] (suc c) at = refl
-cell-push (x ∷ xs) zero at = refl
-cell-push (x ∷ xs) (suc c) at = cell-push xs c at
 
 -- ---- a part of one chunk is a part of the content
 both_ways : (a b : Bool) → (a ≡ true → b ≡ true) → (b ≡ true → a ≡ true) → a ≡ b
@@ -62,12 +57,6 @@ pub step : (bs : List ℕ) (offset done part i now mid old : ℕ) → now ≡ co
 step bs offset done part i now mid old a b = grind (arith, nat_tests, a, b, part_byte bs offset done part i)
 
 -- ---- the lists of bytes
-pub read_past : (offset count : ℕ) (xs : List ℕ) → length xs ≤ offset → read_at offset count xs ≡ []
-read_past offset count xs past = nil_of (read_at offset count xs) (simp (length-take, length-drop) (omega arith))
-  where
-    nil_of : (ys : List ℕ) → length ys ≡ 0 → ys ≡ []
-    nil_of [] e = refl
-    nil_of (y ∷ ys) e = absurd (omega arith)
 
 pub byte_of : (f : ℕ → ℕ) (n k : ℕ) → ((i : ℕ) → n ≤ i → f i ≡ 0) → get_or (bytes_from f 0 n) k 0 ≡ f k
 byte_of f n k zeros = at (nat_lt k n) refl
@@ -220,13 +209,6 @@ has_place_kept old now i kept count has = record {
   chunk = omega (arith, has.chunk, count);
   at = omega (arith, has.at, kept (i / CHUNK));
 }
-
-pub bytes_from-more : (f : ℕ → ℕ) (i n : ℕ) → bytes_from f i n ++ f (i + n) ∷ [] ≡ bytes_from f i (n + 1)
-bytes_from-more f i n = let e : suc n ≡ n + 1 = omega arith in push n i ∙ ap (bytes_from f i) e
-  where
-    push : (n i : ℕ) → bytes_from f i n ++ f (i + n) ∷ [] ≡ bytes_from f i (suc n)
-    push zero i = let e : i + zero ≡ i = omega arith in ap (λ (k : ℕ). f k ∷ []) e
-    push (suc n) i = let e : i + suc n ≡ i + 1 + n = omega arith in ap (λ (k : ℕ). f i ∷ (bytes_from f (i + 1) n ++ f k ∷ [])) e ∙ ap (λ (xs : List ℕ). f i ∷ xs) (push n (i + 1))
 
 pub read_is : (f : ℕ → ℕ) (size offset count many : ℕ) → offset < size → many ≡ min count (size - offset) → bytes_from f offset many ≡ read_at offset count (bytes_from f 0 size)
 read_is f size offset count many inside is = same_number_lists _ _ lengths (λ k lt. each k (omega (arith, length-bytes_from f offset many)))

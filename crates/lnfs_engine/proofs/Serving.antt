@@ -1,11 +1,10 @@
 -- A COMPOUND that ran, and the keeping of its result.
 use Rattle.std.proofs.Common.{◌≡◌, ◌≤◌, ◌+◌, ℕ, List, Option, ◌++◌, length, drop, refl, sym, ap, ◌∙◌, length-append, arith}
 use Rattle.std.specs.Prelude.{option_map}
-use Rattle.std.specs.List.{flat_map}
 use Rattle.std.proofs.Math.Seq.{drop-append_seam}
 use Rattle.lnfs_arguments.specs.declared.types.Compound.{Compound}
 use Rattle.lnfs_results.specs.declared.types.OpResult.{OpResult}
-use Rattle.lnfs_results.specs.Texts.{head_text, result_text}
+use Rattle.lnfs_results.specs.Texts.{head_text}
 use Rattle.lnfs_xdr.specs.Canon.{word, opaque}
 use Rattle.lnfs_xdr.proofs.Sizes.{length-word}
 use Rattle.lnfs_world.specs.World.{Kept}
@@ -20,20 +19,12 @@ use Rattle.lnfs_engine.specs.declared.place.Keeper as code
 use Rattle.lnfs_engine.specs.declared.run.Ended.{Ended}
 use Rattle.lnfs_engine.specs.declared.run.Ended.TheVariants as ended
 use Rattle.lnfs_engine.specs.Places.{keeper_of}
-use Rattle.lnfs_engine.specs.Runs.{denial_of, Reaches, EndsBy, denied_by}
+use Rattle.lnfs_engine.specs.Runs.{denial_of, EndsBy, denied_by}
 
 -- ---- the head
 
 pub head_long : (before tag : List ℕ) (begin : ℕ) → length before ≡ begin → begin + 8 ≤ length (before ++ head_text 0 tag 0)
 head_long before tag begin is = omega (arith, is, length-append before (head_text 0 tag 0), length-append (word 0 ++ opaque tag) (word 0), length-append (word 0) (opaque tag), length-word 0)
-
-pub head_starts : (before tag : List ℕ) (begin : ℕ) → length before ≡ begin → length (before ++ head_text 0 tag 0) ≡ begin + length (head_text 0 tag 0)
-head_starts before tag begin is = omega (arith, is, length-append before (head_text 0 tag 0))
-
--- new results stand behind it
-pub reaches : (begin end : ℕ) (old new : List ℕ) (due : ℕ) (results : List OpResult) (refused : Option Denial) (again : Option (List ℕ)) (e : Ended) → length old ≡ end → EndsBy begin old new due results refused again e → Reaches end new e
-reaches begin end old new due results refused again (ended.New status count denial) is by = omega (arith, is, ap length by.text, length-append old (flat_map result_text results))
-reaches begin end old new due results refused again ended.Again is by = tt
 
 pub denied_is : (begin : ℕ) (old new : List ℕ) (due : ℕ) (results : List OpResult) (refused : Option Denial) (again : Option (List ℕ)) (e : Ended) → EndsBy begin old new due results refused again e → option_map denial_of (denied_by e) ≡ refused
 denied_is begin old new due results refused again (ended.New status count denial) by = by.denied

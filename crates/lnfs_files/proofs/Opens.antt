@@ -50,14 +50,6 @@ refused_so s v (Ok opened) Old calm does = absurd does
 refused_so s v (Ok opened) Memory calm does = absurd (calm refl)
 refused_so s v (Err why) e calm does = (ap (λ (e : OpenError). let r : Result Opened OpenError = Err e in r) (sym does.0), does.1)
 
--- every error leaves the opens
-pub left : (s v : Lists) (told : Result Opened OpenError) (e : OpenError) → Does told s v (Err e) → v ≡ s
-left s v (Ok opened) Full does = absurd does
-left s v (Ok opened) Bad does = absurd does
-left s v (Ok opened) Old does = absurd does
-left s v (Ok opened) Memory does = does.1
-left s v (Err why) e does = does.1
-
 -- ---- the definition
 
 -- a change of the opens alone

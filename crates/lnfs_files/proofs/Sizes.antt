@@ -171,9 +171,6 @@ held_size t n h holds kind = holds.tells.size ∙ ap (size_of t.entries n) (held
 pub held_bytes : (t : Rows) (n : Node) (h : Held) → Holds t n h → kind_of h.facts.kind ≡ File → bytes_of n n.kind ≡ h.facts.size
 held_bytes t n h holds kind = ap (bytes_of n) (held_kind t n h holds kind) ∙ sym (held_size t n h holds kind)
 
-pub no_bytes : (t : Rows) (n : Node) (h : Held) (kind : Kind) → Holds t n h → kind_of h.facts.kind ≡ kind → bytes_of n kind ≡ bytes_of n n.kind
-no_bytes t n h kind holds is = ap (bytes_of n) (sym is ∙ holds.tells.kind)
-
 pub sized_bytes : (n : Node) (moment : Moment) (size : ℕ) → n.kind ≡ File → bytes_of (record n { inner = data_changed moment (sized size n.inner.content) n.inner }) n.kind ≡ size
 sized_bytes n moment size kind = ap (bytes_of (record n { inner = data_changed moment (sized size n.inner.content) n.inner })) kind ∙ length-sized size n.inner.content
 

@@ -1,5 +1,5 @@
 -- Bytes are equal where no difference of any two of them is left.
-use Rattle.std.proofs.Common.{◌≡◌, ◌≢◌, ◌==◌, ◌&&◌, ◌+◌, ◌<◌, ℕ, Bool, true, false, List, [], ◌∷◌, ◌++◌, length, take, get_or, refl, sym, ap, ◌∙◌, add-one, arith}
+use Rattle.std.proofs.Common.{◌≡◌, ◌==◌, ◌&&◌, ◌+◌, ◌<◌, ℕ, Bool, true, false, List, [], ◌∷◌, ◌++◌, length, take, get_or, refl, sym, ap, ◌∙◌, add-one, arith}
 use Rattle.std.specs.Prelude.{bit_or, bit_xor}
 use Rattle.std.specs.Int.Bits.{xor_zero_r, xor_self, xor_assoc}
 use Rattle.std.specs.Str.{bytes_eq}
@@ -7,7 +7,6 @@ use Rattle.std.proofs.Math.Seq.{take-suc}
 use Rattle.std.proofs.lemmas.Nat.{le_or_l, le_or_r}
 use Rattle.std.proofs.lemmas.Bool.Decides.{nat_tests}
 use Rattle.std.proofs.lemmas.List.{length-take}
-use Rattle.lnfs_world.proofs.Keys.{bytes_same}
 
 same_bool : (a b : Bool) → (a ≡ true → b ≡ true) → (b ≡ true → a ≡ true) → a ≡ b
 same_bool true b f g = sym (f refl)
@@ -47,11 +46,3 @@ take_more xs ys i a b =
     ap (λ (k : ℕ). bytes_eq (take k xs) (take k ys)) (add-one i)
     ∙ (λ t. bytes_eq (take-suc xs i 0 a t) (take-suc ys i 0 b t))
     ∙ snoc (take i xs) (take i ys) (get_or xs i 0) (get_or ys i 0) (omega (arith, length-take i xs, length-take i ys, a, b))
-
--- bytes of another length differ
-pub other_length : (xs ys : List ℕ) → length xs ≢ length ys → bytes_eq xs ys ≡ false
-other_length xs ys other = by (bytes_eq xs ys) refl
-  where
-    by : (b : Bool) → bytes_eq xs ys ≡ b → b ≡ false
-    by true is = absurd (other (ap length (bytes_same xs ys is)))
-    by false is = refl

@@ -137,7 +137,3 @@ exchange_id_footprint dom args p w stands =
       place = place_made dom args p w (find (is_pending p.subject args.owner) w.clients) stands.facts stands.place refl;
       subject = refl;
     })
-
--- it leaves the place
-pub exchange_id_stays : (args : Arguments) (p : Place) (w : World) → (exchange_id args p w).place ≡ p
-exchange_id_stays args p w = exchange_id_any (λ o. o.place ≡ p) args p w (λ gate status. refl) (λ t. refl) refl

@@ -41,10 +41,6 @@ chosen_true : {A : Type 0} (b : Bool) (x y : A) → b ≡ true → cond b x y �
 chosen_true true x y e = refl
 chosen_true false x y e = absurd (grind arith)
 
-chosen_false : {A : Type 0} (b : Bool) (x y : A) → b ≡ false → cond b x y ≡ y
-chosen_false true x y e = absurd (grind arith)
-chosen_false false x y e = refl
-
 equal_itself : (n : ℕ) → n == n ≡ true
 equal_itself n = grind (arith, nat_tests)
 

@@ -6,9 +6,8 @@ use Rattle.std.proofs.lemmas.List.{get_or_append_left, get_or_push, get_or_defau
 use Rattle.lnfs_calipso.specs.Label.{Label, label_at, dominates}
 use Rattle.lnfs_calipso.specs.Same.{same_label}
 use Rattle.lnfs_calipso.specs.Equality.{same_label-refl}
-use Rattle.lnfs_calipso.specs.Levels.{Apart, AllAbove, AreFirstLevels, AreLevels}
+use Rattle.lnfs_calipso.specs.Levels.{Apart, AllAbove, AreFirstLevels}
 use Rattle.lnfs_calipso.specs.declared.lattice.TheConstants.{MAX_LEVELS}
-use Rattle.lnfs_words.specs.Words.{is_empty}
 use Rattle.lnfs_policy.specs.Fits.{is_next}
 
 -- an earlier level keeps its label
@@ -71,7 +70,3 @@ next_sound labels label old e =
       apart = apart labels label old.apart (not-true _ parts.1);
       above = above labels label old.above fits.1;
     }
-
-pub levels : (labels : List Label) → AreFirstLevels labels → is_empty labels ≡ false → AreLevels labels
-levels [] sound e = cc
-levels (label ∷ labels) sound e = record { some = omega arith; first = sound }

@@ -52,26 +52,12 @@ pub found_passes : {X : Type 0} (p : X → Bool) (x : X) (xs : List X) → find 
 found_passes p x [] found = absurd (cc)
 found_passes p x (y ∷ xs) found = grind (arith, found_passes p x xs)
 
-found_left : {X : Type 0} (p q : X → Bool) (x : X) → q x ≡ true → (xs : List X) → find p xs ≡ Some x → find p (filter q xs) ≡ Some x
-found_left p q x stays [] found = found
-found_left p q x stays (y ∷ xs) found = grind (arith, found_left p q x stays xs)
-
 pub client-id : (clients : List Client) (i : Id) (c : Client) → client_at clients i ≡ Some c → c.id ≡ i
 client-id clients i c found = sym (id_same i c.id (found_id own_id clients i c found))
 
 -- the record that gives way is another one
 other : (c d : Client) → is_replaced c d ≡ true → same_id c.id d.id ≡ false
 other c d e = grind arith
-
-pub client-stays : (clients : List Client) (i : Id) (c : Client) → client_at clients i ≡ Some c → client_at (clients_left (option_map (λ d. d.id) (find (is_replaced c) clients)) clients) i ≡ Some c
-client-stays clients i c found = at (find (is_replaced c) clients) refl
-  where
-    at : (o : Option Client) → find (is_replaced c) clients ≡ o → client_at (clients_left (option_map (λ d. d.id) o) clients) i ≡ Some c
-    at None is = found
-    at (Some d) is = found_left (λ e. same_id i e.id) (λ e. not (same_id d.id e.id)) c (apart (other c d (found_passes (is_replaced c) d clients is))) clients found
-      where
-        apart : same_id c.id d.id ≡ false → not (same_id d.id c.id) ≡ true
-        apart differ = grind (arith, nat_tests)
 
 -- the new session isn't one of the record that gives way, so it can be added before these go
 pub session-added : (c : Client) (x : Session) (clients : List Client) (rows added : List Session) → x.id.level ≡ c.id.level → x.client ≡ c.id.number → added ≡ inserted session_order x rows → ((test : Session → Bool) → test x ≡ true → filter test added ≡ inserted session_order x (filter test rows)) → sessions_left (option_map (λ d. d.id) (find (is_replaced c) clients)) added ≡ inserted session_order x (sessions_left (option_map (λ d. d.id) (find (is_replaced c) clients)) rows)

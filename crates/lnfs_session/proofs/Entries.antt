@@ -1,5 +1,5 @@
 -- The keys of clients and sessions lie in the order of the identifiers that they name.
-use Rattle.std.proofs.Common.{◌≡◌, ℕ, List, [], ◌∷◌, Option, Some, None, refl, sym, ap, ◌∙◌, arith}
+use Rattle.std.proofs.Common.{◌≡◌, ℕ, List, [], ◌∷◌, Option, Some, None, refl, arith}
 use Rattle.std.specs.Prelude.{◌==◌, map, find, option_map}
 use Rattle.std.specs.Borrow.{Bor}
 use Rattle.std.specs.Option.{option_copied}
@@ -7,19 +7,14 @@ use Rattle.std.specs.Ordering.{nat_cmp, ordering_then, is_eq}
 use Rattle.std.specs.declared.cmp.Ordering.{Ordering}
 use Rattle.std.specs.declared.cmp.Ordering.TheVariants.{Less, Equal, Greater}
 use Rattle.std.specs.BTreeMap.{insert_entry}
-use Rattle.std.specs.List.Sorted.{IsStrictlySortedBy}
-use Rattle.std.specs.Map.{lookup, set_value, keys_of}
+use Rattle.std.specs.Map.{lookup}
 use Rattle.std.proofs.lemmas.Bool.Decides.{nat_tests}
 use Rattle.lnfs_world.specs.Rows.{inserted}
-use Rattle.lnfs_world.specs.World as world
 use Rattle.lnfs_world.specs.World.{level_order}
-use Rattle.lnfs_counts.proofs.Entries.{AreKeys, find-entries, set-entries}
+use Rattle.lnfs_counts.proofs.Entries.{AreKeys}
 use Rattle.lnfs_session.specs.declared.rows.ClientRef.{ClientRef}
 use Rattle.lnfs_session.specs.declared.rows.SessionRef.{SessionRef}
-use Rattle.lnfs_session.specs.declared.rows.Client.{Client}
-use Rattle.lnfs_session.specs.Listed.{id_of, session_id_of, client_of, last_of as last_id}
-use Rattle.lnfs_session.specs.Standing.{clients_set}
-use Rattle.lnfs_session.specs.Indexed.{own_id}
+use Rattle.lnfs_session.specs.Listed.{id_of, session_id_of, last_of as last_id}
 
 abbrev pub client_cmp : ClientRef → ClientRef → Ordering
 client_cmp a b = ordering_then (nat_cmp a.level b.level) (nat_cmp a.number b.number)
@@ -34,19 +29,6 @@ pub session_keys : AreKeys session_id_of session_cmp
 session_keys = record { one = λ a b same t. record { level = (same t).level; number = (same t).number }; order = λ a b. refl }
 
 -- ---- a client's record that gets another state
-pub client-set : (g : world.Client → world.Client) (i : ClientRef) (v w : Client) → client_of (i, v) ≡ g (client_of (i, w)) → (es : List (ClientRef × Client)) → IsStrictlySortedBy client_cmp (keys_of es) → lookup (λ k. is_eq (client_cmp i k)) es ≡ Some w → map client_of (set_value (λ k. is_eq (client_cmp i k)) es v) ≡ clients_set g (world.client_at (map client_of es) (id_of i)) (map client_of es)
-client-set g i v w is es sorted found =
-    let rows = map client_of es in
-    let there : world.client_at rows (id_of i) ≡ Some (client_of (i, w)) = find-entries id_of client_cmp client_keys client_of own_id (λ e. refl) i es ∙ ap (option_map (λ u. client_of (i, u))) found in
-    set-entries id_of client_cmp client_keys client_of own_id (λ e. refl) i v w es sorted found
-    ∙ ap (λ r. inserted world.client_order r rows) is
-    ∙ sym (ap (λ o. clients_set g o rows) there)
-
-pub client-absent : (g : world.Client → world.Client) (i : ClientRef) (es : List (ClientRef × Client)) → lookup (λ k. is_eq (client_cmp i k)) es ≡ None → map client_of es ≡ clients_set g (world.client_at (map client_of es) (id_of i)) (map client_of es)
-client-absent g i es none =
-    let rows = map client_of es in
-    let gone : world.client_at rows (id_of i) ≡ None = find-entries id_of client_cmp client_keys client_of own_id (λ e. refl) i es ∙ ap (option_map (λ u. client_of (i, u))) none in
-    sym (ap (λ o. clients_set g o rows) gone)
 
 -- ---- last numbers
 pub last-entries : (level : ℕ) (es : List (ℕ × ℕ)) → find (λ i. i.level == level) (map last_id es) ≡ option_map (λ n. last_id (level, n)) (lookup (λ k. is_eq (nat_cmp level k)) es)

@@ -20,10 +20,6 @@ pub none_told : {X Y : Type 0} (f : X → Y) (o : Option X) → None ≡ option_
 none_told f None e = refl
 none_told f (Some c) e = cc
 
-pub some_told : {X Y : Type 0} (f : X → Y) (y : Y) (o : Option X) → Some y ≡ option_map f o → (x : X) × (o ≡ Some x) × (y ≡ f x)
-some_told f y None e = absurd (cc)
-some_told f y (Some x) e = (x, refl, cc)
-
 module _ (args : Arguments) (level : ℕ) (moment : Moment) (rest : World) (lists : Lists) where
   pub again : has_flag args.flags EXCHGID4_FLAG_CONFIRMED_R ≡ false → has_flag args.flags EXCHGID4_FLAG_UPD_CONFIRMED_REC_A ≡ false → (c : Client) → find (is_confirmed_as level args.owner args.verifier) lists.clients ≡ Some c → exchange_id args (begins_at level moment) (standing rest lists) ≡ done (begins_at level moment) (told_as c) []
   again told update c found = rw (told, update, found) refl

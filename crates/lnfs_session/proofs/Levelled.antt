@@ -1,15 +1,11 @@
 -- What is told of the levels after a change of one.
 use Rattle.std.proofs.Common.{◌≡◌, ℕ, List, Option, Some, None, sym, ap, ◌∙◌}
-use Rattle.std.specs.Ordering.{is_eq, nat_cmp}
-use Rattle.std.specs.Map.{lookup}
+use Rattle.std.specs.Ordering.{nat_cmp}
 use Rattle.std.specs.BTreeMap.{UpdatesBy, get}
 use Rattle.lnfs_counts.specs.Levels.{told_in}
 use Rattle.lnfs_counts.proofs.Levels.{read_alike}
 use Rattle.lnfs_session.specs.declared.levels.Level.{Level}
 use Rattle.lnfs_session.specs.Levels.{Levels, TellSame, no_numbers, or_none, numbers_of, place_in, lasts_of, AllTellSame}
-
-abbrev at : ℕ → List (ℕ × Level) → Option Level
-at level es = lookup (λ k. is_eq (nat_cmp level k)) es
 
 module _ (m n : Levels) (level : ℕ) (y : Level) (updates : UpdatesBy nat_cmp (nat_cmp level) m n (Some y)) (lasts : lasts_of n.entries ≡ lasts_of m.entries) where
   alike : {W : Type 0} (f : Option Level → W) (before : Option Level) → get nat_cmp m level ≡ before → f (Some y) ≡ f before → (l : ℕ) → f (get nat_cmp n l) ≡ f (get nat_cmp m l)
@@ -39,12 +35,4 @@ told_twice a b c first second = record {
   records = λ l. second.records l ∙ first.records l;
   numbers = λ l owner. second.numbers l owner ∙ first.numbers l owner;
   lasts = second.lasts ∙ first.lasts;
-}
-
-pub unchanged : (m n : Levels) → n.entries ≡ m.entries → AllTellSame m n
-unchanged m n same = record {
-  last = λ l. ap (λ es. told_in (λ x. x.last) (at l es)) same;
-  records = λ l. ap (λ es. told_in (λ x. x.records) (at l es)) same;
-  numbers = λ l owner. ap (λ es. or_none (place_in (at l es) owner)) same;
-  lasts = ap lasts_of same;
 }

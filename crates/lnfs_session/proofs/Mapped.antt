@@ -1,5 +1,5 @@
 -- Rows that are seen through a view.
-use Rattle.std.proofs.Common.{◌≡◌, Bool, true, false, List, [], ◌∷◌, Option, Some, None, refl, sym, ◌∙◌, arith}
+use Rattle.std.proofs.Common.{◌≡◌, Bool, true, false, List, [], ◌∷◌, refl, sym, ◌∙◌, arith}
 use Rattle.std.specs.Prelude.{map, filter, find, count_by, length, option_map}
 use Rattle.std.specs.List.{list_any}
 use Rattle.std.proofs.lemmas.List.Sums.{length-filter}
@@ -32,7 +32,3 @@ module _ {X Y : Type 0} (f : X → Y) where
 
   pub count-map : (q : Y → Bool) (xs : List X) → count_by q (map f xs) ≡ count_by (λ x. q (f x)) xs
   count-map q xs = sym (length-filter q (map f xs)) ∙ length-filtered q xs ∙ length-filter (λ x. q (f x)) xs
-
-pub map-map : {X Y Z : Type 0} (f : X → Y) (g : Y → Z) (o : Option X) → option_map g (option_map f o) ≡ option_map (λ x. g (f x)) o
-map-map f g None = refl
-map-map f g (Some x) = refl

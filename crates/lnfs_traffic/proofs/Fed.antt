@@ -134,17 +134,6 @@ first_broken rest b f = rw (b, f) refl
 
 -- ---- before the beginning was there
 
--- bytes that don't begin as a recording record nothing
-pub nothing_recorded : (fed : List ℕ) (events : List Event) (rest : List ℕ) → begins rest ≡ false → Reads fed events 0 rest → events ≡ recorded fed
-nothing_recorded fed events rest b r =
-    let all = all_unread fed events rest r in
-    r.none refl ∙ rw (all, b) refl
-
-pub no_recording : (fed : List ℕ) (events : List Event) (rest : List ℕ) → begins rest ≡ false → Reads fed events 0 rest → (is_recording fed ≡ false) × (0 ≡ place_of fed)
-no_recording fed events rest b r =
-    let all = all_unread fed events rest r in
-    (rw (all, b) refl, rw (all, b) refl)
-
 -- what isn't a front of the beginning, and doesn't begin with it, does so whatever follows
 otherwise : (b : Bool) → (b ≡ true → ⊥) → b ≡ false
 otherwise true h = absurd (h refl)

@@ -24,13 +24,6 @@ begun bytes e = sym (take-append-drop 8 bytes) ∙ ap (λ (t : List ℕ). t ++ d
 begins_so : (body : List ℕ) → begins (beginning ++ body) ≡ true
 begins_so body = refl
 
-behind_it : (body : List ℕ) → drop 8 (beginning ++ body) ≡ body
-behind_it body = refl
-
-empty : (xs : List ℕ) → length xs ≡ 0 → xs ≡ []
-empty [] e = refl
-empty (x ∷ xs) e = absurd (omega (arith, e))
-
 -- the front up to the place is a recording
 pub front_recording : (bytes : List ℕ) → IsBytes bytes → begins bytes ≡ true → IsRecording (recorded bytes) (take (place_of bytes) bytes)
 front_recording bytes fits e =

@@ -52,10 +52,6 @@ others_listed k es now is none = ap listed is ∙ down es (ap (lookup (λ j. is_
     down [] none = refl
     down (x ∷ xs) none = grind (arith, nat_tests, kept xs, down xs)
 
-all_kept : (q : Entry → Bool) (xs : List Entry) → AllByRecursion (λ x. q x ≡ true) xs → filter q xs ≡ xs
-all_kept q [] all = refl
-all_kept q (x ∷ xs) all = grind (arith, all.0, all_kept q xs all.1)
-
 module _ (c : ℕ) (n : Entry) (es mid now : List (ℕ × Entry)) (k : ℕ) (rises : Rising name_order (listed es)) (above : AllByRecursion (λ x. x.cookie < c) (listed es)) (put : mid ≡ insert_entry nat_cmp es c n) (out : now ≡ remove_entry (λ j. is_eq (nat_cmp k j)) mid) (none : lookup (λ j. is_eq (nat_cmp k j)) now ≡ None) where
   untied : AllByRecursion (λ x. is_eq (name_order (entry_of (c, n)) x) ≡ false) (listed es)
   untied = all_weaker _ _ (λ x less. cookie_untied c x less) (listed es) above

@@ -2,7 +2,7 @@
 use Rattle.std.proofs.Common.{◌≡◌, ◌<◌, ◌≤◌, ℕ, List, [], ◌∷◌, ◌++◌, length, refl, sym, ap, ◌∙◌, append_assoc, append-nil, subst, arith, Some, None}
 use Rattle.std.specs.declared.option.Option.{Option}
 use Rattle.std.specs.Io.KnownBytes.{Appends, Consumes}
-use Rattle.std.proofs.KnownBytes.{Consumes-nil, Consumes-trans, Appends-nil, Appends-trans}
+use Rattle.std.proofs.KnownBytes.{Consumes-trans, Appends-trans}
 use Rattle.lnfs_outside.specs.Bytes.{AppendsPart}
 use Rattle.lnfs_rpc.specs.Formats.{whole_record}
 use Rattle.lnfs_rpc.specs.CallGrammar.{Begins}
@@ -15,16 +15,6 @@ use Rattle.lnfs_workers.specs.declared.ending.Ending.TheVariants.{Closed, Cut, R
 use Rattle.lnfs_workers.specs.Turns.{IsOfCutting, SaysRead, ReadOn, IsOfWriting}
 use Rattle.lnfs_workers.specs.Served.{Tells, Going, EndsAs, Service}
 use Rattle.lnfs_workers.proofs.Records.{stream_more, stream_push, messages_push, transcript_push}
-
-pub starts : (old : Tells) → Going old old [] []
-starts old = record {
-  read = [];
-  reads = Consumes-nil old.left;
-  cuts = refl;
-  writes = Appends-nil old.taken;
-  reading = omega arith;
-  writing = omega arith;
-}
 
 -- bytes were read behind what is pending
 more_read : (old now new : Tells) (pending piece : List ℕ) (entries : List Entry) → Going old now pending entries → Consumes now.left new.left piece

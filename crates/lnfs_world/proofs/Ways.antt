@@ -2,23 +2,19 @@
 use Rattle.std.proofs.Common.{◌≡◌, ℕ, zero, suc, ◌+◌, ◌≤◌, Bool, true, false, not, ◌&&◌, List, [], ◌∷◌, Option, Some, None, refl, sym, ◌∙◌, ap, subst, arith}
 use Rattle.std.specs.Prelude.{filter, length}
 use Rattle.std.specs.Option.{option_map}
-use Rattle.std.specs.List.{find, list_any}
+use Rattle.std.specs.List.{list_any}
 use Rattle.std.proofs.lemmas.Bool.Decides.{nat_tests}
 use Rattle.lnfs_world.specs.World.{Id}
 use Rattle.lnfs_world.specs.World.{Entry}
 use Rattle.lnfs_world.specs.World.{same_id}
 use Rattle.lnfs_world.specs.Tree.{same_entry}
 use Rattle.lnfs_world.specs.Tree.{root, has_name, name_of, parent_of, way_up, LeadsTo, is_above}
-use Rattle.lnfs_world.proofs.Rows.{any_filter, any_found, all_anyway}
+use Rattle.lnfs_world.proofs.Rows.{any_filter, all_anyway}
 use Rattle.lnfs_world.proofs.Keys.{id_same, id_itself}
 
 fewer : (q : Entry → Bool) (es : List Entry) → length (filter q es) ≤ length es
 fewer q [] = omega arith
 fewer q (e ∷ es) = grind (arith, fewer q es)
-
-found_passes : (q : Entry → Bool) (es : List Entry) (e : Entry) → find q es ≡ Some e → q e ≡ true
-found_passes q [] e found = grind arith
-found_passes q (x ∷ es) e found = grind (arith, found_passes q es e)
 
 -- names after a change of the entries
 pub name_of-without : (entry : Entry) (es : List Entry) (i : Id) → same_id i entry.node ≡ false → name_of (filter (λ e. not (same_entry entry e)) es) i ≡ name_of es i
@@ -105,13 +101,3 @@ module _ {X : Type 0} (key : X → Id) (q : X → Bool) where
           let left : (j : ℕ) (d : Id) → way_up up j p ≡ Some d → same_id i d ≡ false = λ j d way. differs (same_id i d) (same_id i d) refl (λ same. omega (arith, no_turn up free j (suc k) i ends (next j d way ∙ ap Some (sym (id_same i d same))))) in
           let rest = shorter p (grind arith) (λ j d y way further. any_filter _ _ xs (all_anyway _ (λ x. grind (arith, nat_tests, left j d way, id_same d (key x))) xs) (through (suc j) d y (next j d way) further)) in
           omega (arith, rest, one_without i xs (through zero i p refl is))
-
--- no more steps than there are entries
-pub way_by_entries : (es : List Entry) → has_name es root ≡ false → (k : ℕ) (i : Id) → way_up (parent_of es) k i ≡ Some root → k ≤ length es
-way_by_entries es free k i ends =
-    let short = way_short (λ e. e.node) (λ e. true) (parent_of es) (no_parent es root free) k es i ends (λ j d p way up. has_row d p (name_of es d) refl up) in
-    omega (arith, short, fewer (λ e. true) es)
-  where
-    has_row : (d p : Id) (o : Option Entry) → name_of es d ≡ o → option_map (λ e. e.directory) o ≡ Some p → list_any (λ e. same_id d e.node && true) es ≡ true
-    has_row d p None named up = absurd (grind arith)
-    has_row d p (Some e) named up = any_found (λ x. same_id d x.node) _ es e named (grind (arith, found_passes (λ x. same_id d x.node) es e named))

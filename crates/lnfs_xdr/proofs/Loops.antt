@@ -1,6 +1,5 @@
 -- Reading so many of a format, as a loop does.
-use Rattle.std.proofs.Common.{◌≡◌, ℕ, suc, ◌-◌, ◌+◌, ◌≤◌, ◌<◌, List, [], ◌∷◌, ◌++◌, Ok, Err, refl, sym, ap, ◌∙◌, append_assoc, arith}
-use Rattle.std.proofs.lemmas.List.{append-nil}
+use Rattle.std.proofs.Common.{◌≡◌, ℕ, suc, ◌-◌, ◌+◌, ◌<◌, List, [], ◌∷◌, ◌++◌, Ok, Err, refl, sym, ap, ◌∙◌, append_assoc, arith}
 use Rattle.lnfs_xdr.specs.Format.{Format, Done, ◌>>=◌, times}
 use Rattle.lnfs_xdr.specs.Reading.{Stop, Read, after, read}
 
@@ -31,9 +30,3 @@ stops f front count i bytes s total lt first so_far =
     let one : read (times (count - i) f) bytes ≡ Err s =
     ap (λ (n : ℕ). read (times n f) bytes) k ∙ ap (λ r. after r (λ a t. read (times (count - (i + 1)) f >>= λ xs. Done (a ∷ xs)) t)) first in
     sym so_far ∙ ap (grown front) one
-
-pub is_done : {E A : Type 0} (f : Format E A) (front : List A) (count i : ℕ) (bytes : List ℕ) (total : Read E (List A)) → count ≤ i → grown front (read (times (count - i) f) bytes) ≡ total → total ≡ Ok (front, bytes)
-is_done f front count i bytes total le so_far =
-    let k : count - i ≡ 0 = omega arith in
-    let one : read (times (count - i) f) bytes ≡ Ok ([], bytes) = ap (λ (n : ℕ). read (times n f) bytes) k in
-    sym so_far ∙ ap (grown front) one ∙ ap (λ (xs : List _). Ok (xs, bytes)) (append-nil front)
