@@ -2,7 +2,7 @@
 //! (RFC 8881 section 16.2, RFC 7862).
 //!
 //! The arguments are in `lnfs_arguments`, written in `lnfs_requests`, and the results in
-//! `lnfs_results`. What the layers above use of them is named here.
+//! `lnfs_results`. They are named here again, so that who needs a COMPOUND whole names one crate.
 #![tactic(auto)]
 
 mod bound;

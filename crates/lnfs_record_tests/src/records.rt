@@ -32,6 +32,7 @@ const COMPOUNDS: &str = "
 EXCHANGE_ID | CALL SYS EXCHANGE 'c1' REST | EXCHANGED 0 1 SERVER
 EXCHANGE_ID with a flag that isn't one | CALL SYS EXCHANGE 'c1' 0x0000 0x80000000 0 0 | ACCEPTED 0 22 0 1 42 22 | 1 1 42 S 22
 minor version 1 | CALL SYS 0 1 1 42 | ACCEPTED 0 10021 0 0 | 1 0 0 X 10021
+minor version 1, and no count | CALL SYS 0 1 | ACCEPTED 0 10021 0 0 | 1 0 0 X 10021
 an operation of the protocol that isn't served | CALL SYS 0 2 1 68 | ACCEPTED 0 10004 0 1 68 10004 | 1 1 68 X 10004
 an operation that the protocol hasn't | CALL SYS 0 2 1 72 | ACCEPTED 0 10044 0 1 10044 10044 | 1 1 72 X 10044
 COMMIT without a session, and GETFH | CALL SYS 3 0x61626300 2 2 5 0 0 0 10 | ACCEPTED 0 10071 3 0x61626300 1 5 10071 | 1 1 5 S 10071
@@ -63,7 +64,7 @@ const PREFIXES: &str = "
 #[test]
 fn records(rt: HostRuntime) -> Result<(), Flaw> {
     check(&rt, rt.alloc(), CALLS, 14)?;
-    check(&rt, rt.alloc(), COMPOUNDS, 11)?;
+    check(&rt, rt.alloc(), COMPOUNDS, 12)?;
     check(&rt, rt.alloc(), HIGH_AND_LOW, 1)
 }
 
