@@ -6,7 +6,7 @@ use Rattle.lnfs_rpc.specs.Calls.{CallMessage, call_of}
 use Rattle.lnfs_arguments.specs.declared.types.Compound.{Compound}
 use Rattle.lnfs_xdr.specs.Message.{parse}
 use Rattle.lnfs_arguments.specs.Whole.{compound}
-use Rattle.lnfs_arguments.specs.Further.{Further, nothing_further}
+use Rattle.lnfs_arguments.specs.Further.{Further}
 use Rattle.lnfs_policy.specs.declared.rows.Parent.{Parent}
 use Rattle.lnfs_policy.specs.Policy.{Policy, parent_at}
 use Rattle.lnfs_gss3.specs.declared.numbers.TheConstants.{AUTH_BADCRED}
@@ -115,13 +115,9 @@ asked_of g m p class (Err (BadVersion xid)) = Refused xid Plain version
 asked_of g m p class (Err (BadProgram xid stat)) = Refused xid Plain (called stat)
 asked_of g m p class (Ok call) = asked_by g p call (who m p class call)
 
--- where further operations are read too
+-- operations of a further grammar are read too
 unfoldable pub request_with : Further → Signing → Policy → (class : ℕ) → List ℕ → Request
 request_with g m p class bytes = asked_of g m p class (call_of bytes)
-
--- with the operations of the table alone
-abbrev pub request_of : Signing → Policy → (class : ℕ) → List ℕ → Request
-request_of m p class bytes = request_with nothing_further m p class bytes
 
 abbrev pub level_by : Signing → Policy → (class : ℕ) → Result CallMessage CallError → Option ℕ
 level_by m p class (Err e) = None
