@@ -28,10 +28,10 @@ ghost use Rattle.lnfs_engine.specs.Stores.{opens_past};
 use crate::going::take_gone;
 use crate::place::{Place, Request, caller_of};
 use crate::reply::{Answer, Came, say};
-use lnfs_arguments::{Cinfo, Op, What};
+use lnfs_arguments::{Op, What};
 use lnfs_attrs::RawAttrs;
 use lnfs_files::room_for;
-use lnfs_nodes::{Created, create, link, remove, rename};
+use lnfs_nodes::{Created, cinfo, create, link, remove, rename};
 use lnfs_open::Opens;
 use lnfs_operations::Refusal;
 use lnfs_quota::Quota;
@@ -39,16 +39,6 @@ use lnfs_results::OpResult;
 use lnfs_tree::{Dropped, Info, Tree};
 use lnfs_xdr::XdrWriter;
 use std::alloc::AllocError;
-
-/// The change numbers of a directory, as they are told.
-fn cinfo(info: Info) -> Cinfo
-    ensures { result ≡ cinfo_of info }
-{
-    Cinfo {
-        before: info.before,
-        after: info.after,
-    }
-}
 
 /// What LINK tells.
 fn tell_link(told: Result<Info, Refusal>) -> Answer

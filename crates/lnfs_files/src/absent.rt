@@ -23,7 +23,7 @@ ghost use Rattle.lnfs_files.specs.Openings.{args_of, wanted_of, opened_of, IsAbs
 ghost use Rattle.lnfs_files.specs.Charges.{MayRise};
 
 use crate::charging::room_for;
-use crate::opened::{Opened, cinfo, no_space, state_id_of};
+use crate::opened::{Opened, state_id_of};
 use crate::present::Opener;
 use crate::references::node_key;
 use crate::sharing::check_makable;
@@ -32,7 +32,7 @@ use lnfs_arguments::Making;
 use lnfs_arguments::statuses::NFS4ERR_NOENT;
 use lnfs_calipso::Level;
 use lnfs_lists::Octets;
-use lnfs_nodes::{Held, kept_label, level_or, namespace};
+use lnfs_nodes::{Held, cinfo, kept_label, level_or, namespace, no_space};
 use lnfs_open::Opens;
 use lnfs_operations::Refusal;
 use lnfs_operations::numbers::FILE_MODE;

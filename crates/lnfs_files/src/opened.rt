@@ -1,8 +1,6 @@
 //! What an OPEN answers.
 ghost use Rattle.std.specs.Prelude.{◌≡◌, ◌==◌, ◌&&◌};
 ghost use Rattle.lnfs_world.specs.World.{Node, Open};
-ghost use Rattle.lnfs_operations.specs.declared.Gate.TheVariants.{Quota};
-ghost use Rattle.lnfs_arguments.specs.declared.statuses.TheConstants.{NFS4ERR_NOSPC};
 ghost use Rattle.lnfs_attrs.specs.declared.numbers.TheConstants.{SIZE};
 ghost use Rattle.lnfs_attrs.specs.Bitmaps.{BitmapFits};
 ghost use Rattle.lnfs_operations.specs.NewNames.{unchanged};
@@ -10,17 +8,13 @@ ghost use Rattle.lnfs_operations.specs.Shown.{bitmap_of};
 ghost use Rattle.lnfs_operations.specs.StateIds.{state_of};
 ghost use Rattle.lnfs_operations.specs.Open as operation;
 ghost use Rattle.lnfs_open.specs.Opening.{Names};
-ghost use Rattle.lnfs_nodes.specs.Trees.{refusal_of};
-ghost use Rattle.lnfs_nodes.specs.Told.{cinfo_of};
 
-use lnfs_arguments::statuses::NFS4ERR_NOSPC;
 use lnfs_arguments::{Cinfo, StateId};
 use lnfs_attrs::Bitmap;
 use lnfs_attrs::numbers::SIZE;
 use lnfs_nodes::{Held, handle_of};
 use lnfs_open::OpenRef;
-use lnfs_operations::{Gate, Refusal};
-use lnfs_tree::{Info, NodeId};
+use lnfs_tree::NodeId;
 
 /// A file that was opened.
 #[derive(Clone, Copy, Debug)]
@@ -46,16 +40,6 @@ pub fn state_id_of(id: OpenRef) -> StateId
     StateId {
         seqid: id.seq,
         other: handle_of(spelled),
-    }
-}
-
-/// The change numbers of a directory that was changed.
-pub fn cinfo(info: Info) -> Cinfo
-    ensures { result ≡ cinfo_of info }
-{
-    Cinfo {
-        before: info.before,
-        after: info.after,
     }
 }
 
@@ -94,14 +78,4 @@ pub fn cut_set(sized: bool) -> Bitmap
     }
     are_words(set);
     set
-}
-
-/// A refusal where a level has no room.
-pub fn no_space() -> Refusal
-    ensures { refusal_of result ≡ record { gate = Quota; status = NFS4ERR_NOSPC } }
-{
-    Refusal {
-        gate: Gate::Quota,
-        status: NFS4ERR_NOSPC,
-    }
 }

@@ -18,12 +18,12 @@ ghost use Rattle.lnfs_files.specs.Charges.{MayResize};
 
 use crate::asked::Opening;
 use crate::charging::byte_room;
-use crate::opened::{Opened, cut_set, no_space, state_id_of};
+use crate::opened::{Opened, cut_set, state_id_of};
 use crate::references::node_key;
 use crate::sharing::check_openable;
 use crate::wanted::Wanted;
 use lnfs_arguments::Cinfo;
-use lnfs_nodes::{Caller, Held};
+use lnfs_nodes::{Caller, Held, no_space};
 use lnfs_open::{ClientKey, OpenError, Opens};
 use lnfs_operations::Refusal;
 use lnfs_outside::Moment;

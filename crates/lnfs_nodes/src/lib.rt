@@ -20,6 +20,7 @@ mod removing;
 mod renaming;
 mod rights;
 mod showing;
+mod told;
 
 pub use accessed::set_accessed;
 pub use attributes::{get_attr, inner_denied};
@@ -42,3 +43,4 @@ pub use removing::{gone_bytes, remove};
 pub use renaming::rename;
 pub use rights::{AccessBits, access};
 pub use showing::{Viewer, is_whole, label_shown};
+pub use told::cinfo;
