@@ -1,6 +1,7 @@
 -- The two indexes of a directory, as the list of its names.
 use Rattle.std.proofs.Common.{◌≡◌, ℕ, ◌<◌, Bool, true, false, cond, List, [], ◌∷◌, Option, Some, None, refl, sym, ◌∙◌, ap, subst, arith}
 use Rattle.std.specs.Prelude.{◌&&◌, nat_lt}
+use Rattle.std.specs.Str.{bytes_eq}
 use Rattle.std.proofs.lemmas.Bool.Decides.{nat_tests}
 use Rattle.std.specs.Option.{option_map}
 use Rattle.std.specs.List.{AllByRecursion, find, filter, slice_get}
@@ -19,7 +20,7 @@ use Rattle.lnfs_world.proofs.Rows.{all_weaker, all_left}
 use Rattle.lnfs_world.proofs.Sorted.{all_inserted}
 use Rattle.lnfs_tree.specs.declared.node.Entry.{Entry}
 use Rattle.lnfs_tree.specs.declared.directory.Place.{Place}
-use Rattle.lnfs_tree.specs.Listed.{entry_of, listed, name_order, same_bytes, name_at, name_after, DistinctNames, AreKeyed, IsIndexed}
+use Rattle.lnfs_tree.specs.Listed.{entry_of, listed, name_order, name_at, name_after, DistinctNames, AreKeyed, IsIndexed}
 use Rattle.lnfs_tree.proofs.Lists.{none_found, find-inserted_new}
 use Rattle.lnfs_tree.proofs.NameBytes.{bytes_swap, bytes_tied, bytes_self, same_bytes_is}
 
@@ -57,12 +58,12 @@ names_rise [] sorted = tt
 names_rise (e ∷ es) sorted = (all_names (λ k. nat_cmp e.0 k ≡ Less) es (sorted_head nat_cmp e.0 (keys_of es) sorted), names_rise es (sorted_tail nat_cmp e.0 (keys_of es) sorted))
 
 -- ---- names differ
-distinct-inserted : (r : Entry) (xs : List Entry) → AllByRecursion (λ x. same_bytes r.name x.name ≡ false) xs → DistinctNames xs → DistinctNames (inserted name_order r xs)
+distinct-inserted : (r : Entry) (xs : List Entry) → AllByRecursion (λ x. bytes_eq x.name r.name ≡ false) xs → DistinctNames xs → DistinctNames (inserted name_order r xs)
 distinct-inserted r [] new distinct = (tt, tt)
 distinct-inserted r (x ∷ xs) new distinct = elim (name_order r x) as (λ o. DistinctNames (match_ordering o (r ∷ x ∷ xs) (r ∷ xs) (x ∷ inserted name_order r xs))) [
   | Less ↦ (new, distinct)
   | Equal ↦ (new.1, distinct.1)
-  | Greater ↦ (all_inserted name_order (λ y. same_bytes x.name y.name ≡ false) r xs (bytes_swap x.name r.name ∙ new.0) distinct.0, distinct-inserted r xs new.1 distinct.1)
+  | Greater ↦ (all_inserted name_order (λ y. bytes_eq y.name x.name ≡ false) r xs (bytes_swap x.name r.name ∙ new.0) distinct.0, distinct-inserted r xs new.1 distinct.1)
 ]
 
 -- ---- the first name above a cookie
@@ -87,7 +88,7 @@ is_equal Greater e = grind arith
 
 -- ---- by name: the keys' bytes are read by `items`
 module _ {K : Type 0} where
-  index-inserted : (k : K) (items : K → List ℕ) (v : Place) (es : List (K × Place)) (q : List ℕ) → lookup (λ x. is_eq (slice_cmp nat_cmp q (items x))) (insert_entry (λ x y. slice_cmp nat_cmp (items x) (items y)) es k v) ≡ cond (same_bytes q (items k)) (Some v) (lookup (λ x. is_eq (slice_cmp nat_cmp q (items x))) es)
+  index-inserted : (k : K) (items : K → List ℕ) (v : Place) (es : List (K × Place)) (q : List ℕ) → lookup (λ x. is_eq (slice_cmp nat_cmp q (items x))) (insert_entry (λ x y. slice_cmp nat_cmp (items x) (items y)) es k v) ≡ cond (bytes_eq (items k) q) (Some v) (lookup (λ x. is_eq (slice_cmp nat_cmp q (items x))) es)
   index-inserted k items v es q =
       rw same_bytes_is
       (lookup-inserted (λ x y. slice_cmp nat_cmp (items x) (items y)) (λ x. is_eq (slice_cmp nat_cmp q (items x))) k v
@@ -97,44 +98,44 @@ module _ {K : Type 0} where
       both : (x : K) → is_eq (slice_cmp nat_cmp q (items k)) ≡ true → is_eq (slice_cmp nat_cmp q (items x)) ≡ true → slice_cmp nat_cmp (items k) (items x) ≡ Equal
       both x a b = is_equal _ (grind (arith, same_bytes_is q (items k), same_bytes_is q (items x), bytes_tied q (items k), bytes_tied q (items x), bytes_self q, same_bytes_is q q))
 
-  pub index-removed : (items : K → List ℕ) (es now : List (K × Place)) (n q : List ℕ) → now ≡ remove_entry (λ x. is_eq (slice_cmp nat_cmp n (items x))) es → lookup (λ x. is_eq (slice_cmp nat_cmp n (items x))) now ≡ None → lookup (λ x. is_eq (slice_cmp nat_cmp q (items x))) now ≡ cond (same_bytes n q) None (lookup (λ x. is_eq (slice_cmp nat_cmp q (items x))) es)
-  index-removed items es now n q is none = at (same_bytes n q) refl
+  pub index-removed : (items : K → List ℕ) (es now : List (K × Place)) (n q : List ℕ) → now ≡ remove_entry (λ x. is_eq (slice_cmp nat_cmp n (items x))) es → lookup (λ x. is_eq (slice_cmp nat_cmp n (items x))) now ≡ None → lookup (λ x. is_eq (slice_cmp nat_cmp q (items x))) now ≡ cond (bytes_eq q n) None (lookup (λ x. is_eq (slice_cmp nat_cmp q (items x))) es)
+  index-removed items es now n q is none = at (bytes_eq q n) refl
     where
-      apart : same_bytes n q ≡ false → (x : K) → is_eq (slice_cmp nat_cmp n (items x)) ≡ true → is_eq (slice_cmp nat_cmp q (items x)) ≡ false
+      apart : bytes_eq q n ≡ false → (x : K) → is_eq (slice_cmp nat_cmp n (items x)) ≡ true → is_eq (slice_cmp nat_cmp q (items x)) ≡ false
       apart differ x a = grind (arith, same_bytes_is n (items x), same_bytes_is q (items x), bytes_tied n (items x), bytes_tied q (items x), bytes_self q, bytes_self n)
 
-      at : (b : Bool) → same_bytes n q ≡ b → lookup (λ x. is_eq (slice_cmp nat_cmp q (items x))) now ≡ cond b None (lookup (λ x. is_eq (slice_cmp nat_cmp q (items x))) es)
+      at : (b : Bool) → bytes_eq q n ≡ b → lookup (λ x. is_eq (slice_cmp nat_cmp q (items x))) now ≡ cond b None (lookup (λ x. is_eq (slice_cmp nat_cmp q (items x))) es)
       at true same = subst (λ (y : List ℕ). lookup (λ x. is_eq (slice_cmp nat_cmp y (items x))) now ≡ None) (bytes_tied n q same) none
       at false differ = ap (λ (y : List (K × Place)). lookup (λ x. is_eq (slice_cmp nat_cmp q (items x))) y) is ∙ lookup-removed (λ x. is_eq (slice_cmp nat_cmp n (items x))) (λ x. is_eq (slice_cmp nat_cmp q (items x))) (apart differ) es
 
 -- ---- the index goes on
-pub indexed-inserted : (index now : List ℕ → Option Place) (c : ℕ) (named : Entry) (names : List Entry) → IsIndexed index names → AllByRecursion (λ x. x.cookie < c) names → name_at names named.name ≡ None → ((q : List ℕ) → now q ≡ cond (same_bytes q named.name) (Some (record { cookie = c; node = named.node })) (index q)) → IsIndexed now (inserted name_order (entry_of (c, named)) names)
+pub indexed-inserted : (index now : List ℕ → Option Place) (c : ℕ) (named : Entry) (names : List Entry) → IsIndexed index names → AllByRecursion (λ x. x.cookie < c) names → name_at names named.name ≡ None → ((q : List ℕ) → now q ≡ cond (bytes_eq named.name q) (Some (record { cookie = c; node = named.node })) (index q)) → IsIndexed now (inserted name_order (entry_of (c, named)) names)
 indexed-inserted index now c named names was above absent is = record {
-  told = λ q. is q ∙ grind (arith, was.told q, find-inserted_new name_order (λ x. same_bytes q x.name) (entry_of (c, named)) names (all_weaker _ _ (λ x lt. untied x lt) names above), fresh q);
+  told = λ q. is q ∙ grind (arith, was.told q, find-inserted_new name_order (λ x. bytes_eq x.name q) (entry_of (c, named)) names (all_weaker _ _ (λ x lt. untied x lt) names above), fresh q);
   distinct = distinct-inserted (entry_of (c, named)) names (none_found _ names absent) was.distinct;
 }
   where
     untied : (x : Entry) → x.cookie < c → is_eq (nat_cmp c x.cookie) ≡ false
     untied x lt = grind (arith, nat_tests)
 
-    fresh : (q : List ℕ) → same_bytes q named.name ≡ true → name_at names q ≡ None
+    fresh : (q : List ℕ) → bytes_eq named.name q ≡ true → name_at names q ≡ None
     fresh q same = subst (λ (y : List ℕ). name_at names y ≡ None) (sym (bytes_tied q named.name same)) absent
 
 pub indexed-of : {K : Type 0} (items : K → List ℕ) (es : List (K × Place)) (names now : List Entry) → now ≡ names → IsIndexed (λ q. lookup (λ k. is_eq (slice_cmp nat_cmp q (items k))) es) names → IsIndexed (λ q. lookup (λ k. is_eq (slice_cmp nat_cmp q (items k))) es) now
 indexed-of items es names now is was = subst (λ (x : List Entry). IsIndexed (λ q. lookup (λ k. is_eq (slice_cmp nat_cmp q (items k))) es) x) (sym is) was
 
 -- the index by name after a name went in
-pub index-put : {K : Type 0} (k : K) (items : K → List ℕ) (n : List ℕ) (v : Place) (es now : List (K × Place)) (q : List ℕ) → items k ≡ n → now ≡ insert_entry (λ x y. slice_cmp nat_cmp (items x) (items y)) es k v → lookup (λ x. is_eq (slice_cmp nat_cmp q (items x))) now ≡ cond (same_bytes q n) (Some v) (lookup (λ x. is_eq (slice_cmp nat_cmp q (items x))) es)
+pub index-put : {K : Type 0} (k : K) (items : K → List ℕ) (n : List ℕ) (v : Place) (es now : List (K × Place)) (q : List ℕ) → items k ≡ n → now ≡ insert_entry (λ x y. slice_cmp nat_cmp (items x) (items y)) es k v → lookup (λ x. is_eq (slice_cmp nat_cmp q (items x))) now ≡ cond (bytes_eq n q) (Some v) (lookup (λ x. is_eq (slice_cmp nat_cmp q (items x))) es)
 index-put {K} k items n v es now q key put =
     ap (λ (xs : List (K × Place)). lookup (λ x. is_eq (slice_cmp nat_cmp q (items x))) xs) put
     ∙ index-inserted k items v es q
-    ∙ ap (λ (m : List ℕ). cond (same_bytes q m) (Some v) (lookup (λ x. is_eq (slice_cmp nat_cmp q (items x))) es)) key
+    ∙ ap (λ (m : List ℕ). cond (bytes_eq m q) (Some v) (lookup (λ x. is_eq (slice_cmp nat_cmp q (items x))) es)) key
 
 -- and after it was taken out again
 pub index-undone : {K : Type 0} (k : K) (items : K → List ℕ) (n : List ℕ) (v : Place) (es now last : List (K × Place)) (q : List ℕ) → items k ≡ n → lookup (λ x. is_eq (slice_cmp nat_cmp n (items x))) es ≡ None → now ≡ insert_entry (λ x y. slice_cmp nat_cmp (items x) (items y)) es k v → last ≡ remove_entry (λ x. is_eq (slice_cmp nat_cmp n (items x))) now → lookup (λ x. is_eq (slice_cmp nat_cmp n (items x))) last ≡ None → lookup (λ x. is_eq (slice_cmp nat_cmp q (items x))) last ≡ lookup (λ x. is_eq (slice_cmp nat_cmp q (items x))) es
-index-undone {K} k items n v es now last q key absent put out none = at (same_bytes n q) refl
+index-undone {K} k items n v es now last q key absent put out none = at (bytes_eq q n) refl
   where
-    at : (b : Bool) → same_bytes n q ≡ b → lookup (λ x. is_eq (slice_cmp nat_cmp q (items x))) last ≡ lookup (λ x. is_eq (slice_cmp nat_cmp q (items x))) es
+    at : (b : Bool) → bytes_eq q n ≡ b → lookup (λ x. is_eq (slice_cmp nat_cmp q (items x))) last ≡ lookup (λ x. is_eq (slice_cmp nat_cmp q (items x))) es
     at true same = index-removed items now last n q out none ∙ ap (λ (b : Bool). cond b None (lookup (λ x. is_eq (slice_cmp nat_cmp q (items x))) now)) same ∙ sym absent ∙ ap (λ (m : List ℕ). lookup (λ x. is_eq (slice_cmp nat_cmp m (items x))) es) (bytes_tied n q same)
     at false differ = index-removed items now last n q out none ∙ ap (λ (b : Bool). cond b None (lookup (λ x. is_eq (slice_cmp nat_cmp q (items x))) now)) differ ∙ index-put k items n v es now q key put ∙ ap (λ (b : Bool). cond b (Some v) (lookup (λ x. is_eq (slice_cmp nat_cmp q (items x))) es)) (bytes_swap q n ∙ differ)
 
