@@ -6,7 +6,7 @@ use Rattle.lnfs_xdr.specs.AuthSys.{AuthSys, auth_sys}
 use Rattle.lnfs_xdr.specs.declared.limits.TheConstants.{MACHINE_LIMIT, GROUP_LIMIT}
 use Rattle.lnfs_xdr.proofs.Spelled.{Spelled, word_spelled, long_spelled, flag_spelled, count_spelled, fixed_spelled, opaque_spelled, done_spelled, ◌▸◌, last, grouped, on_true, on_false, array_spelled}
 use Rattle.lnfs_attrs.specs.Parsing.{Args}
-use Rattle.lnfs_attrs.specs.Bitmaps.{IsWord, words_text}
+use Rattle.lnfs_attrs.specs.Bitmaps.{IsWord}
 use Rattle.lnfs_attrs.proofs.Words.{bitmap_spelled}
 use Rattle.lnfs_arguments.specs.declared.types.Sequence.{Sequence}
 use Rattle.lnfs_arguments.specs.declared.types.What.{What}
@@ -24,7 +24,7 @@ use Rattle.lnfs_arguments.specs.declared.types.Op.TheVariants as ops
 use Rattle.lnfs_arguments.specs.Numbers.{op_access, op_close, op_commit, op_create, op_getattr, op_getfh, op_link, op_lookup, op_lookupp, op_nverify, op_open, op_putfh, op_putrootfh, op_read, op_readdir, op_readlink, op_remove, op_rename, op_restorefh, op_savefh, op_setattr, op_verify, op_write, op_exchange_id, op_create_session, op_destroy_session, op_sequence, op_destroy_clientid, op_reclaim_complete}
 use Rattle.lnfs_arguments.specs.Grammar.{name, access, what, create, getattr, link, lookup, remove, nverify, verify, setattr, putfh, readdir, rename, close, commit, reading, writing, created, making, claim, opening, implementation, who_made, exchange_id, callback, create_session, making_session, destroy_session, sequence, sequencing, destroy_clientid, reclaim_complete, table, unserved, entry, arguments}
 use Rattle.lnfs_arguments.specs.declared.numbers.TheConstants.{DATA_LIMIT}
-use Rattle.lnfs_requests.specs.Texts.{what_text, making_text, claim_text, implementation_text, callback_text, create_session_text, sequence_text, op_text}
+use Rattle.lnfs_requests.specs.Texts.{what_text, making_text, claim_text, implementation_text, sys_text, callback_text, create_session_text, sequence_text, op_text}
 use Rattle.lnfs_requests.specs.Fits.{WhatFits, MakingFits, ClaimFits, ImplementationFits, CallbackFits, CreateSessionFits, SequenceFits, OpFits}
 use Rattle.lnfs_arguments.proofs.Shared.{tag, attrs_spelled, state_id_spelled, channel_spelled}
 
@@ -58,16 +58,16 @@ unfolding who_made implementation implementation_text
 who_made_spelled None fits = last (count_spelled 1 0 (omega arith) (omega arith)) (on_true (done_spelled None))
 who_made_spelled (Some i) fits = grouped (count_spelled 1 1 (omega arith) (omega arith) ▸ on_false (last (owner_spelled i.domain fits.0 ▸ owner_spelled i.name fits.1 ▸ long_spelled _ fits.2 ▸ last (word_spelled _ fits.3) (done_spelled i)) (done_spelled (Some i)))) (simp append_assoc)
 
-auth_sys_spelled : (body : AuthSys) → IsWord body.stamp → length body.machine ≤ MACHINE_LIMIT → IsWord body.uid → IsWord body.gid → length body.gids ≤ GROUP_LIMIT → All IsWord body.gids
-    → Spelled {E = ℕ × ℕ} auth_sys body (word body.stamp ++ (opaque body.machine ++ (word body.uid ++ (word body.gid ++ words_text body.gids))))
-unfolding auth_sys
-auth_sys_spelled body stamp machine uid gid few gids = word_spelled _ stamp ▸ opaque_spelled MACHINE_LIMIT body.machine machine (omega (arith, machine)) ▸ word_spelled _ uid ▸ word_spelled _ gid
-    ▸ last (array_spelled GROUP_LIMIT Word word IsWord word_spelled body.gids few (omega arith) gids) (done_spelled body)
+pub auth_sys_spelled : {E : Type 0} (body : AuthSys) → IsWord body.stamp → length body.machine ≤ MACHINE_LIMIT → IsWord body.uid → IsWord body.gid → length body.gids ≤ GROUP_LIMIT → All IsWord body.gids
+    → Spelled {E = E} auth_sys body (sys_text body)
+unfolding auth_sys sys_text
+auth_sys_spelled body stamp machine uid gid few gids = grouped (word_spelled _ stamp ▸ opaque_spelled MACHINE_LIMIT body.machine machine (omega (arith, machine)) ▸ word_spelled _ uid ▸ word_spelled _ gid
+    ▸ last (array_spelled GROUP_LIMIT Word word IsWord (λ n lt. word_spelled n lt) body.gids few (omega arith) gids) (done_spelled body)) (simp append_assoc)
 
 callback_spelled : (x : Callback) → CallbackFits x → Spelled callback x (callback_text x)
 unfolding callback callback_text
 callback_spelled Nothing fits = last (tag 0 (omega arith)) (on_true (done_spelled Nothing))
-callback_spelled (Sys stamp machine uid gid gids) fits = grouped (tag 1 (omega arith) ▸ on_false (on_true (last (auth_sys_spelled (record { stamp = stamp; machine = machine; uid = uid; gid = gid; gids = gids }) fits.0 fits.1 fits.2 fits.3 fits.4 fits.5) (done_spelled (Sys stamp machine uid gid gids))))) (simp append_assoc)
+callback_spelled (Sys stamp machine uid gid gids) fits = tag 1 (omega arith) ▸ on_false (on_true (last (auth_sys_spelled (record { stamp = stamp; machine = machine; uid = uid; gid = gid; gids = gids }) fits.0 fits.1 fits.2 fits.3 fits.4 fits.5) (done_spelled (Sys stamp machine uid gid gids))))
 callback_spelled (Gss service server client) fits = grouped (tag 6 (omega arith) ▸ on_false (on_false (on_true (word_spelled _ fits.0 ▸ owner_spelled server fits.1 ▸ last (owner_spelled client fits.2) (done_spelled (Gss service server client)))))) (simp append_assoc)
 
 create_session_spelled : (x : CreateSession) → CreateSessionFits x → Spelled create_session x (create_session_text x)

@@ -1,6 +1,7 @@
--- The canonical spelling of arguments: one line an operation.
+-- The canonical spelling of arguments: one line an operation. That of the body of an AUTH_SYS credential (RFC 5531 appendix A) is among them, as a callback has one.
 use Rattle.std.specs.Prelude.{ℕ, List, [], ◌++◌, length, Option, Some, None}
 use Rattle.std.specs.List.{flat_map}
+use Rattle.lnfs_xdr.specs.AuthSys.{AuthSys}
 use Rattle.lnfs_xdr.specs.Canon.{word, long, flag, padded, opaque}
 use Rattle.lnfs_attrs.specs.Bitmaps.{bitmap_text, words_text}
 use Rattle.lnfs_arguments.specs.declared.types.Sequence.{Sequence}
@@ -38,9 +39,12 @@ unfoldable pub implementation_text : Option Implementation → List ℕ
 implementation_text None = word 0
 implementation_text (Some i) = word 1 ++ opaque i.domain ++ opaque i.name ++ long i.secs ++ word i.nanos
 
+unfoldable pub sys_text : AuthSys → List ℕ
+sys_text s = word s.stamp ++ opaque s.machine ++ word s.uid ++ word s.gid ++ words_text s.gids
+
 unfoldable pub callback_text : Callback → List ℕ
 callback_text Nothing = word 0
-callback_text (Sys stamp machine uid gid gids) = word 1 ++ word stamp ++ opaque machine ++ word uid ++ word gid ++ words_text gids
+callback_text (Sys stamp machine uid gid gids) = word 1 ++ sys_text (record { stamp = stamp; machine = machine; uid = uid; gid = gid; gids = gids })
 callback_text (Gss service server client) = word 6 ++ word service ++ opaque server ++ opaque client
 
 unfoldable pub create_session_text : CreateSession → List ℕ

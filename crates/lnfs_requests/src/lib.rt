@@ -7,4 +7,5 @@ mod write_sessions;
 mod write_table;
 mod writing;
 
+pub use write_sessions::put_sys;
 pub use writing::write_compound;

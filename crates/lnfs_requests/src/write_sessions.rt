@@ -2,8 +2,7 @@
 ghost use Rattle.std.specs.Prelude.{◌≡◌, ◌++◌, ◌<◌, ◌≤◌, ◌^◌, length, All, OnOk};
 ghost use Rattle.std.specs.List.{flat_map};
 ghost use Rattle.lnfs_xdr.specs.Canon.{word};
-ghost use Rattle.lnfs_attrs.specs.Bitmaps.{words_text};
-ghost use Rattle.lnfs_requests.specs.Texts.{implementation_text, callback_text, create_session_text, sequence_text, op_text};
+ghost use Rattle.lnfs_requests.specs.Texts.{implementation_text, sys_text, callback_text, create_session_text, sequence_text, op_text};
 ghost use Rattle.lnfs_requests.specs.Fits.{ImplementationFits, CallbackFits, CreateSessionFits, OpFits};
 
 use lnfs_arguments::numbers::{
@@ -56,6 +55,27 @@ pub fn put_exchange_id(
     put_implementation(out, implementation)
 }
 
+/// Appends the body of an AUTH_SYS credential (RFC 5531 appendix A). Fails only for want of memory.
+#[tactic(auto, unfolding(crate::specs::Texts::sys_text))]
+pub fn put_sys(
+    out: &mut XdrWriter,
+    stamp: u32,
+    machine: &[u8],
+    uid: u32,
+    gid: u32,
+    gids: &[u32],
+) -> Result<(), AllocError>
+    requires machine { length machine.now < 2 ^ 32 }
+    requires gids { length gids.now < 2 ^ 32 }
+    ensures { OnOk result (out.new ≡ out.old ++ sys_text (record { stamp = stamp; machine = machine.now; uid = uid; gid = gid; gids = gids.now })) }
+{
+    out.u32(stamp)?;
+    out.opaque(machine)?;
+    out.u32(uid)?;
+    out.u32(gid)?;
+    put_words(out, gids)
+}
+
 #[tactic(auto, unfolding(crate::specs::Texts::callback_text))]
 fn put_callback(out: &mut XdrWriter, callback: &Callback) -> Result<(), AllocError>
     requires { CallbackFits callback.now }
@@ -71,11 +91,7 @@ fn put_callback(out: &mut XdrWriter, callback: &Callback) -> Result<(), AllocErr
             gids,
         } => {
             out.u32(AUTH_SYS)?;
-            out.u32(*stamp)?;
-            out.opaque(machine.as_slice())?;
-            out.u32(*uid)?;
-            out.u32(*gid)?;
-            put_words(out, gids.as_slice())
+            put_sys(out, *stamp, machine.as_slice(), *uid, *gid, gids.as_slice())
         }
         Callback::Gss {
             service,

@@ -1,14 +1,14 @@
 -- What is written as a call is in the grammar of calls.
-use Rattle.std.proofs.Common.{◌≡◌, ℕ, ◌^◌, ◌<◌, ◌≤◌, ◌==◌, List, [], ◌++◌, length, refl, sym, append_assoc, arith, codes, All, Result, Ok, Err, IfOk, subst}
+use Rattle.std.proofs.Common.{◌≡◌, ℕ, ◌^◌, ◌<◌, ◌≤◌, ◌==◌, List, [], ◌++◌, length, refl, sym, append_assoc, arith, codes, Result, Ok, Err, IfOk, subst}
 use Rattle.std.specs.Global.{Vec}
 use Rattle.std.proofs.lemmas.List.Elements.{All-nil}
 use Rattle.lnfs_xdr.specs.AuthSys.{AuthSys, auth_sys}
 use Rattle.lnfs_xdr.specs.Canon.{word}
-use Rattle.lnfs_xdr.specs.Format.{Spells, Word}
+use Rattle.lnfs_xdr.specs.Format.{Spells}
 use Rattle.lnfs_xdr.specs.Message.{Tells}
 use Rattle.lnfs_attrs.specs.Bitmaps.{IsWord}
 use Rattle.lnfs_rpc.specs.declared.authsys.Sys.{Sys}
-use Rattle.lnfs_xdr.proofs.Spelled.{Spelled, word_spelled, among_spelled, opaque_spelled, array_spelled, done_spelled, ◌▸◌, last, grouped}
+use Rattle.lnfs_xdr.proofs.Spelled.{Spelled, word_spelled, among_spelled, opaque_spelled, done_spelled, ◌▸◌, last}
 use Rattle.lnfs_rpc.specs.Numbers.{a_call, rpc_version, nfs_program, nfs_version, last_procedure, body_limit}
 use Rattle.lnfs_rpc.specs.Calls.{OpaqueAuth, Target, opening, auth, target}
 use Rattle.lnfs_rpc.specs.CallGrammar.{IsCall}
@@ -16,7 +16,9 @@ use Rattle.lnfs_rpc.specs.Sys.{authsys_parms}
 use Rattle.lnfs_arguments.specs.declared.types.Compound.{Compound}
 use Rattle.lnfs_arguments.specs.Further.{Further, IsLawful}
 use Rattle.lnfs_arguments.specs.Whole.{compound}
-use Rattle.lnfs_traffic.specs.CallTexts.{sys_text, auth_text, call_text, header_text, IsRequest}
+use Rattle.lnfs_requests.specs.Texts.{sys_text}
+use Rattle.lnfs_requests.proofs.Texts.{auth_sys_spelled}
+use Rattle.lnfs_traffic.specs.CallTexts.{auth_text, call_text, header_text, IsRequest}
 use Rattle.lnfs_traffic.specs.Generated.{credential, no_verifier}
 use Rattle.lnfs_traffic.proofs.Lengths.{sys_length}
 
@@ -40,11 +42,6 @@ target_spelled credential flavor short =
 abbrev user_of : AuthSys → Sys
 user_of s = record { uid = s.uid; gid = s.gid }
 
-body_spelled : (s : AuthSys) → s.stamp < 2 ^ 32 → length s.machine ≤ 255 → s.uid < 2 ^ 32 → s.gid < 2 ^ 32 → length s.gids ≤ 16 → All IsWord s.gids → Spelled {E = ⊥} auth_sys s (sys_text s)
-unfolding auth_sys sys_text
-body_spelled s stamp machine uid gid few gids =
-    grouped (word_spelled s.stamp stamp ▸ opaque_spelled 255 s.machine machine (omega (arith, machine)) ▸ word_spelled s.uid uid ▸ word_spelled s.gid gid ▸ last (array_spelled 16 Word word IsWord (λ n lt. word_spelled n lt) s.gids few (omega arith) gids) (done_spelled s)) (simp append_assoc)
-
 sys_spelled : (s : AuthSys) → Spelled {E = ⊥} auth_sys s (sys_text s) → Spelled authsys_parms (user_of s) (sys_text s)
 unfolding authsys_parms
 sys_spelled s p = last p (done_spelled (user_of s))
@@ -52,7 +49,7 @@ sys_spelled s p = last p (done_spelled (user_of s))
 pub guest_spelled : (uid : ℕ) → uid < 2 ^ 32 → Spells authsys_parms (record { uid = uid; gid = 0 }) (credential uid).body
 guest_spelled uid lt =
     let s : AuthSys = record { stamp = 0; machine = codes "gen"; uid = uid; gid = 0; gids = [] } in
-    (sys_spelled s (body_spelled s (omega arith) (omega arith) lt (omega arith) (omega arith) (All-nil IsWord))).is
+    (sys_spelled s (auth_sys_spelled s (omega arith) (omega arith) lt (omega arith) (omega arith) (All-nil IsWord))).is
 
 pub is_call : (xid : ℕ) (credential verifier : OpaqueAuth) (arguments : List ℕ) → xid < 2 ^ 32 → credential.flavor < 2 ^ 32 → length credential.body ≤ body_limit → verifier.flavor < 2 ^ 32 → length verifier.body ≤ body_limit
     → IsCall (record { xid = xid; procedure = last_procedure; credential = credential; verifier = verifier; header = header_text xid last_procedure credential; arguments = arguments }) (call_text xid last_procedure credential verifier arguments)

@@ -1,8 +1,6 @@
--- The spelling of a call with zero pad bytes (RFC 5531 section 9), and of the body of an AUTH_SYS credential (appendix A).
+-- The spelling of a call with zero pad bytes (RFC 5531 section 9).
 use Rattle.std.specs.Prelude.{◌≡◌, ℕ, List, ◌++◌}
-use Rattle.lnfs_xdr.specs.AuthSys.{AuthSys}
 use Rattle.lnfs_xdr.specs.Canon.{word, opaque}
-use Rattle.lnfs_attrs.specs.Bitmaps.{words_text}
 use Rattle.lnfs_xdr.specs.Format.{Spells}
 use Rattle.lnfs_xdr.specs.Message.{Tells}
 use Rattle.lnfs_rpc.specs.declared.authsys.Sys.{Sys}
@@ -14,9 +12,6 @@ use Rattle.lnfs_arguments.specs.declared.numbers.TheConstants.{AUTH_SYS}
 use Rattle.lnfs_arguments.specs.declared.types.Compound.{Compound}
 use Rattle.lnfs_arguments.specs.Further.{Further, IsLawful}
 use Rattle.lnfs_arguments.specs.Whole.{compound}
-
-unfoldable pub sys_text : AuthSys → List ℕ
-sys_text s = word s.stamp ++ opaque s.machine ++ word s.uid ++ word s.gid ++ words_text s.gids
 
 unfoldable pub auth_text : OpaqueAuth → List ℕ
 auth_text a = word a.flavor ++ opaque a.body

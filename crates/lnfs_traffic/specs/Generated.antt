@@ -14,7 +14,7 @@ use Rattle.lnfs_arguments.specs.declared.types.Claim.TheVariants.{Name}
 use Rattle.lnfs_arguments.specs.declared.types.Compound.{Compound}
 use Rattle.lnfs_arguments.specs.declared.types.Op.{Op}
 use Rattle.lnfs_arguments.specs.declared.types.Op.TheVariants as ops
-use Rattle.lnfs_requests.specs.Texts.{compound_text}
+use Rattle.lnfs_requests.specs.Texts.{sys_text, compound_text}
 use Rattle.lnfs_policy.specs.declared.mode.Mode.{Mode}
 use Rattle.lnfs_policy.specs.declared.mode.Mode.TheVariants.{Enforcing, Limited}
 use Rattle.lnfs_policy.specs.declared.rows.Guest.{Guest}
@@ -22,7 +22,7 @@ use Rattle.lnfs_policy.specs.Policy.{Policy, guest_level}
 use Rattle.lnfs_traffic.specs.declared.guests.Row.{Row}
 use Rattle.lnfs_traffic.specs.declared.turns.Past.{Past}
 use Rattle.lnfs_traffic.specs.declared.turns.Turn.{Turn}
-use Rattle.lnfs_traffic.specs.CallTexts.{sys_text, call_text}
+use Rattle.lnfs_traffic.specs.CallTexts.{call_text}
 
 -- ---- numbers
 

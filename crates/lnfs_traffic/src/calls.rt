@@ -1,10 +1,11 @@
 //! Writing calls by AUTH_SYS (RFC 5531 section 9 and appendix A).
 ghost use Rattle.std.specs.Prelude.{◌≡◌, ◌<◌, ◌++◌, ◌^◌, [], IfOk, OnOk, length, codes};
 ghost use Rattle.lnfs_rpc.specs.Numbers.{last_procedure};
-ghost use Rattle.lnfs_traffic.specs.CallTexts.{sys_text, auth_text, call_text};
+ghost use Rattle.lnfs_traffic.specs.CallTexts.{auth_text, call_text};
 ghost use Rattle.lnfs_traffic.specs.Generated.{credential, no_verifier};
 
 use lnfs_arguments::numbers::{AUTH_NONE, AUTH_SYS};
+use lnfs_requests::put_sys;
 use lnfs_xdr::XdrWriter;
 use std::alloc::{AllocError, Global};
 
@@ -22,16 +23,11 @@ const PROC_COMPOUND: u32 = 1;
 const MACHINE: &[u8] = b"gen";
 
 /// The body of the credential of a user.
-#[tactic(auto, unfolding(crate::specs::CallTexts::sys_text))]
 fn sys_body(alloc: Global, uid: u32) -> Result<Vec<u8>, AllocError>
     ensures { IfOk result (λ body. body.items ≡ (credential uid).body) }
 {
     let mut out = XdrWriter::new(alloc);
-    out.u32(0)?;
-    out.opaque(MACHINE)?;
-    out.u32(uid)?;
-    out.u32(0)?;
-    out.u32(0)?;
+    put_sys(&mut out, 0, MACHINE, uid, 0, &[])?;
     Ok(out.into_bytes())
 }
 
