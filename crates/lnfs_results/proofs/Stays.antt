@@ -1,6 +1,6 @@
 -- No result leaves its format: what isn't in the grammar is refused.
-use Rattle.std.proofs.Common.{◌≡◌, ℕ, zero, suc, cond, eqb, Bool, true, false, List, [], ◌∷◌, Err, Some, None, refl, inl, inr}
-use Rattle.std.specs.Prelude.{MatchBool}
+use Rattle.std.proofs.Common.{◌≡◌, ℕ, zero, suc, eqb, Bool, true, false, List, [], ◌∷◌, Err, Some, None, refl, inl, inr}
+use Rattle.std.specs.Prelude.{MatchBool, ◌||◌}
 use Rattle.lnfs_xdr.specs.Format.{Format, Word, Long, Boolean, Count, Among, Opaque, Fixed, Raw, Outside, Done, If, Then, Linked, Leaving, times, optional}
 use Rattle.lnfs_xdr.specs.Reading.{Leaves, read}
 use Rattle.lnfs_xdr.proofs.Fields.{IsBytes}
@@ -8,10 +8,11 @@ use Rattle.lnfs_xdr.proofs.Laws.{leaves_at}
 use Rattle.lnfs_attrs.specs.Parsing.{Args}
 use Rattle.lnfs_attrs.specs.Bitmaps.{so_many_words, bitmap}
 use Rattle.lnfs_arguments.specs.Shared.{attrs, state_id, cinfo, channel}
+use Rattle.lnfs_arguments.specs.Further.{listed}
 use Rattle.lnfs_arguments.specs.Numbers.{op_setattr}
 use Rattle.lnfs_results.specs.declared.types.OpResult.{OpResult}
 use Rattle.lnfs_results.specs.declared.types.OpResult.TheVariants.{Failed}
-use Rattle.lnfs_results.specs.Grammar.{access, create, getattr, getfh, link, remove, rename, entry, readdir, readlink, close, commit, opening, reading, writing, exchange_id, create_session, sequence, table, is_in, is_served, row, fields, setattr, served, unserved, op_result, all_results}
+use Rattle.lnfs_results.specs.Grammar.{access, create, getattr, getfh, link, remove, rename, entry, readdir, readlink, close, commit, opening, reading, writing, exchange_id, create_session, sequence, table, is_served, row, fields, setattr, served, unserved, op_result, all_results}
 
 abbrev pub Stays : {E A : Type 0} → Format E A → Type 0
 Stays Word = Unit {0}
@@ -91,13 +92,13 @@ abbrev AllStay : List (ℕ × Args OpResult) → Type 0
 AllStay [] = Unit {0}
 AllStay ((n, f) ∷ more) = Stays f × AllStay more
 
-here_or_later : (b : Bool) (f g : Args OpResult) (later : Bool) → Stays f → (later ≡ true → Stays g) → cond b true later ≡ true → Stays (If b f g)
+here_or_later : (b : Bool) (f g : Args OpResult) (later : Bool) → Stays f → (later ≡ true → Stays g) → (b || later) ≡ true → Stays (If b f g)
 here_or_later true f g later s t e = s
 here_or_later false f g later s t e = t e
 
-row_stays : (rows : List (ℕ × Args OpResult)) (number : ℕ) → AllStay rows → is_in rows number ≡ true → Stays (row rows number)
+row_stays : (rows : List (ℕ × Args OpResult)) (number : ℕ) → AllStay rows → listed rows number ≡ true → Stays (row rows number)
 row_stays [] number all e = absurd cc
-row_stays ((n, f) ∷ more) number all e = here_or_later (eqb number n) f (row more number) (is_in more number) all.0 (row_stays more number all.1) e
+row_stays ((n, f) ∷ more) number all e = here_or_later (eqb number n) f (row more number) (listed more number) all.0 (row_stays more number all.1) e
 
 table_stays : AllStay table
 unfolding access create getattr getfh link remove rename readdir readlink close commit opening reading writing exchange_id create_session sequence
@@ -107,9 +108,9 @@ setattr_stays : Stays setattr
 unfolding setattr
 setattr_stays = (tt, λ status. (bitmap_stays, λ set. tt))
 
-served_stays : (number : ℕ) → is_in table number ≡ true → Stays (served number)
+served_stays : (number : ℕ) → listed table number ≡ true → Stays (served number)
 unfolding served fields
-served_stays number listed = (tt, λ status. if_stays (row table number) (Done (Failed number status)) (eqb status 0) (λ good. row_stays table number table_stays listed) (λ bad. tt))
+served_stays number there = (tt, λ status. if_stays (row table number) (Done (Failed number status)) (eqb status 0) (λ good. row_stays table number table_stays there) (λ bad. tt))
 
 unserved_stays : (number : ℕ) → Stays (unserved number)
 unfolding unserved
@@ -117,7 +118,7 @@ unserved_stays number = (tt, λ status. tt)
 
 known_stays : (number : ℕ) → Stays (If (is_served number) (served number) (unserved number))
 unfolding is_served
-known_stays number = if_stays (served number) (unserved number) (is_in table number) (served_stays number) (λ unlisted. unserved_stays number)
+known_stays number = if_stays (served number) (unserved number) (listed table number) (served_stays number) (λ unlisted. unserved_stays number)
 
 result_stays : Stays op_result
 unfolding op_result

@@ -13,12 +13,13 @@ use Rattle.lnfs_attrs.specs.Parsing.{Args}
 use Rattle.lnfs_attrs.specs.Bitmaps.{bitmap_text}
 use Rattle.lnfs_attrs.specs.declared.bitmap.Bitmap.{Bitmap}
 use Rattle.lnfs_attrs.proofs.Words.{bitmap_spelled}
+use Rattle.lnfs_arguments.specs.Further.{listed}
 use Rattle.lnfs_arguments.specs.Numbers.{op_access, op_close, op_commit, op_create, op_getattr, op_getfh, op_link, op_lookup, op_lookupp, op_nverify, op_open, op_putfh, op_putrootfh, op_read, op_readdir, op_readlink, op_remove, op_rename, op_restorefh, op_savefh, op_setattr, op_verify, op_write, op_exchange_id, op_create_session, op_destroy_session, op_sequence, op_destroy_clientid, op_reclaim_complete}
 use Rattle.lnfs_arguments.proofs.Shared.{tag, attrs_spelled, state_id_spelled, cinfo_spelled, channel_spelled}
 use Rattle.lnfs_results.specs.declared.types.DirEntry.{DirEntry}
 use Rattle.lnfs_results.specs.declared.types.OpResult.{OpResult}
 use Rattle.lnfs_results.specs.declared.types.OpResult.TheVariants as results
-use Rattle.lnfs_results.specs.Grammar.{longest, octets, access, create, getattr, getfh, link, remove, rename, entry, readdir, readlink, close, commit, opening, reading, writing, exchange_id, create_session, sequence, table, is_in, is_served, row, fields, setattr, served, unserved, op_result}
+use Rattle.lnfs_results.specs.Grammar.{longest, octets, access, create, getattr, getfh, link, remove, rename, entry, readdir, readlink, close, commit, opening, reading, writing, exchange_id, create_session, sequence, table, is_served, row, fields, setattr, served, unserved, op_result}
 use Rattle.lnfs_results.specs.Texts.{entry_text, fields_text, result_text}
 use Rattle.lnfs_results.specs.Fits.{EntryFits, ResultFits, IsOwn}
 use Rattle.lnfs_xdr.proofs.Linking.{linked_spelled}
@@ -62,11 +63,11 @@ on_so true e p = on_true p
 on_so false e p = absurd cc
 
 -- a number of the table and the status 0
-success : (number : ℕ) {r : OpResult} {bytes : List ℕ} → number < 2 ^ 32 → eqb number op_setattr ≡ false → is_in table number ≡ true → Spelled (picked table number (row [] number)) r bytes
+success : (number : ℕ) {r : OpResult} {bytes : List ℕ} → number < 2 ^ 32 → eqb number op_setattr ≡ false → listed table number ≡ true → Spelled (picked table number (row [] number)) r bytes
     → Spelled op_result r (word number ++ word 0 ++ bytes ++ [])
 unfolding op_result served is_served fields
-success number {r} {bytes} small other listed p =
-    grouped (tag number small ▸ on_other (eqb number op_setattr) other (on_so (is_in table number) listed (tag 0 (omega arith) ▸ on_true (in_table table number r bytes p)))) (simp (append_assoc, append-nil))
+success number {r} {bytes} small other there p =
+    grouped (tag number small ▸ on_other (eqb number op_setattr) other (on_so (listed table number) there (tag 0 (omega arith) ▸ on_true (in_table table number r bytes p)))) (simp (append_assoc, append-nil))
 
 -- a failure of another operation than SETATTR
 not_zero : (n : ℕ) → n ≢ 0 → eqb n 0 ≡ false
