@@ -23,7 +23,7 @@ use Rattle.lnfs_operations.proofs.CreateSessionLaws.{created_any}
 use Rattle.lnfs_operations.proofs.Once.{reclaim_any}
 use Rattle.lnfs_counts.proofs.Rows.{none_filtered}
 use Rattle.lnfs_session.specs.Standing.{Lists, lists_of, standing}
-use Rattle.lnfs_session.specs.Creates.{other_of}
+use Rattle.lnfs_session.specs.Records.{replaced_by}
 use Rattle.lnfs_engine.specs.Stores.{opens_left}
 use Rattle.lnfs_engine.specs.Behind.{OpensBehind}
 use Rattle.lnfs_engine.proofs.Leaving.{dropped_opens, pending_left}
@@ -101,7 +101,7 @@ opens_by client opens (Refused why) = opens
 
 -- the client that gives way
 abbrev pub given_way : CreateSession → List Client → Option Id
-given_way args clients = option_map (λ (c : Client). c.id) (other_of (client_at clients (client_named args.client)) clients)
+given_way args clients = option_map (λ (c : Client). c.id) (replaced_by (client_at clients (client_named args.client)) clients)
 
 not_busy : (a b : Bool) → not (a || b) ≡ true → b ≡ false
 not_busy true b is = absurd (cc)
@@ -122,7 +122,7 @@ module _ (level : ℕ) (moment : Moment) (w : World) where
       (λ large. record {
         own = dropped_own (find (is_replaced c) w.clients) _ refl;
         place = refl;
-        opens_are = dropped_opens (find (is_replaced c) w.clients) _ w (λ v. refl) ∙ ap (λ (o : Option Client). opens_left (option_map (λ (d : Client). d.id) (other_of o w.clients)) w.opens) (sym found);
+        opens_are = dropped_opens (find (is_replaced c) w.clients) _ w (λ v. refl) ∙ ap (λ (o : Option Client). opens_left (option_map (λ (d : Client). d.id) (replaced_by o w.clients)) w.opens) (sym found);
       }))
       (stays_own at w _))
 

@@ -1,15 +1,14 @@
 -- What the code's answers of a CREATE_SESSION stand for.
 use Rattle.std.specs.Prelude.{◌≡◌, ℕ, List, [], Option, Some, None, Result, Ok, Err, option_map}
-use Rattle.std.specs.List.{find}
 use Rattle.lnfs_arguments.specs.declared.types.CreateSession.{CreateSession}
 use Rattle.lnfs_world.specs.World.{Id, Client, client_at}
 use Rattle.lnfs_operations.specs.Identifiers.{client_named}
 use Rattle.lnfs_operations.specs.CreateSession as create
-use Rattle.lnfs_operations.specs.CreateSession.{is_replaced}
 use Rattle.lnfs_session.specs.declared.clients.SessionError.{SessionError}
 use Rattle.lnfs_session.specs.declared.create.Created.{Created}
 use Rattle.lnfs_session.specs.declared.create.Created.TheVariants.{New, Replay}
 use Rattle.lnfs_session.specs.Listed.{id_of, channel_of}
+use Rattle.lnfs_session.specs.Records.{replaced_by}
 use Rattle.lnfs_session.specs.Standing.{Lists}
 
 -- the answer that is kept in the record of a client
@@ -32,14 +31,9 @@ IsPlain (Ok (New session granted dropped)) = (granted.headerpad ≡ 0) × (grant
 IsPlain (Ok Replay) = Unit {0}
 IsPlain (Err e) = Unit {0}
 
--- the record whose place the record of a client takes
-abbrev pub other_of : Option Client → List Client → Option Client
-other_of None clients = None
-other_of (Some c) clients = find (is_replaced c) clients
-
 -- the record that is told to be gone is the one that gives way to a client's
 abbrev pub GivesWay : Id → Lists → Result Created SessionError → Type 0
-GivesWay client lists (Ok (New session granted dropped)) = option_map id_of dropped ≡ option_map (λ c. c.id) (other_of (client_at lists.clients client) lists.clients)
+GivesWay client lists (Ok (New session granted dropped)) = option_map id_of dropped ≡ option_map (λ c. c.id) (replaced_by (client_at lists.clients client) lists.clients)
 GivesWay client lists (Ok Replay) = Unit {0}
 GivesWay client lists (Err e) = Unit {0}
 
