@@ -45,7 +45,7 @@ pub part_fits : (cs : List (List ℕ)) (place part : ℕ) → 0 < part → place
 part_fits cs place part some lp has =
     let chunk : (place + part - 1) / CHUNK ≡ place / CHUNK = omega arith in
     let at : (place + part - 1) % CHUNK ≡ place % CHUNK + part - 1 = omega arith in
-    let within : place % CHUNK + part - 1 < length (slice_index_or cs (place / CHUNK) []) = rw (chunk, at) at has.at in
+    let within : place % CHUNK + part - 1 < length (slice_index_or cs (place / CHUNK) []) = rw (chunk, at) at has.inside in
     omega arith
 
 part_byte : (bs : List ℕ) (offset done part i : ℕ) → offset + done ≤ i → i < offset + done + part → get_or (take part (drop done bs)) (i - (offset + done)) 0 ≡ get_or bs (i - offset) 0
@@ -207,7 +207,7 @@ cut_is cs now size ch is there chunk i = at (nat_lt (i / CHUNK) (size / CHUNK)) 
 pub has_place_kept : (old now : List (List ℕ)) (i : ℕ) → ((c : ℕ) → length (slice_index_or now c []) ≡ length (slice_index_or old c [])) → length now ≡ length old → HasPlace old i → HasPlace now i
 has_place_kept old now i kept count has = record {
   chunk = omega (arith, has.chunk, count);
-  at = omega (arith, has.at, kept (i / CHUNK));
+  inside = omega (arith, has.inside, kept (i / CHUNK));
 }
 
 pub read_is : (f : ℕ → ℕ) (size offset count many : ℕ) → offset < size → many ≡ min count (size - offset) → bytes_from f offset many ≡ read_at offset count (bytes_from f 0 size)

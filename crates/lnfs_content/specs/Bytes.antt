@@ -38,4 +38,4 @@ pub record IsContent (chunks : List (List ℕ)) (size : ℕ) : Type 0 where
 -- there is room for the byte
 pub record HasPlace (chunks : List (List ℕ)) (i : ℕ) : Type 0 where
   pub chunk : i / CHUNK < length chunks
-  pub at : i % CHUNK < length (slice_index_or chunks (i / CHUNK) [])
+  pub inside : i % CHUNK < length (slice_index_or chunks (i / CHUNK) [])
