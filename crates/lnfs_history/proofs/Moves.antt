@@ -25,7 +25,7 @@ fits_as : (seat : ℕ) (log : List Entry) (made : ℕ) (at : ℕ → ℕ) (by th
 fits_as seat log made at by there v w here same fits = subst (λ (y : ℕ × View). Fits seat log made at y.0 y.1) (λ i. (sym here i, same i)) fits
 
 pub begins : Kept (opening {S = Unit {0}} (0 ∷ []) [] (keeper [] 0))
-begins = record { seat = 0; log = []; made = 0; at = λ _. 0; fits = one; none = λ link h. refl }
+begins = record { seat = 0; log = []; made = 0; seat_of = λ _. 0; fits = one; none = λ link h. refl }
   where
     one : (by : ℕ) (v : View) → get_elem? (keeper [] 0 ∷ []) by ≡ some v → Fits 0 [] 0 (λ _. 0) by v
     one zero v e = subst (Fits 0 [] 0 (λ _. 0) 0) (some-injective _ _ e) (record { keeps = λ _. (refl, refl, refl); has = λ k. absurd (off k) })
@@ -42,12 +42,12 @@ pub places : (id : ℕ) (log : List Entry) (made : ℕ) → Splits Kept id (keep
 places id log made s h at =
     let m = mine id (keeper log made) s refl at h in
     let n = length (set s.views id (keeper log (made + 1))) in
-    let at' = moved h.at made n in
+    let at' = moved h.seat_of made n in
     record {
       seat = h.seat;
       log = h.log;
       made = h.made + 1;
-      at = at';
+      seat_of = at';
       fits = λ by u e. ⊎_elim
           (λ (old : get_elem? (set s.views id (keeper log (made + 1))) by ≡ some u).
           ⊎_elim
@@ -56,11 +56,11 @@ places id log made s h at =
           (λ (x : (by ≢ id) × (get_elem? s.views by ≡ some u)). let f = h.fits by u x.1 in record {
             keeps = λ k. absurd (x.0 ((f.keeps k).0 ∙ sym m.0));
             has = λ k. let t = f.has k in let less : u.link < made = omega (arith, t.2, m.2) in
-                (moved_else h.at made n u.link (λ e'. omega (arith, e', less)) ∙ t.0, t.1, omega (arith, t.2));
+                (moved_else h.seat_of made n u.link (λ e'. omega (arith, e', less)) ∙ t.0, t.1, omega (arith, t.2));
           })
           (at_set s.views id by (keeper log (made + 1)) u old))
           (λ (new : (by ≡ n) × (place made [] ≡ u)). fits_as h.seat h.log (h.made + 1) at' by n u (place made []) new.0 new.1
-          (record { keeps = λ k. absurd (off k); has = λ _. (moved_here h.at made n, sym (h.none made (omega (arith, m.2))), omega (arith, m.2)) }))
+          (record { keeps = λ k. absurd (off k); has = λ _. (moved_here h.seat_of made n, sym (h.none made (omega (arith, m.2))), omega (arith, m.2)) }))
           (at_end (set s.views id (keeper log (made + 1))) (place made []) u by e);
       none = λ link le. h.none link (omega (arith, le));
     }
@@ -78,21 +78,21 @@ takes_in id log made other link es s h at ne there =
     (λ (t : (other ≢ id) × (get_elem? s.views other ≡ some (place link es))). t.1)
     (at_set s.views id other w (place link es) there) in
     let had = (h.fits other (place link es) theirs).has refl in
-    let at' = moved h.at link id in
+    let at' = moved h.seat_of link id in
     record {
       seat = h.seat;
       log = h.log;
       made = h.made;
-      at = at';
+      seat_of = at';
       fits = λ by u e. ⊎_elim
           (λ (x : (by ≡ other) × (nobody ≡ u)). fits_as h.seat h.log h.made at' by other u nobody x.0 x.1 (idle_fits h.seat h.log h.made at' other))
           (λ (x : (by ≢ other) × (get_elem? (set s.views id w) by ≡ some u)). ⊎_elim
           (λ (y : (by ≡ id) × (w ≡ u)). fits_as h.seat h.log h.made at' by id u w y.0 y.1
-          (record { keeps = λ _. m; has = λ _. (moved_here h.at link id, had.1, had.2) }))
+          (record { keeps = λ _. m; has = λ _. (moved_here h.seat_of link id, had.1, had.2) }))
           (λ (y : (by ≢ id) × (get_elem? s.views by ≡ some u)). let f = h.fits by u y.1 in record {
             keeps = λ k. absurd (y.0 ((f.keeps k).0 ∙ sym m.0));
             has = λ k. let t = f.has k in
-                (moved_else h.at link id u.link (apart_links h.at u.link link by other t.0 had.0 x.0) ∙ t.0, t.1, t.2);
+                (moved_else h.seat_of link id u.link (apart_links h.seat_of u.link link by other t.0 had.0 x.0) ∙ t.0, t.1, t.2);
           })
           (at_set s.views id by w u x.1))
           (at_set (set s.views id w) other by nobody u e);
@@ -113,16 +113,16 @@ adds slots id log made link es e is s h long at small =
         seat = h.seat;
         log = h.log ++ e ∷ [];
         made = h.made;
-        at = h.at;
+        seat_of = h.seat_of;
         fits = λ by u there. ⊎_elim
-            (λ (x : (by ≡ id) × (w ≡ u)). fits_as h.seat (h.log ++ e ∷ []) h.made h.at by id u w x.0 x.1 (record {
+            (λ (x : (by ≡ id) × (w ≡ u)). fits_as h.seat (h.log ++ e ∷ []) h.made h.seat_of by id u w x.0 x.1 (record {
               keeps = λ _. (m.0, ap (λ l. l ++ e ∷ []) m.1, m.2);
               has = λ _. (had.0, ap (λ l. l ++ e ∷ []) had.1 ∙ sym (of_here link h.log e is), had.2);
             }))
             (λ (x : (by ≢ id) × (get_elem? s.views by ≡ some u)). let f = h.fits by u x.1 in record {
               keeps = λ k. absurd (x.0 ((f.keeps k).0 ∙ sym m.0));
               has = λ k. let t = f.has k in
-                  (t.0, t.1 ∙ sym (of_else u.link h.log e (λ same. apart_links h.at u.link link by id t.0 had.0 x.0 (same ∙ is))), t.2);
+                  (t.0, t.1 ∙ sym (of_else u.link h.log e (λ same. apart_links h.seat_of u.link link by id t.0 had.0 x.0 (same ∙ is))), t.2);
             })
             (at_set s.views id by w u there);
         none = λ i le. of_else i h.log e (λ same. let less : link < h.made = had.2 in omega (arith, same, is, le, less)) ∙ h.none i le;
@@ -137,23 +137,23 @@ parts id log made link es s h at =
     let m = mine id v s refl at h in
     let had = (h.fits id v at).has refl in
     let n = length (set s.views id w) in
-    let at' = moved h.at link n in
+    let at' = moved h.seat_of link n in
     record {
       seat = h.seat;
       log = h.log;
       made = h.made;
-      at = at';
+      seat_of = at';
       fits = λ by u e. ⊎_elim
           (λ (old : get_elem? (set s.views id w) by ≡ some u).
           ⊎_elim
           (λ (x : (by ≡ id) × (w ≡ u)). fits_as h.seat h.log h.made at' by id u w x.0 x.1 (record { keeps = λ _. m; has = λ k. absurd (off k) }))
           (λ (x : (by ≢ id) × (get_elem? s.views by ≡ some u)). let f = h.fits by u x.1 in record {
             keeps = λ k. absurd (x.0 ((f.keeps k).0 ∙ sym m.0));
-            has = λ k. let t = f.has k in (moved_else h.at link n u.link (apart_links h.at u.link link by id t.0 had.0 x.0) ∙ t.0, t.1, t.2);
+            has = λ k. let t = f.has k in (moved_else h.seat_of link n u.link (apart_links h.seat_of u.link link by id t.0 had.0 x.0) ∙ t.0, t.1, t.2);
           })
           (at_set s.views id by w u old))
           (λ (new : (by ≡ n) × (place link es ≡ u)). fits_as h.seat h.log h.made at' by n u (place link es) new.0 new.1
-          (record { keeps = λ k. absurd (off k); has = λ _. (moved_here h.at link n, had.1, had.2) }))
+          (record { keeps = λ k. absurd (off k); has = λ _. (moved_here h.seat_of link n, had.1, had.2) }))
           (at_end (set s.views id w) (place link es) u by e);
       none = h.none;
     }
@@ -172,9 +172,9 @@ learns slots id log made link es s h long at small =
         seat = h.seat;
         log = h.log;
         made = h.made;
-        at = h.at;
+        seat_of = h.seat_of;
         fits = λ by u there. ⊎_elim
-            (λ (x : (by ≡ id) × (w ≡ u)). fits_as h.seat h.log h.made h.at by id u w x.0 x.1 (record { keeps = λ _. m; has = λ k. absurd (off k) }))
+            (λ (x : (by ≡ id) × (w ≡ u)). fits_as h.seat h.log h.made h.seat_of by id u w x.0 x.1 (record { keeps = λ _. m; has = λ k. absurd (off k) }))
             (λ (x : (by ≢ id) × (get_elem? s.views by ≡ some u)). h.fits by u x.1)
             (at_set s.views id by w u there);
         none = h.none;
@@ -198,9 +198,9 @@ looks slots id log made s h long at small =
         seat = h.seat;
         log = h.log;
         made = h.made;
-        at = h.at;
+        seat_of = h.seat_of;
         fits = λ by u there. ⊎_elim
-            (λ (x : (by ≡ id) × (w ≡ u)). fits_as h.seat h.log h.made h.at by id u w x.0 x.1 (record { keeps = λ _. m; has = λ k. absurd (off k) }))
+            (λ (x : (by ≡ id) × (w ≡ u)). fits_as h.seat h.log h.made h.seat_of by id u w x.0 x.1 (record { keeps = λ _. m; has = λ k. absurd (off k) }))
             (λ (x : (by ≢ id) × (get_elem? s.views by ≡ some u)). h.fits by u x.1)
             (at_set s.views id by w u there);
         none = h.none;

@@ -23,7 +23,7 @@ of_else link (x ∷ log) e not = by_test (of_else link log e not) (link == x.eve
     by_test more true = ap (λ l. x ∷ l) more
     by_test more false = more
 
--- `at`, with n for i
+-- the seats of the links, with n for i
 abbrev pub moved : (ℕ → ℕ) → ℕ → ℕ → ℕ → ℕ
 moved at i n j = if j == i then n else at j
 

@@ -24,18 +24,18 @@ place link entries = view_of false [] 0 true link entries
 abbrev pub nobody : View
 nobody = view_of false [] 0 false 0 []
 
--- The keeper's seat knows the whole history. The seat that has a link's part is the one that `at` names, and its entries are all of that link
-pub record Fits (seat : ℕ) (log : List Entry) (made : ℕ) (at : ℕ → ℕ) (by : ℕ) (v : View) : Type 0 where
+-- The keeper's seat knows the whole history. The seat that has a link's part is the one that `seat_of` names, and its entries are all of that link
+pub record Fits (seat : ℕ) (log : List Entry) (made : ℕ) (seat_of : ℕ → ℕ) (by : ℕ) (v : View) : Type 0 where
   pub keeps : v.keeps ≡ true → (by ≡ seat) × (v.log ≡ log) × (v.made ≡ made)
-  pub has : v.has ≡ true → (at v.link ≡ by) × (v.entries ≡ of v.link log) × (v.link < made)
+  pub has : v.has ≡ true → (seat_of v.link ≡ by) × (v.entries ≡ of v.link log) × (v.link < made)
 
 -- there is one history, of which each view fits its part, and no link without a place has an entry
 pub record Kept (s : State (Unit {0}) View) : Type 0 where
   pub seat : ℕ
   pub log : List Entry
   pub made : ℕ
-  pub at : ℕ → ℕ
-  pub fits : (by : ℕ) (v : View) → get_elem? s.views by ≡ some v → Fits seat log made at by v
+  pub seat_of : ℕ → ℕ
+  pub fits : (by : ℕ) (v : View) → get_elem? s.views by ≡ some v → Fits seat log made seat_of by v
   pub none : (link : ℕ) → made ≤ link → of link log ≡ []
 
 -- a new place: what the keeper is then, and the place
