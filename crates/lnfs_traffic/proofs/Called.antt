@@ -83,7 +83,7 @@ is_call xid credential verifier arguments lt flavor short vflavor vshort =
 pub is_request : (xid uid : ℕ) (asked : Compound) (arguments : List ℕ) → xid < 2 ^ 32 → uid < 2 ^ 32 → ((x : Further) → IsLawful x → Tells (compound x) asked arguments) → IsRequest (call_text xid last_procedure (credential uid) no_verifier arguments)
 is_request xid uid asked arguments lt small told = record {
   call = record { xid = xid; procedure = last_procedure; credential = credential uid; verifier = no_verifier; header = header_text xid last_procedure (credential uid); arguments = arguments };
-  is = is_call xid (credential uid) no_verifier arguments lt (omega arith) (omega (arith, sys_length uid)) (omega arith) (omega arith);
+  call_is = is_call xid (credential uid) no_verifier arguments lt (omega arith) (omega (arith, sys_length uid)) (omega arith) (omega arith);
   procedure = refl;
   flavor = refl;
   user = record { uid = uid; gid = 0 };

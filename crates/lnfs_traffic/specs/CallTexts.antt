@@ -27,7 +27,7 @@ call_text xid procedure credential verifier arguments = header_text xid procedur
 -- The record is a call of COMPOUND with an AUTH_SYS credential, which is read as that of a user, and with arguments that are read as those of operations, whatever is read beside the table.
 pub record IsRequest (message : List ℕ) : Type 0 where
   pub call : CallMessage
-  pub is : IsCall call message
+  pub call_is : IsCall call message
   pub procedure : call.procedure ≡ last_procedure
   pub flavor : call.credential.flavor ≡ AUTH_SYS
   pub user : Sys
