@@ -216,7 +216,7 @@ module _ {S : Type 0} (deeds : List OpResult → Op → Deed Reply S) (os : List
             keeper = refl;
             ends = record {
               kept = s.kept;
-              is = refl;
+              again_is = refl;
               text = s.text ∙ ap (λ x. take begin x ++ s.kept) a.text ∙ ap (λ x. x ++ s.kept) (take-append-le begin old (flat_map result_text a.so_far) within);
               denied = refl;
             };

@@ -38,7 +38,7 @@ Reaches end out ended.Again = Unit {0}
 -- what was kept, in the place of all from the mark on
 pub record EndsAgain (begin : ℕ) (old new : List ℕ) (refused : Option operations.Denial) (again : Option (List ℕ)) : Type 0 where
   pub kept : List ℕ
-  pub is : again ≡ Some kept
+  pub again_is : again ≡ Some kept
   pub text : new ≡ take begin old ++ kept
   pub denied : None ≡ refused
 
