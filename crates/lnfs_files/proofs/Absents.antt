@@ -110,7 +110,7 @@ some_same : (a b : Node) → Some a ≡ Some b → a ≡ b
 some_same a b e = cc
 
 same_held : (t : Rows) (a b : Node) (h : Held) → Holds t a h → Holds t b h → a ≡ b
-same_held t a b h x y = some_same a b (sym x.at ∙ ap (node_at t.nodes) (sym x.id ∙ y.id) ∙ y.at)
+same_held t a b h x y = some_same a b (sym x.node_is ∙ ap (node_at t.nodes) (sym x.id ∙ y.id) ∙ y.node_is)
 
 pub absent_in : (t : Rows) (h : Held) (name : List ℕ) (a : IsAbsentIn t h name) (d : Node) → Holds t d h → (is_directory d.kind ≡ true) × (is_some (entry_at t.entries d.id name) ≡ false)
 absent_in t h name a d holds = subst (λ (x : Node). (is_directory x.kind ≡ true) × (is_some (entry_at t.entries x.id name) ≡ false)) (same_held t a.0 d h a.1.0 holds) (a.1.1, a.1.2)

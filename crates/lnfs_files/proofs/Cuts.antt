@@ -51,7 +51,7 @@ counts_cut rows t u n h moment touched holds file totals e =
     let inner : Inner = data_changed moment [] n.inner in
     let size : h.facts.size ≡ bytes_of n n.kind = holds.tells.size ∙ ap (size_of t.entries n) file ∙ sym (ap (bytes_of n) file) in
     let none : 0 ≡ bytes_of (record n { inner = inner }) n.kind = sym (ap (bytes_of (record n { inner = inner })) file) in
-    let there = touched n.id inner n (world_of t) totals holds.at in
+    let there = touched n.id inner n (world_of t) totals holds.node_is in
     subst (λ (x : Rows). AreTotals (resized rows h.facts.label.0 h.facts.size 0) x.nodes) (sym e) (
     subst (λ (l : ℕ). AreTotals (resized rows l h.facts.size 0) (apply (Touch n.id inner) (world_of t)).nodes) (sym holds.tells.label) (
     subst (λ (x : ℕ). AreTotals (resized rows n.label x 0) (apply (Touch n.id inner) (world_of t)).nodes) (sym size) (
@@ -61,5 +61,5 @@ counts_cut rows t u n h moment touched holds file totals e =
 pub bytes_held : (rows : List Row) (t : Rows) (n : Node) (h : Held) → ((i : Id) → node_at t.nodes i ≡ Some n → n.label < length rows → bytes_of n n.kind ≤ (row_at rows n.label).bytes) → Holds t n h → n.kind ≡ File → AreBytesHeld rows h.facts.label.0 h.facts.size
 bytes_held rows t n h law holds file known =
     let size : h.facts.size ≡ bytes_of n n.kind = holds.tells.size ∙ ap (size_of t.entries n) file ∙ sym (ap (bytes_of n) file) in
-    let there : bytes_of n n.kind ≤ (row_at rows n.label).bytes = law n.id holds.at (subst (λ (l : ℕ). l < length rows) holds.tells.label known) in
+    let there : bytes_of n n.kind ≤ (row_at rows n.label).bytes = law n.id holds.node_is (subst (λ (l : ℕ). l < length rows) holds.tells.label known) in
     subst (λ (l : ℕ). h.facts.size ≤ (row_at rows l).bytes) (sym holds.tells.label) (subst (λ (x : ℕ). x ≤ (row_at rows n.label).bytes) (sym size) there)

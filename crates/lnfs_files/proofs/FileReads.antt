@@ -34,7 +34,7 @@ of_one SymbolicLink mine content e = cc
 
 -- the data of a file that is held
 held_data : (t : Rows) (n : Node) (h : Held) (content : List ℕ) → Holds t n h → Ok content ≡ file_found t (id_of h.id) → content ≡ n.inner.content
-held_data t n h content holds e = of_one n.kind n.inner.content content (e ∙ ap (file_found t) holds.id ∙ ap (λ (x : Option Node). on_file x (λ n. Ok n.inner.content)) holds.at)
+held_data t n h content holds e = of_one n.kind n.inner.content content (e ∙ ap (file_found t) holds.id ∙ ap (λ (x : Option Node). on_file x (λ n. Ok n.inner.content)) holds.node_is)
 
 abbrev told : Data → OpResult
 told d = results.Read d.eof d.content

@@ -52,7 +52,7 @@ module _ (p : Place) (rest : World) (t : Rows) (s : Lists) where
 
 module _ (p : Place) (t : Rows) (d : Node) (h : Held) (holds : Holds t d h) (dir : is_directory d.kind ≡ true) (name : List ℕ) where
   looks_up : looked_up t (id_of h.id) name ≡ or_absent (option_map (λ e. e.node) (entry_at t.entries d.id name))
-  looks_up = grind (arith, holds.id, holds.at, dir)
+  looks_up = grind (arith, holds.id, holds.node_is, dir)
 
   abbrev entered : (Node → Outcome (Answer Opened)) → Entry → Outcome (Answer Opened)
   entered found e = where_there (node_at t.nodes e.node) found (refuse p Namespace NFS4ERR_NOENT)
@@ -69,7 +69,7 @@ module _ (p : Place) (t : Rows) (d : Node) (h : Held) (holds : Holds t d h) (dir
       node : (x : Option Node) → node_at t.nodes (id_of i) ≡ x → IsTold t.entries x (Some f) → (n : Node) × (Holds t n held × (node_at t.nodes (id_of i) ≡ Some n))
       node (Some n) e told =
           let same : n.id ≡ id_of i = node_at-id (id_of i) t.nodes n e in
-          (n, (record { id = sym same; at = ap (node_at t.nodes) same ∙ e; tells = told }, e))
+          (n, (record { id = sym same; node_is = ap (node_at t.nodes) same ∙ e; tells = told }, e))
       node None e told = absurd told
 
       at : (x : Option Entry) → entry_at t.entries d.id name ≡ x → Ok (id_of i) ≡ or_absent (option_map (λ e. e.node) x) → Finds p t d name (Ok (Some held))

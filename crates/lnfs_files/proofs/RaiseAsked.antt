@@ -20,7 +20,7 @@ module _ (site : Site) (t : Rows) (facts : NodeFacts site.dom t.nodes t.entries 
   as_asked labels e =
       ap (λ (l : ℕ). denial site s (Raise l labels new)) holds.tells.label
       ∙ ap (λ (ls : List ℕ). denial site s (Raise n.label ls new)) e
-      ∙ ap (λ (b : Bool). if b then None else Some (record { gate = Monitor M5; status = denied_with M5 })) (sym (by_home site.dom t.nodes t.entries t.lasts n.id n facts holds.at s new))
+      ∙ ap (λ (b : Bool). if b then None else Some (record { gate = Monitor M5; status = denied_with M5 })) (sym (by_home site.dom t.nodes t.entries t.lasts n.id n facts holds.node_is s new))
 
   -- of the root
   pub of_root : id_of h.id ≡ root → denial site s (Raise h.facts.label.0 [] new) ≡ denial site s (Raise n.label (parent_labels t.nodes t.entries n.id) new)

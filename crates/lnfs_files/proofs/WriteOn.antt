@@ -52,7 +52,7 @@ held_node t (Some i) h held = at (node_at t.nodes i) held
     at None held = absurd held
 
 pub found : (t : Rows) (n : Node) (h : Held) → Holds t n h → node_at t.nodes (id_of h.id) ≡ Some n
-found t n h holds = ap (λ (i : Id). node_at t.nodes i) holds.id ∙ holds.at
+found t n h holds = ap (λ (i : Id). node_at t.nodes i) holds.id ∙ holds.node_is
 
 -- one whose data is found
 pub record IsFile (n : Node) (content : List ℕ) : Type 0 where

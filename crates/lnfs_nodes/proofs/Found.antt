@@ -23,7 +23,7 @@ told_held t i f told = at (node_at t.nodes (id_of i)) refl told
     at : (x : Option Node) → node_at t.nodes (id_of i) ≡ x → IsTold t.entries x (Some f) → IsHeld t (there x) (Ok (record { id = i; facts = f }))
     at (Some n) e told =
         let same : n.id ≡ id_of i = node_at-id (id_of i) t.nodes n e in
-        record { id = sym same; at = ap (node_at t.nodes) same ∙ e; tells = told }
+        record { id = sym same; node_is = ap (node_at t.nodes) same ∙ e; tells = told }
     at None e told = absurd told
 
 -- a node that is told of becomes the current one

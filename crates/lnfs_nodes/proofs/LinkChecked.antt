@@ -83,7 +83,7 @@ module _ (site : Site) (at : Place) (rest : World) (t : Rows) (name : List ℕ) 
       demand (has_cookie d) (refuse at Quota NFS4ERR_NOSPC) (
       done at (changed d) (Touch d.id (name_added at.moment d.inner) ∷ Touch n.id (attributes_changed at.moment n.inner) ∷ Link (next_entry d name n.id) ∷ []))))
       ≡ follows (λ a. cinfo_of a) at (link_of t (id_of node.id) (id_of dir.id) name at.moment)
-  left n d holds_n holds_d is_file is_dir = grind (arith, holds_n.id, holds_n.at, holds_d.id, holds_d.at, is_file, is_dir)
+  left n d holds_n holds_d is_file is_dir = grind (arith, holds_n.id, holds_n.node_is, holds_d.id, holds_d.node_is, is_file, is_dir)
 
   pub link_checked : None ≡ no_directory dir.facts.kind → None ≡ denial site at.subject (ChangeNames dir.facts.label.0) → None ≡ denial site at.subject (Drop node.facts.label.0) →
       link site name at (with_tree rest t) ≡ follows (λ a. cinfo_of a) at (link_of t (id_of node.id) (id_of dir.id) name at.moment)

@@ -17,13 +17,13 @@ found_held t i f told = at (node_at t.nodes (id_of i)) refl told
     at : (x : Option Node) → node_at t.nodes (id_of i) ≡ x → IsTold t.entries x (Some f) → IsHeld t (found_at x) (Ok (record { id = i; facts = f }))
     at (Some n) e told =
         let same : n.id ≡ id_of i = node_at-id (id_of i) t.nodes n e in
-        record { id = sym same; at = ap (node_at t.nodes) same ∙ e; tells = told }
+        record { id = sym same; node_is = ap (node_at t.nodes) same ∙ e; tells = told }
     at None e told = absurd told
 
 module _ (t : Rows) (d : Node) (h : Held) (holds : Holds t d h) (dir : is_directory d.kind ≡ true) (name : List ℕ) where
   -- a look-up in a directory that is held
   pub looks_up : looked_up t (id_of h.id) name ≡ or_absent (option_map (λ e. e.node) (entry_at t.entries d.id name))
-  looks_up = grind (arith, holds.id, holds.at, dir)
+  looks_up = grind (arith, holds.id, holds.node_is, dir)
 
   pub named_held : (i : NodeId) (f : Facts) → Ok (id_of i) ≡ looked_up t (id_of h.id) name → IsTold t.entries (node_at t.nodes (id_of i)) (Some f) → IsHeld t (named t d.id name) (Ok (record { id = i; facts = f }))
   named_held i f found told = at (entry_at t.entries d.id name) (found ∙ looks_up)

@@ -96,4 +96,4 @@ about_directory P site p rest t h args size held is may rise sized next =
     let whole : ℕ → Id → Outcome (Answer Listed) = λ size i. finished site p n size (listed_in site p (with_tree rest t) args.asked i args.cookie (size - EMPTY_LISTING)) in
     subst P
     (sym (passed (is_directory n.kind) _ _ is_one ∙ allowed site p (Read n.label) (whole (min args.maxcount MOST_DATA) n.id) goes ∙ ap (λ (s : ℕ). whole s n.id) (sym sized) ∙ ap (whole size) (sym holds.id)))
-    (next n holds (record { node = n; at = ap (node_at t.nodes) holds.id ∙ holds.at; kind = is_one; rise = rise })))
+    (next n holds (record { node = n; node_is = ap (node_at t.nodes) holds.id ∙ holds.node_is; kind = is_one; rise = rise })))

@@ -24,7 +24,7 @@ is_text n SymbolicLink text e = (refl, cc)
 
 -- the text of a node that is held
 held_text : (t : Rows) (n : Node) (h : Held) (text : List ℕ) → Holds t n h → Some text ≡ text_of (node_at t.nodes (id_of h.id)) → (is_link n.kind ≡ true) × (text ≡ n.inner.content)
-held_text t n h text holds e = is_text n n.kind text (e ∙ ap (λ i. text_of (node_at t.nodes i)) holds.id ∙ ap text_of holds.at)
+held_text t n h text holds e = is_text n n.kind text (e ∙ ap (λ i. text_of (node_at t.nodes i)) holds.id ∙ ap text_of holds.node_is)
 
 pub link_read : (site : Site) (at : Place) (rest : World) (t u : Rows) (h : Held) (text old new : List ℕ) → IsHeld t (held_in t.nodes at.current) (Ok h)
     → Some text ≡ text_of (node_at t.nodes (id_of h.id))

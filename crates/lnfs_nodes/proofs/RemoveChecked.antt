@@ -81,7 +81,7 @@ module _ (site : Site) (at : Place) (rest : World) (t : Rows) (name : List ℕ) 
 
             tree_side : (d : Node) (e : Entry) (n : Node) → Holds t d dir → is_directory d.kind ≡ true → entry_at t.entries d.id name ≡ Some e → node_at t.nodes e.node ≡ Some n
                 → remove_of t (id_of dir.id) name at.moment ≡ test (not (holds_names t.entries n.id)) NotEmpty (Ok (taking d e n))
-            tree_side d e n holds one is_e is_n = grind (arith, holds.id, holds.at, one, is_e, is_n)
+            tree_side d e n holds one is_e is_n = grind (arith, holds.id, holds.node_is, one, is_e, is_n)
 
             alike : (d : Node) (e : Entry) (n : Node) (b : Bool) → demand b (refuse at Namespace NFS4ERR_NOTEMPTY) (done at (changed d) (taking d e n).changes) ≡ follows (λ a. cinfo_of a.0) at (test b NotEmpty (Ok (taking d e n)))
             alike d e n true = refl

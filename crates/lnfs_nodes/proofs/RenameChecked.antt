@@ -215,7 +215,7 @@ module _ (site : Site) (at : Place) (rest : World) (t : Rows) where
 
         tree_side : (a b : Node) (e : Entry) (n : Node) → Holds t a from → Holds t b to → is_directory a.kind ≡ true → is_directory b.kind ≡ true → entry_at t.entries a.id old ≡ Some e → node_at t.nodes e.node ≡ Some n
             → rename_of t (id_of from.id) old (id_of to.id) new at.moment ≡ tree.moved_onto t at.moment new a b e n (entry_at t.entries b.id new)
-        tree_side a b e n holds_a holds_b dir_a dir_b is_e is_n = grind (arith, holds_a.id, holds_a.at, holds_b.id, holds_b.at, dir_a, dir_b, is_e, is_n)
+        tree_side a b e n holds_a holds_b dir_a dir_b is_e is_n = grind (arith, holds_a.id, holds_a.node_is, holds_b.id, holds_b.node_is, dir_a, dir_b, is_e, is_n)
 
         pub rename_checked : IsPreorderWithBottom site.dom → NodeFacts site.dom t.nodes t.entries t.lasts
             → ((d : Node) → Holds t d to → is_directory d.kind ≡ true → None ≡ giving_way site at.subject t.nodes (id_of mover.id) (entry_at t.entries d.id new))
@@ -228,5 +228,5 @@ module _ (site : Site) (at : Place) (rest : World) (t : Rows) where
             let label = at_level site at.subject b.label (ends.target_open ∙ ap (λ (l : ℕ). denial site at.subject (ChangeNames l)) holds_b.tells.label) in
             onto_alike new (record { entry = e; node = n; from = a; to = b }) (entry_at t.entries b.id new) refl
             (way b holds_b dir_b ∙ ap (λ (i : Id). giving_way site at.subject t.nodes i (entry_at t.entries b.id new)) holds_n.id)
-            (walks_alike site.dom lattice at.subject rest t facts n.id b holds_b.at dir_b label)
+            (walks_alike site.dom lattice at.subject rest t facts n.id b holds_b.node_is dir_b label)
             ∙ ap (λ (x : Result (Doing (Info × Info × Option Gone)) TreeError). follows (λ (x : Info × Info × Option Gone). renamed_of x.0 x.1) at x) (sym (tree_side a b e n holds_a holds_b dir_a dir_b is_e is_n))))

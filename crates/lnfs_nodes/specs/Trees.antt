@@ -52,7 +52,7 @@ held_in nodes None = Err (record { gate = Namespace; status = NFS4ERR_NOFILEHAND
 -- what the code holds of it
 pub record Holds (t : Rows) (n : Node) (h : Held) : Type 0 where
   pub id : id_of h.id ≡ n.id
-  pub at : node_at t.nodes n.id ≡ Some n
+  pub node_is : node_at t.nodes n.id ≡ Some n
   pub tells : Tells t.entries n h.facts
 
 abbrev pub IsHeld : Rows → Result Node chain.Refusal → Result Held Refusal → Type 0

@@ -63,7 +63,7 @@ listed_in site p w asked directory cookie room = listed (λ e. shown_entry site 
 -- a directory, and names in the order of their cookies
 pub record IsListable (t : Rows) (directory : Id) : Type 0 where
   pub node : Node
-  pub at : node_at t.nodes directory ≡ Some node
+  pub node_is : node_at t.nodes directory ≡ Some node
   pub kind : is_directory node.kind ≡ true
   pub rise : Rising entry_order t.entries
 

@@ -97,7 +97,7 @@ returns-in-Err-Spent-clause-acts c = λ p rest d holds.
     let fresh = c.in_ok-fresh.fresh in
     let home : fresh.home.0 ≡ d.label = ap (λ (l : Level). l.0) c.in_ok-fresh.ensures.home ∙ holds.tells.label in
     let x = absent_in t c.args.dir.now name c.requires.there d holds in
-    let there = spent t c.insert.new.self (id_of c.args.dir.now.id) d name fresh at.moment (ap (λ (i : Id). node_at t.nodes i) holds.id ∙ holds.at) x.0 x.1 (rw c.in-Err-Spent.field-0-is at c.in-Err-Spent.ensures) in
+    let there = spent t c.insert.new.self (id_of c.args.dir.now.id) d name fresh at.moment (ap (λ (i : Id). node_at t.nodes i) holds.id ∙ holds.node_is) x.0 x.1 (rw c.in-Err-Spent.field-0-is at c.in-Err-Spent.ensures) in
     record {
       outcome =
           ap (operation.open_absent site args at w number d name wanted) c.in-Some.is
@@ -132,7 +132,7 @@ returns-in-Ok-open-clause-acts c = λ p rest d holds.
     let level : c.args.opener.now.client.level.0 ≡ at.subject = ap (λ (l : Level). l.0) c.requires.level in
     let label : c.level_or-label.result.0 ≡ level_or d.label wanted.label = c.level_or-label.ensures ∙ ap (λ (l : ℕ). level_or l wanted.label) holds.tells.label in
     let x = absent_in t c.args.dir.now name c.requires.there d holds in
-    let there = inserted t u (id_of c.args.dir.now.id) d name fresh at.moment (ap (λ (i : Id). node_at t.nodes i) holds.id ∙ holds.at) x.0 x.1 c.in-Ok.made c.in-Ok.ensures in
+    let there = inserted t u (id_of c.args.dir.now.id) d name fresh at.moment (ap (λ (i : Id). node_at t.nodes i) holds.id ∙ holds.node_is) x.0 x.1 c.in-Ok.made c.in-Ok.ensures in
     let n : Node = operation.new_file site at w making wanted d in
     let node : new_node at.moment fresh (next_id t.lasts d.label) ≡ n = c.in_ok-fresh.ensures.node d at w holds label in
     let id : id_of c.in-Ok.made.0 ≡ n.id = ap (λ r. r.0) there.1 ∙ ap (next_id t.lasts) home in
@@ -161,9 +161,9 @@ returns-in-Ok-open-clause-counts c =
     let x : (is_directory d.kind ≡ true) × (is_some (entry_at t.entries d.id c.args.name.now) ≡ false) = (c.requires.there.1.1, c.requires.there.1.2) in
     let fresh = c.in_ok-fresh.fresh in
     let moment = c.args.opener.now.caller.now.moment in
-    let there = inserted t u (id_of c.args.dir.now.id) d c.args.name.now fresh moment (ap (λ (i : Id). node_at t.nodes i) holds.id ∙ holds.at) x.0 x.1 c.in-Ok.made c.in-Ok.ensures in
+    let there = inserted t u (id_of c.args.dir.now.id) d c.args.name.now fresh moment (ap (λ (i : Id). node_at t.nodes i) holds.id ∙ holds.node_is) x.0 x.1 c.in-Ok.made c.in-Ok.ensures in
     subst (λ (rows : List Row). AreTotals rows u.nodes) (sym c.charge_node.ensures)
-    (made_counts c.args.quota.now (site_of c.args.opener.now.site.now).dom t u d c.args.name.now fresh moment c.args.dir.now.facts.label.0 (c.totals.ensures.touched_alike c.args.quota.now) (c.totals.ensures.made c.args.quota.now) c.requires.counts c.requires.facts holds.at x.0
+    (made_counts c.args.quota.now (site_of c.args.opener.now.site.now).dom t u d c.args.name.now fresh moment c.args.dir.now.facts.label.0 (c.totals.ensures.touched_alike c.args.quota.now) (c.totals.ensures.made c.args.quota.now) c.requires.counts c.requires.facts holds.node_is x.0
     (ap (λ (l : Level). l.0) c.in_ok-fresh.ensures.home) there.2)
 
 pub returns-in-Err-open-clause-tree : goal.returns-in-Err-open-clause-tree
@@ -175,7 +175,7 @@ returns-in-Err-open-clause-tree c =
     let x : (is_directory d.kind ≡ true) × (is_some (entry_at t.entries d.id c.args.name.now) ≡ false) = (c.requires.there.1.1, c.requires.there.1.2) in
     let fresh = c.in_ok-fresh.fresh in
     let moment = c.args.opener.now.caller.now.moment in
-    let there = inserted t u (id_of c.args.dir.now.id) d c.args.name.now fresh moment (ap (λ (i : Id). node_at t.nodes i) holds.id ∙ holds.at) x.0 x.1 c.in-Ok.made c.in-Ok.ensures in
+    let there = inserted t u (id_of c.args.dir.now.id) d c.args.name.now fresh moment (ap (λ (i : Id). node_at t.nodes i) holds.id ∙ holds.node_is) x.0 x.1 c.in-Ok.made c.in-Ok.ensures in
     let i : Id = next_id t.lasts fresh.home.0 in
     (Some (record { directory = d.id; inner = name_added moment d.inner; node = new_node moment fresh i; entry = next_entry d c.args.name.now i }), there.2)
 
@@ -188,7 +188,7 @@ returns-in-Err-open-clause-counts c =
     let x : (is_directory d.kind ≡ true) × (is_some (entry_at t.entries d.id c.args.name.now) ≡ false) = (c.requires.there.1.1, c.requires.there.1.2) in
     let fresh = c.in_ok-fresh.fresh in
     let moment = c.args.opener.now.caller.now.moment in
-    let there = inserted t u (id_of c.args.dir.now.id) d c.args.name.now fresh moment (ap (λ (i : Id). node_at t.nodes i) holds.id ∙ holds.at) x.0 x.1 c.in-Ok.made c.in-Ok.ensures in
+    let there = inserted t u (id_of c.args.dir.now.id) d c.args.name.now fresh moment (ap (λ (i : Id). node_at t.nodes i) holds.id ∙ holds.node_is) x.0 x.1 c.in-Ok.made c.in-Ok.ensures in
     subst (λ (rows : List Row). AreTotals rows u.nodes) (sym c.charge_node.ensures)
-    (made_counts c.args.quota.now (site_of c.args.opener.now.site.now).dom t u d c.args.name.now fresh moment c.args.dir.now.facts.label.0 (c.totals.ensures.touched_alike c.args.quota.now) (c.totals.ensures.made c.args.quota.now) c.requires.counts c.requires.facts holds.at x.0
+    (made_counts c.args.quota.now (site_of c.args.opener.now.site.now).dom t u d c.args.name.now fresh moment c.args.dir.now.facts.label.0 (c.totals.ensures.touched_alike c.args.quota.now) (c.totals.ensures.made c.args.quota.now) c.requires.counts c.requires.facts holds.node_is x.0
     (ap (λ (l : Level). l.0) c.in_ok-fresh.ensures.home) there.2)

@@ -49,7 +49,7 @@ returns-in-Ok-clause-counts c =
     (subst (λ (label : ℕ). AreTotals (moved rows label level c.args.bytes) u.nodes) (sym x.1.tells.label)
     (subst (λ (bytes : ℕ). AreTotals (moved rows n.label level bytes) u.nodes) (sym (c.requires.bytes t n x.1))
     (subst (λ (r : Rows). AreTotals (moved rows n.label level (bytes_of n n.kind)) r.nodes) (sym done.1)
-    (c.totals.ensures.relabelled rows n.id level (attributes_changed at.moment n.inner) n (world_of t) c.requires.counts x.1.at (same_bytes n (attributes_changed at.moment n.inner) refl)))))
+    (c.totals.ensures.relabelled rows n.id level (attributes_changed at.moment n.inner) n (world_of t) c.requires.counts x.1.node_is (same_bytes n (attributes_changed at.moment n.inner) refl)))))
 
 pub returns-in-Ok-clause-limits : goal.returns-in-Ok-clause-limits
 returns-in-Ok-clause-limits c = ap (map limits_of) c.move_up.ensures ∙ moved_limits c.args.quota.now c.args.held.now.facts.label.0 c.args.level.0 c.args.bytes
@@ -65,7 +65,7 @@ returns-in-Err-clause-acts c = λ n p rest opens set holds.
     let other : (level == n.label) ≡ false = sym (ap (λ (l : ℕ). level == l) holds.tells.label) ∙ c.requires.other in
     record {
       outcome =
-          raised_full at (with_files rest t opens) n level set other (full c.requires.facts.0 t c.requires.facts.1 n holds.at not.0)
+          raised_full at (with_files rest t opens) n level set other (full c.requires.facts.0 t c.requires.facts.1 n holds.node_is not.0)
           ∙ ap (λ (r : Refusal). refuse {R = Bitmap} at r.gate r.status) (sym c.namespace.ensures);
       tree = not.1;
       opens = refl;

@@ -30,7 +30,7 @@ check_move-requires c =
     record {
       held =
           subst (λ (bytes : ℕ). h.facts.label.0 < length rows → bytes ≤ (row_at rows h.facts.label.0).bytes) (sym (c.counted_bytes-bytes.ensures t x.0 x.1))
-          (subst (λ (l : ℕ). l < length rows → bytes_of x.0 x.0.kind ≤ (row_at rows l).bytes) (sym x.1.tells.label) (c.totals.ensures.held_bytes rows t.nodes x.0.id x.0 c.requires.counts x.1.at));
+          (subst (λ (l : ℕ). l < length rows → bytes_of x.0 x.0.kind ≤ (row_at rows l).bytes) (sym x.1.tells.label) (c.totals.ensures.held_bytes rows t.nodes x.0.id x.0 c.requires.counts x.1.node_is));
     }
 
 pub put_level-requires : goal.put_level-requires

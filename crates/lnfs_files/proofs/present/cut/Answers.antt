@@ -13,7 +13,7 @@ returns-clause-counts c =
     let n : Node = c.requires.there.0 in
     let holds = c.requires.there.1 in
     let file : n.kind ≡ File = sym holds.tells.kind ∙ c.requires.file in
-    let at : node_at t.nodes (id_of c.args.held.now.id) ≡ Some n = ap (λ (i : Id). node_at t.nodes i) holds.id ∙ holds.at in
+    let at : node_at t.nodes (id_of c.args.held.now.id) ≡ Some n = ap (λ (i : Id). node_at t.nodes i) holds.id ∙ holds.node_is in
     subst (λ (rows : List Row). AreTotals rows u.nodes) (sym c.resize.ensures)
     (counts_cut c.args.quota.now t u n c.args.held.now c.args.moment (λ i inner m w totals at. c.totals.ensures.touched c.args.quota.now i inner m w totals at) holds file c.requires.counts
     (is_cut t u (id_of c.args.held.now.id) n c.args.moment at file c.in-Ok.field-0 c.in-Ok.ensures.does))

@@ -38,7 +38,7 @@ returns-clause-counts c =
     let done : u ≡ ran (Touch n.id inner ∷ []) t =
     sized_so t u (id_of h.id) n at.moment (found t n h x.1) c.args.size (held_kind t n h x.1 c.requires.file) (up_to c.args.size MOST_BYTES c.requires.fits) c.set_size-done.result c.set_size-done.ensures.calm c.set_size-done.ensures.does in
     subst (λ (rows : List Row). AreTotals rows u.nodes) (sym c.resize.ensures)
-    (sized_totals rows t u n h x.1 at.moment c.args.size c.requires.file done (c.totals.ensures.touched rows n.id inner n (world_of t) c.requires.counts x.1.at))
+    (sized_totals rows t u n h x.1 at.moment c.args.size c.requires.file done (c.totals.ensures.touched rows n.id inner n (world_of t) c.requires.counts x.1.node_is))
 
 pub returns-clause-limits : goal.returns-clause-limits
 returns-clause-limits c = ap (map limits_of) c.resize.ensures ∙ resized_limits c.args.quota.now c.args.held.now.facts.label.0 c.args.held.now.facts.size c.args.size

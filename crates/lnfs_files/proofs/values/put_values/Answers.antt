@@ -27,7 +27,7 @@ put_mode-requires c =
         | in-Some w ↦
             ap (λ (r : Rows). is_some (node_at r.nodes (id_of h.id))) w.tree-is
             ∙ ap (λ (i : Id). is_some (node_at w.put_size.new.tree.nodes i)) x.1.id
-            ∙ ap (λ (o : Option Node). is_some o) (still_there t w.put_size.new.tree n (size_set at n (Some w.in-Some.size)) (w.put_size.ensures.done n some_place x.1) x.1.at)
+            ∙ ap (λ (o : Option Node). is_some o) (still_there t w.put_size.new.tree n (size_set at n (Some w.in-Some.size)) (w.put_size.ensures.done n some_place x.1) x.1.node_is)
         | in_default w ↦
             ap (λ (r : Rows). is_some (node_at r.nodes (id_of h.id))) w.tree-is
             ∙ ap (λ (o : Option Node). is_some o) (found t n h x.1)
@@ -45,7 +45,7 @@ returns-in-Some-mode-clause-done c = λ n p rest opens holds.
     let done : v ≡ ran (Touch n.id (mode_set at (Some mode) (size_set at n c.args.size)) ∷ []) t = elim c.match-size.branch [
       | in-Some w ↦
           subst (λ (size : Option ℕ). v ≡ ran (Touch n.id (mode_set at (Some mode) (size_set at n size)) ∷ []) t) (sym w.in-Some.is)
-          (size_then_mode at t n u v (id_of h.id) w.in-Some.size mode holds.id holds.at (w.tree-is ∙ w.put_size.ensures.done n p holds) (λ m e. c.put_mode.ensures.done m p e))
+          (size_then_mode at t n u v (id_of h.id) w.in-Some.size mode holds.id holds.node_is (w.tree-is ∙ w.put_size.ensures.done n p holds) (λ m e. c.put_mode.ensures.done m p e))
       | in_default w ↦
           subst (λ (size : Option ℕ). v ≡ ran (Touch n.id (mode_set at (Some mode) (size_set at n size)) ∷ []) t) (sym w.in_default.is)
           (c.put_mode.ensures.done n p (ap (λ (r : Rows). node_at r.nodes (id_of h.id)) w.tree-is ∙ found t n h holds)

@@ -31,7 +31,7 @@ byte_room-requires c =
     record {
       held = λ known.
           subst (λ (old : ℕ). old ≤ (row_at c.args.quota.now h.facts.label.0).bytes) (sym c.len-old.ensures.value)
-          (held_room c.args.quota.now t x.0 h c.in-Ok.file.now x.1 (file_is t x.0 h c.in-Ok.file.now x.1 c.in-Ok.ensures) (c.totals.ensures.held_bytes c.args.quota.now t.nodes x.0.id x.0 c.requires.counts x.1.at) known);
+          (held_room c.args.quota.now t x.0 h c.in-Ok.file.now x.1 (file_is t x.0 h c.in-Ok.file.now x.1 c.in-Ok.ensures) (c.totals.ensures.held_bytes c.args.quota.now t.nodes x.0.id x.0 c.requires.counts x.1.node_is) known);
     }
 
 pub returns-then-not-branch-clause-acts : goal.returns-then-not-branch-clause-acts
@@ -88,4 +88,4 @@ returns-in-Ok-write-clause-counts c =
     (subst (λ (label : ℕ). AreTotals (resized c.args.quota.now label c.len-old.result c.in-Some.size) u.nodes) (sym x.1.tells.label)
     (subst (λ (size : ℕ). AreTotals (resized c.args.quota.now n.label size c.in-Some.size) u.nodes) (sym old)
     (subst (λ (size : ℕ). AreTotals (resized c.args.quota.now n.label (length n.inner.content) size) u.nodes) (sym f.1)
-    (written_totals c.args.quota.now t u n c.requires.counts x.1.at is.kind at args (λ inner. c.totals.ensures.touched c.args.quota.now n.id inner n (world_of t) c.requires.counts x.1.at) done))))
+    (written_totals c.args.quota.now t u n c.requires.counts x.1.node_is is.kind at args (λ inner. c.totals.ensures.touched c.args.quota.now n.id inner n (world_of t) c.requires.counts x.1.node_is) done))))

@@ -81,7 +81,7 @@ returns-in-Ok-insert-clause-acts c = λ p rest.
     name_taken site what name given at rest t h x child c.in-Ok-node_held.ensures (rw c.in-Ok.is at c.in_ok-asked.ensures) c.level_or-child.ensures
     (λ (o : Outcome (Answer Made)). Succeeds (created_of it) (record at { current = Some (id_of it.node) }) rest t u o) c.in_default.ensures
     (λ d holds directory subject absent.
-    let there = inserted t u (id_of h.id) d name fresh at.moment (ap (λ (i : Id). node_at t.nodes i) holds.id ∙ holds.at) directory absent c.in-Ok-insert.made c.in-Ok-insert.ensures in
+    let there = inserted t u (id_of h.id) d name fresh at.moment (ap (λ (i : Id). node_at t.nodes i) holds.id ∙ holds.node_is) directory absent c.in-Ok-insert.made c.in-Ok-insert.ensures in
     subst (λ (o : Outcome (Answer Made)). Succeeds (created_of it) (record at { current = Some (id_of it.node) }) rest t u o)
     (sym (with_space site what name given at rest t h x child c.in-Ok-node_held.ensures (rw c.in-Ok.is at c.in_ok-asked.ensures) c.level_or-child.ensures
     (with_tree rest t) d (all_room site at rest t d c.args.room c.requires.room subject c.if-not-room.false fresh.home.0 (home ∙ holds.tells.label) there.0)))
@@ -106,7 +106,7 @@ returns-in-Err-Spent-clause-acts c = λ p rest.
     name_taken site what name given at rest t h x child c.in-Ok-node_held.ensures (rw c.in-Ok.is at c.in_ok-asked.ensures) c.level_or-child.ensures
     (λ (o : Outcome (Answer Made)). Refuses why at t u o) c.in_default.ensures
     (λ d holds directory subject absent.
-    let there = spent t u (id_of h.id) d name fresh at.moment (ap (λ (i : Id). node_at t.nodes i) holds.id ∙ holds.at) directory absent (rw c.in-Err-Spent.field-0-is at c.in-Err-Spent.ensures) in
+    let there = spent t u (id_of h.id) d name fresh at.moment (ap (λ (i : Id). node_at t.nodes i) holds.id ∙ holds.node_is) directory absent (rw c.in-Err-Spent.field-0-is at c.in-Err-Spent.ensures) in
     record {
       outcome =
           no_space site what name given at rest t h x child c.in-Ok-node_held.ensures (rw c.in-Ok.is at c.in_ok-asked.ensures) c.level_or-child.ensures
