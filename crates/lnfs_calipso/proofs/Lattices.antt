@@ -24,8 +24,8 @@ all_dominate labels are a =
     past : (a b : Label) → a ≡ b → dominates a b ≡ true
     past a b e = subst (λ (x : Label). dominates a x ≡ true) e (dominates-reflexive a)
 
-pub lattice_of : (labels : List Label) → AreLevels labels → IsPreorderWithBottom (dom_of labels)
-lattice_of labels are = record {
+pub preorder_of : (labels : List Label) → AreLevels labels → IsPreorderWithBottom (dom_of labels)
+preorder_of labels are = record {
   reflexive = λ a. dominates-reflexive (label_at labels a);
   transitive = λ a b c. dominates-transitive (label_at labels a) (label_at labels b) (label_at labels c);
   bottom = all_dominate labels are;
