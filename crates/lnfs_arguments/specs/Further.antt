@@ -1,5 +1,5 @@
 -- A further grammar: operations beside those of the table. The arguments of each are one item, whose length is told by all the bytes that are left.
-use Rattle.std.specs.Prelude.{◌≡◌, ℕ, ◌≤◌, Bool, true, false, List, [], ◌∷◌, length, Result, Ok, Err, ◌==◌, ◌||◌}
+use Rattle.std.specs.Prelude.{◌≡◌, ℕ, ◌≤◌, Bool, true, false, List, [], ◌∷◌, Result, Err, ◌==◌, ◌||◌}
 use Rattle.lnfs_xdr.specs.declared.error.XdrError.{XdrError}
 use Rattle.lnfs_xdr.specs.declared.error.XdrError.TheVariants.{Short}
 use Rattle.lnfs_xdr.specs.Format.{Format, Done, when◌then◌else◌}
@@ -24,8 +24,6 @@ pub record IsLawful (x : Further) : Type 0 where
   -- its operations have numbers of minor version 2 that the table has none of
   pub numbered : (number : ℕ) → x.serves number ≡ true → is_operation number ≡ true
   pub beside : (number : ℕ) → x.serves number ≡ true → listed table number ≡ false
-  -- arguments are among the bytes that are left
-  pub within : (number : ℕ) (bytes : List ℕ) (n : ℕ) → x.measure number bytes ≡ Ok n → n ≤ length bytes
   -- a result has at least its number and its status
   pub room : (number : ℕ) (args : List ℕ) → 8 ≤ x.bound number args
 

@@ -2,16 +2,14 @@
 use Rattle.std.proofs.Common.{◌≡◌, ℕ, ◌≤◌, Bool, true, false, eqb, List, [], ◌∷◌, refl, ap, ◌∙◌, arith}
 use Rattle.std.specs.Prelude.{◌||◌}
 use Rattle.std.proofs.lemmas.Bool.{eqb-true}
-use Rattle.lnfs_xdr.proofs.Lengths.{length_within}
 use Rattle.lnfs_arguments.specs.Numbers.{is_operation}
 use Rattle.lnfs_arguments.specs.Grammar.{table}
-use Rattle.lnfs_arguments.specs.Further.{IsLawful, listed, Blocks, block_of, AreFree, further_of, nothing_further}
+use Rattle.lnfs_arguments.specs.Further.{IsLawful, listed, Blocks, AreFree, further_of, nothing_further}
 
 pub nothing_further_is_lawful : IsLawful nothing_further
 nothing_further_is_lawful = record {
   numbered = λ number e. absurd cc;
   beside = λ number e. absurd cc;
-  within = λ number bytes n e. absurd cc;
   room = λ number args. omega arith;
 }
 
@@ -32,6 +30,5 @@ pub blocks_are_lawful : (blocks : Blocks) (bound : ℕ → List ℕ → ℕ) →
 blocks_are_lawful blocks bound free room = record {
   numbered = λ number on. numbered blocks free number on;
   beside = λ number on. beside blocks free number on;
-  within = λ number bytes n e. length_within (block_of blocks number) bytes n e;
   room = room;
 }

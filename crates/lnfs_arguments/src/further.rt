@@ -6,8 +6,7 @@ use lnfs_xdr::XdrError;
 /// Operations beside those of the table. The arguments of each count as one item.
 ///
 /// The calls answer fixed functions of the type and of their arguments. Their laws: the numbers are
-/// of minor version 2, from 3 to 71, and none of the table; arguments are among the bytes that are
-/// left; a result's bound is at least 8.
+/// of minor version 2, from 3 to 71, and none of the table; a result's bound is at least 8.
 ///
 /// Operations whose arguments are formats, as those of the table are, make a lawful grammar by
 /// `further_of`: `length` reads the format, and answers how many bytes were read or the fault.
