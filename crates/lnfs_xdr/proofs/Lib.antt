@@ -8,6 +8,5 @@ pub mod Accepting
 pub mod Messages
 pub mod Loops
 pub mod Spelled
-pub mod Lengths
 pub mod Linking
 pub mod Sizes
