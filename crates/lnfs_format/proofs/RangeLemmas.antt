@@ -25,7 +25,7 @@ one_between : (h : Bool) (low n c : ℕ) → low ≤ n → ((h || (leb low c && 
 one_between true low n c l = refl
 one_between false low n c l = grind (arith, nat_tests)
 
-true_and : (x y : Bool) → x ≡ true → (x && y) ≡ y
+pub true_and : (x y : Bool) → x ≡ true → (x && y) ≡ y
 true_and true y e = refl
 true_and false y e = absurd (false≢true e)
 

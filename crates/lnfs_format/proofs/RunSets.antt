@@ -1,6 +1,6 @@
 -- Which numbers are in the runs of a list.
 use Rattle.std.proofs.Common.{◌≡◌, ℕ, ◌+◌, ◌<◌, ◌≤◌, ◌&&◌, ◌||◌, Bool, true, false, eqb, ltb, leb, List, [], ◌∷◌, refl, sym, ap, ◌∙◌, subst, arith, inl, inr}
-use Rattle.std.proofs.lemmas.Bool.{cases_Bool, cond-true, cond-false, eqb-true, eq-eqb, lt-ltb, or_left, or_right, false≢true}
+use Rattle.std.proofs.lemmas.Bool.{cases_Bool, cond-true, cond-false, eqb-true, eq-eqb, lt-ltb, or_left, or_right}
 use Rattle.std.proofs.lemmas.Bool.Decides.{nat_tests}
 use Rattle.lnfs_calipso.specs.Label.{Label, IsLabel, has_comp, compartments}
 use Rattle.lnfs_calipso.specs.Members.{has_comp-compartments}
@@ -8,6 +8,7 @@ use Rattle.lnfs_calipso.proofs.Members.{has_comp-below, compartments-agree, no_c
 use Rattle.lnfs_calipso.specs.Equality.{same_parts}
 use Rattle.lnfs_format.specs.Text.{Run, join, runs_of}
 use Rattle.lnfs_format.specs.Reading.{with_range}
+use Rattle.lnfs_format.proofs.RangeLemmas.{true_and}
 use Rattle.lnfs_format.proofs.TextLaws.{Ordered, with_runs}
 
 -- whether a number is in one of the runs
@@ -67,10 +68,6 @@ in_runs-runs_of [] h c = refl
 in_runs-runs_of (d ∷ comps) h c =
     let h' : (c : ℕ) → has_comp comps c ≡ true → c < 256 = λ e i. h e (or_right (eqb d e) (has_comp comps e) i) in
     in_runs-join d (runs_of comps) (ordered-runs_of comps h') c ∙ ap (λ b. eqb d c || b) (in_runs-runs_of comps h' c)
-
-true_and : (x y : Bool) → x ≡ true → (x && y) ≡ y
-true_and true y e = refl
-true_and false y e = absurd (false≢true e)
 
 or_false : (x : Bool) → (x || false) ≡ x
 or_false true = refl
