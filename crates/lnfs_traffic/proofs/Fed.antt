@@ -1,5 +1,5 @@
 -- What a reader gives of the bytes that were fed.
-use Rattle.std.proofs.Common.{◌≡◌, ◌⊎◌, ℕ, ◌+◌, ◌-◌, ◌<◌, ◌≤◌, Bool, true, false, List, [], ◌∷◌, ◌++◌, length, take, drop, Result, Ok, Err, refl, sym, ap, subst, ◌∙◌, inl, inr, arith, append_assoc, append-nil, length-append, nat_eq, MatchResult}
+use Rattle.std.proofs.Common.{◌≡◌, ℕ, ◌+◌, ◌-◌, ◌<◌, ◌≤◌, Bool, true, false, List, [], ◌∷◌, ◌++◌, length, take, drop, Result, Ok, Err, refl, sym, ap, subst, ◌∙◌, inl, inr, arith, append_assoc, append-nil, length-append, nat_eq, MatchResult}
 use Rattle.std.specs.Result.{IsErr}
 use Rattle.std.specs.Str.{bytes_eq}
 use Rattle.std.specs.Cmp.Lexicographic.{same_text, bytes_decides}
@@ -19,7 +19,7 @@ use Rattle.lnfs_traffic.specs.Pieces.{Reads, IsBroken, Finishes, first_stage, st
 use Rattle.lnfs_traffic.specs.declared.error.TrafficError.{TrafficError}
 use Rattle.lnfs_traffic.specs.declared.error.TrafficError.TheVariants as error
 use Rattle.lnfs_traffic.proofs.Cutting.{cut, left_length}
-use Rattle.lnfs_traffic.proofs.Fronts.{parts_some}
+use Rattle.lnfs_traffic.proofs.Fronts.{outcome, parts_some}
 use Rattle.lnfs_traffic.proofs.Whole.{begun, given, recording_none, recording_more, all_events, read_damaged}
 use Rattle.lnfs_traffic.proofs.Steady.{Damaged, damage_err, stays, not_nothing}
 
@@ -189,10 +189,6 @@ whole_end fed events place rest none b = subst (IsRecording events) (sym (b.part
 same_end : (xs ys : List Event) → xs ≡ xs ++ ys → ys ≡ []
 same_end [] ys e = sym e
 same_end (x ∷ xs) ys e = same_end xs ys cc
-
-outcome : {A S : Type 0} (r : Result A S) → ((x : A) × (r ≡ Ok x)) ⊎ IsErr r
-outcome (Ok x) = inl (x, refl)
-outcome (Err s) = inr refl
 
 begins_none : (rest : List ℕ) → (parts_of rest).events ≡ [] → IsErr (read event rest)
 begins_none rest e = elim (outcome (read event rest)) [

@@ -89,7 +89,7 @@ pub record Front (bytes : List ℕ) (p : Parts) : Type 0 where
   pub spelled : Spells (times (length p.events) event) p.events front
   pub parts : bytes ≡ front ++ p.rest
 
-outcome : {A S : Type 0} (r : Result A S) → ((x : A) × (r ≡ Ok x)) ⊎ IsErr r
+pub outcome : {A S : Type 0} (r : Result A S) → ((x : A) × (r ≡ Ok x)) ⊎ IsErr r
 outcome (Ok x) = inl (x, refl)
 outcome (Err s) = inr refl
 
