@@ -18,7 +18,7 @@ use Rattle.lnfs_open.specs.Listed.{id_of}
 use Rattle.lnfs_open.specs.Groups.{place_cmp}
 use Rattle.lnfs_open.proofs.Places.{front}
 
-abbrev Places : Type 0
+abbrev pub Places : Type 0
 Places = List (Place × Unit {0})
 
 -- the first places, up to one of another group

@@ -18,9 +18,7 @@ use Rattle.lnfs_open.specs.Groups.{place_cmp, place_of, holds}
 use Rattle.lnfs_open.specs.Indexed.{own_id, open_at, passes}
 use Rattle.lnfs_open.specs.Sharing.{has_any, conflicts, is_denied}
 use Rattle.lnfs_open.proofs.Places.{place_same}
-
-abbrev Places : Type 0
-Places = List (Place × Unit {0})
+use Rattle.lnfs_open.proofs.Runs.{Places}
 
 same_place : (p q : Place) → is_eq (place_cmp p q) ≡ (same_id (id_of p.group) (id_of q.group) && same_id (id_of p.id) (id_of q.id))
 same_place p q = place_same (id_of p.group) (id_of p.id) (id_of q.group) (id_of q.id)
