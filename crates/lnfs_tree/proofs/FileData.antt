@@ -16,10 +16,11 @@ use Rattle.lnfs_tree.specs.declared.store.Node.{Node}
 use Rattle.lnfs_tree.specs.Rows.{Rows, id_of, kind_of, of_file, on_file, file_found, read_found, Gives}
 use Rattle.lnfs_tree.specs.Held.{is_node, node_at, file_in, with_names_step, with_size, with_written}
 use Rattle.lnfs_tree.specs.Flat.{row_of, rows_in, content_of, IsTree}
-use Rattle.lnfs_tree.specs.Changed.{Doing, Does, test, sets_data, set_size_of, writes, write_of}
+use Rattle.lnfs_tree.specs.Changed.{test, sets_data, set_size_of, writes, write_of}
 use Rattle.lnfs_tree.proofs.Flat.{node_at-rows, found_id}
 use Rattle.lnfs_tree.proofs.Touched.{IsPlain, tree-set, rows_in-set}
 use Rattle.lnfs_tree.proofs.Chains.{done, refused, row_found}
+use Rattle.lnfs_tree.proofs.Settings.{Sets}
 
 -- ---- a file that is looked for
 module _ (ns : List Node) (i : Id) where
@@ -109,9 +110,6 @@ module _ (f : List ℕ → List ℕ) (at : Moment) (i : Id) (ns now : List Node)
         ap (λ (ns : List Node). rows_in ns lasts) set
         ∙ rows_in-set (with_bytes f at) (plain f at) i (set_row (f (row_of n).inner.content)) ns lasts n (file_there ns i n file).0 row_set
         ∙ ap (λ (j : Id). record (rows_in ns lasts) { nodes = updated (λ r. same_id j r.id) (set_row (f (row_of n).inner.content)) (map row_of ns) }) (found_id i ns n (file_there ns i n file).0)
-
-abbrev Sets : Result (Doing (Unit {0})) TreeError → (before after : Rows) → Result (Unit {0}) TreeError → Type 0
-Sets told before after result = Does (λ u. u) told before after result
 
 pub size_tree : (size : ℕ) (at : Moment) (i : Id) (ns now : List Node) → now ≡ updated (is_node i) (with_size size at) ns → IsTree ns → IsTree now
 size_tree size at = tree_set (sized size) at
