@@ -5,6 +5,7 @@ use Rattle.std.proofs.lemmas.List.Quantifiers.{position-Some}
 use Rattle.lnfs_calipso.specs.Label.{Label, lowest}
 use Rattle.lnfs_calipso.specs.Same as same
 use Rattle.lnfs_rpc.specs.declared.authsys.Sys.{Sys}
+use Rattle.lnfs_rpc.specs.declared.numbers.TheConstants.{PROC_COMPOUND}
 use Rattle.lnfs_rpc.specs.Calls.{CallMessage}
 use Rattle.lnfs_rpc.specs.Sys.{sys_of}
 use Rattle.lnfs_format.specs.declared.formats.FormatEntry.{FormatEntry}
@@ -19,7 +20,7 @@ use Rattle.lnfs_policy.specs.Policy.{Policy, dominance, parent_at}
 use Rattle.lnfs_gss3.specs.declared.caller.Caller.{Caller}
 use Rattle.lnfs_gss3.specs.declared.caller.Caller.TheVariants.{Null, Nobody, Create}
 use Rattle.lnfs_gss3.specs.declared.handle.ContextHandle.{ContextHandle}
-use Rattle.lnfs_gss3.specs.declared.numbers.TheConstants.{PROC_NULL, PROC_COMPOUND, AUTH_NONE, AUTH_SYS, AUTH_TOOWEAK, RPCSEC_GSS_LABEL_PROBLEM, RPCSEC_GSS, RPCSEC_GSS_DATA, RPCSEC_GSS_DESTROY, RPCSEC_GSS_CREATE, INTEGRITY}
+use Rattle.lnfs_gss3.specs.declared.numbers.TheConstants.{PROC_NULL, AUTH_NONE, AUTH_SYS, AUTH_TOOWEAK, RPCSEC_GSS_LABEL_PROBLEM, RPCSEC_GSS, RPCSEC_GSS_DATA, RPCSEC_GSS_DESTROY, RPCSEC_GSS_CREATE, INTEGRITY}
 use Rattle.lnfs_gss3.specs.Mechanism.{Signing}
 use Rattle.lnfs_gss3.specs.Grammar.{whole, Credential, credential, context_handle, parent_handle, Assertion, create_args}
 use Rattle.lnfs_gss3.specs.Who.{demand, where_there, guest_in, guest, guest_of, not_known, is_signed, body_under, Named, named_by, named_in, named, Held, is_cleared, held_by, held_in, held, asserted, create, in_context, destroy, by_procedure, by_gss, who, level_of}

@@ -1,6 +1,7 @@
 -- Who a call comes from, and of which level: a matter of its bytes, its class and the policy alone.
 use Rattle.std.specs.Prelude.{◌≡◌, ℕ, ◌==◌, ◌&&◌, nat_lt, Bool, cond, List, length, Option, Some, None, Result, Ok, Err}
 use Rattle.lnfs_rpc.specs.declared.authsys.Sys.{Sys}
+use Rattle.lnfs_rpc.specs.declared.numbers.TheConstants.{PROC_COMPOUND}
 use Rattle.lnfs_rpc.specs.Calls.{CallMessage}
 use Rattle.lnfs_rpc.specs.Sys.{sys_of}
 use Rattle.lnfs_format.specs.declared.formats.ReadError.{ReadError}
@@ -12,7 +13,7 @@ use Rattle.lnfs_policy.specs.Policy.{Policy, dominance, guest_level, parent_at}
 use Rattle.lnfs_gss3.specs.declared.caller.Caller.{Caller}
 use Rattle.lnfs_gss3.specs.declared.caller.Caller.TheVariants.{Null, Nobody, Garbage, Guest, Create, Data, Destroy}
 use Rattle.lnfs_gss3.specs.declared.handle.ContextHandle.{ContextHandle}
-use Rattle.lnfs_gss3.specs.declared.numbers.TheConstants.{PROC_NULL, PROC_COMPOUND, AUTH_NONE, AUTH_SYS, RPCSEC_GSS, AUTH_BADCRED, AUTH_TOOWEAK, RPCSEC_GSS_CREDPROBLEM, RPCSEC_GSS_LABEL_PROBLEM, RPCSEC_GSS_DATA, RPCSEC_GSS_DESTROY, RPCSEC_GSS_CREATE, INTEGRITY}
+use Rattle.lnfs_gss3.specs.declared.numbers.TheConstants.{PROC_NULL, AUTH_NONE, AUTH_SYS, RPCSEC_GSS, AUTH_BADCRED, AUTH_TOOWEAK, RPCSEC_GSS_CREDPROBLEM, RPCSEC_GSS_LABEL_PROBLEM, RPCSEC_GSS_DATA, RPCSEC_GSS_DESTROY, RPCSEC_GSS_CREATE, INTEGRITY}
 use Rattle.lnfs_gss3.specs.Mechanism.{Signing}
 use Rattle.lnfs_gss3.specs.Grammar.{whole, Credential, credential, context_handle, parent_handle, Body, body, Assertion, create_args}
 

@@ -9,9 +9,6 @@ pub const CONTEXTS_OF_A_LEVEL: u32 = 1_024;
 /// NULL, with which contexts are made and ended.
 pub const PROC_NULL: u32 = 0;
 
-/// COMPOUND, the procedure that a context is for.
-pub const PROC_COMPOUND: u32 = 1;
-
 /// The flavor AUTH_NONE.
 pub const AUTH_NONE: u32 = 0;
 

@@ -9,11 +9,9 @@ use crate::handle::ContextHandle;
 use crate::mechanism::Mechanism;
 use crate::numbers::{LABEL, SIGNATURE};
 use lnfs_policy::Parent;
+use lnfs_rpc::REPLY;
 use lnfs_xdr::XdrWriter;
 use std::alloc::{AllocError, Global};
-
-/// `msg_type` of a reply (RFC 5531 section 9).
-const REPLY: u32 = 1;
 
 /// The bytes of a transaction's number, and of it with the `msg_type`.
 const XID: usize = 4;

@@ -11,16 +11,15 @@ use crate::guests::{guest, guest_of};
 use crate::held::{Named, context_named, parent_named};
 use crate::mechanism::Mechanism;
 use crate::numbers::{
-    AUTH_NONE, AUTH_SYS, AUTH_TOOWEAK, INTEGRITY, PROC_COMPOUND, PROC_NULL, RPCSEC_GSS,
-    RPCSEC_GSS_CREATE, RPCSEC_GSS_CREDPROBLEM, RPCSEC_GSS_DATA, RPCSEC_GSS_DESTROY,
-    RPCSEC_GSS_LABEL_PROBLEM,
+    AUTH_NONE, AUTH_SYS, AUTH_TOOWEAK, INTEGRITY, PROC_NULL, RPCSEC_GSS, RPCSEC_GSS_CREATE,
+    RPCSEC_GSS_CREDPROBLEM, RPCSEC_GSS_DATA, RPCSEC_GSS_DESTROY, RPCSEC_GSS_LABEL_PROBLEM,
 };
 use crate::signing::{SignedBody, body_under, is_signed};
 use lnfs_format::{Codecs, ReadError};
 use lnfs_lists::Octets;
 use lnfs_monitor::dominates;
 use lnfs_policy::{Mode, Policy};
-use lnfs_rpc::Call;
+use lnfs_rpc::{Call, PROC_COMPOUND};
 use std::alloc::{AllocError, Global};
 
 /// The credential, its handle, its parent or the verifier isn't good.

@@ -16,6 +16,9 @@ mod streams;
 pub use authsys::{Sys, read_sys};
 pub use calls::{Auth, Call, CallError, read_call};
 pub use framing::frame;
+pub use numbers::{
+    CALL, NFS_PROGRAM, NFS_VERSION, PROC_COMPOUND, PROG_MISMATCH, REPLY, RPC_VERSION,
+};
 pub use promises::{
     call_grammar, credential_grammar, reply_grammar, stream_ends, stream_grammar, written_reply,
 };

@@ -6,12 +6,13 @@ use Rattle.lnfs_lists.specs.declared.limits.TheConstants.{RECORD_LIMIT}
 use Rattle.lnfs_xdr.specs.Format.{padding}
 use Rattle.lnfs_xdr.specs.Canon.{word, padded, opaque}
 use Rattle.lnfs_xdr.proofs.Sizes.{length-word, length-opaque}
+use Rattle.lnfs_rpc.specs.declared.numbers.TheConstants.{PROG_MISMATCH, NFS_VERSION}
 use Rattle.lnfs_rpc.specs.Replies.{accepted, reply_text, head_text}
 use Rattle.lnfs_policy.specs.declared.rows.Parent.{Parent}
 use Rattle.lnfs_gss3.specs.Mechanism.{Signing, IsSized}
 use Rattle.lnfs_gss3.specs.Grammar.{databody, signed_text}
 use Rattle.lnfs_gss3.specs.Replies.{replied}
-use Rattle.lnfs_step.specs.declared.numbers.TheConstants.{SUCCESS, PROG_MISMATCH, NFS_VERSION}
+use Rattle.lnfs_step.specs.declared.numbers.TheConstants.{SUCCESS}
 use Rattle.lnfs_step.specs.Wrapping.{Wrapping, Plain, Signed, verifier_in, wrapped_in, answer_text, bare_text, Cause, caller, called, version, results_for, refusal_text}
 
 empty_length : length (opaque []) ≡ 4

@@ -6,19 +6,9 @@ ghost use Rattle.lnfs_traffic.specs.Generated.{credential, no_verifier};
 
 use lnfs_arguments::numbers::{AUTH_NONE, AUTH_SYS};
 use lnfs_requests::put_sys;
+use lnfs_rpc::{CALL, NFS_PROGRAM, NFS_VERSION, PROC_COMPOUND, RPC_VERSION};
 use lnfs_xdr::XdrWriter;
 use std::alloc::{AllocError, Global};
-
-/// `msg_type` of a call.
-const CALL: u32 = 0;
-
-const RPC_VERSION: u32 = 2;
-/// NFS (RFC 7530 section 17).
-const NFS_PROGRAM: u32 = 100003;
-
-const NFS_VERSION: u32 = 4;
-
-const PROC_COMPOUND: u32 = 1;
 
 const MACHINE: &[u8] = b"gen";
 

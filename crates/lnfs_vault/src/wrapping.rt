@@ -10,8 +10,8 @@ use crate::request::{Cause, Wrapping};
 use lnfs_gss3::numbers::{AUTH_NONE, RPCSEC_GSS, SIGNATURE};
 use lnfs_gss3::{Mechanism, append_signed, begin_databody, reply_mic};
 use lnfs_lists::Octets;
-use lnfs_rpc::{Auth, Head, begin_reply, write_reply};
-use lnfs_step::numbers::{NFS_VERSION, PROG_MISMATCH, SUCCESS};
+use lnfs_rpc::{Auth, Head, NFS_VERSION, PROG_MISMATCH, begin_reply, write_reply};
+use lnfs_step::numbers::SUCCESS;
 use lnfs_xdr::XdrWriter;
 use std::alloc::{AllocError, Global};
 
