@@ -1,5 +1,5 @@
 //! The numbers of operations (RFC 8881 section 18, RFC 7862 section 15) and of the arms of their
-//! unions, and the bounds of fields. They stand here alone.
+//! unions, and the bounds of fields. They stand here alone, but for flavors, which `lnfs_xdr` has.
 
 use lnfs_lists::RECORD_LIMIT;
 
@@ -106,9 +106,3 @@ pub const CLAIM_NULL: u32 = 0;
 pub const CLAIM_FH: u32 = 4;
 /// `state_protect_how4`: none.
 pub const SP4_NONE: u32 = 0;
-/// `auth_flavor` of a callback.
-pub const AUTH_NONE: u32 = 0;
-
-pub const AUTH_SYS: u32 = 1;
-
-pub const RPCSEC_GSS: u32 = 6;

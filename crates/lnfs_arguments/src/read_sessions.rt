@@ -7,15 +7,12 @@ ghost use Rattle.lnfs_arguments.specs.Grammar.{implementation, who_made, exchang
 
 use crate::channel::channel_of;
 use crate::halt::Halt;
-use crate::numbers::{
-    AUTH_NONE, AUTH_SYS, CALLBACK_LIMIT, OP_CREATE_SESSION, OP_EXCHANGE_ID, OWNER_LIMIT,
-    RPCSEC_GSS, SP4_NONE,
-};
+use crate::numbers::{CALLBACK_LIMIT, OP_CREATE_SESSION, OP_EXCHANGE_ID, OWNER_LIMIT, SP4_NONE};
 use crate::opaque::opaque_of;
 use crate::statuses::NFS4ERR_INVAL;
 use crate::types::{Callback, CreateSession, Implementation, Op, Sequence};
 use lnfs_lists::{Items, Octets};
-use lnfs_xdr::{GROUP_LIMIT, MACHINE_LIMIT, XdrError, XdrReader};
+use lnfs_xdr::{AUTH_NONE, AUTH_SYS, GROUP_LIMIT, MACHINE_LIMIT, RPCSEC_GSS, XdrError, XdrReader};
 use std::alloc::Global;
 
 fn words_of(alloc: Global, reader: &mut XdrReader<'_>, count: u32) -> Result<Vec<u32>, Halt>

@@ -6,13 +6,13 @@ ghost use Rattle.lnfs_requests.specs.Texts.{implementation_text, sys_text, callb
 ghost use Rattle.lnfs_requests.specs.Fits.{ImplementationFits, CallbackFits, CreateSessionFits, OpFits};
 
 use lnfs_arguments::numbers::{
-    AUTH_NONE, AUTH_SYS, OP_CREATE_SESSION, OP_DESTROY_CLIENTID, OP_DESTROY_SESSION,
-    OP_EXCHANGE_ID, OP_RECLAIM_COMPLETE, OP_SEQUENCE, RPCSEC_GSS, SP4_NONE,
+    OP_CREATE_SESSION, OP_DESTROY_CLIENTID, OP_DESTROY_SESSION, OP_EXCHANGE_ID,
+    OP_RECLAIM_COMPLETE, OP_SEQUENCE, SP4_NONE,
 };
 use lnfs_arguments::{Callback, CreateSession, Implementation, Op, Sequence, put_channel};
 use lnfs_attrs::put_words;
 use lnfs_lists::Octets;
-use lnfs_xdr::XdrWriter;
+use lnfs_xdr::{AUTH_NONE, AUTH_SYS, RPCSEC_GSS, XdrWriter};
 use std::alloc::AllocError;
 
 #[tactic(auto, unfolding(crate::specs::Texts::implementation_text))]

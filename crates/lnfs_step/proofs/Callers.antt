@@ -2,6 +2,7 @@
 use Rattle.std.proofs.Common.{◌≡◌, ◌≤◌, ℕ, Bool, true, false, cond, List, [], ◌∷◌, length, Option, Some, None, Ok, Err, refl, sym, subst}
 use Rattle.std.specs.Prelude.{Result, ◌==◌, ◌&&◌}
 use Rattle.lnfs_calipso.specs.declared.Level.{Level}
+use Rattle.lnfs_xdr.specs.declared.flavors.TheConstants.{AUTH_NONE, AUTH_SYS, RPCSEC_GSS}
 use Rattle.lnfs_xdr.specs.Format.{Among, Word}
 use Rattle.lnfs_xdr.specs.Reading.{Read, read}
 use Rattle.lnfs_rpc.specs.declared.authsys.Sys.{Sys}
@@ -18,7 +19,7 @@ use Rattle.lnfs_policy.specs.Policy.{Policy, dominance, guest_level, parent_at}
 use Rattle.lnfs_gss3.specs.declared.caller.Caller.{Caller}
 use Rattle.lnfs_gss3.specs.declared.caller.Caller.TheVariants.{Null, Nobody, Garbage, Guest, Create, Data, Destroy}
 use Rattle.lnfs_gss3.specs.declared.handle.ContextHandle.{ContextHandle}
-use Rattle.lnfs_gss3.specs.declared.numbers.TheConstants.{LABEL, PROC_NULL, AUTH_NONE, AUTH_SYS, RPCSEC_GSS, AUTH_BADCRED, AUTH_TOOWEAK, RPCSEC_GSS_CREDPROBLEM, RPCSEC_GSS_LABEL_PROBLEM, RPCSEC_GSS_CREATE, RPCSEC_GSS_DATA, RPCSEC_GSS_DESTROY, INTEGRITY}
+use Rattle.lnfs_gss3.specs.declared.numbers.TheConstants.{LABEL, PROC_NULL, AUTH_BADCRED, AUTH_TOOWEAK, RPCSEC_GSS_CREDPROBLEM, RPCSEC_GSS_LABEL_PROBLEM, RPCSEC_GSS_CREATE, RPCSEC_GSS_DATA, RPCSEC_GSS_DESTROY, INTEGRITY}
 use Rattle.lnfs_gss3.specs.Mechanism.{Signing}
 use Rattle.lnfs_gss3.specs.Grammar.{alone, whole, Credential, credential, context_handle, parent_handle, Body, Assertion, assertion, create_args}
 use Rattle.lnfs_gss3.specs.Who.{demand, where_there, guest_by, guest_in, guest, guest_of, not_known, is_signed, body_under, Named, named_by, named_in, named, Held, is_cleared, held_by, held_in, held, asserted, asserting, create, data_in, in_context, destroy, by_procedure, by_gss, who}

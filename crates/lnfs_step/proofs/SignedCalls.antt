@@ -3,13 +3,13 @@ use Rattle.std.proofs.Common.{◌≡◌, ℕ, Bool, true, false, List, [], ◌�
 use Rattle.std.specs.Prelude.{Result, IfSome}
 use Rattle.lnfs_rpc.specs.Calls.{CallMessage, call_of}
 use Rattle.lnfs_arguments.specs.declared.types.Compound.{Compound}
+use Rattle.lnfs_xdr.specs.declared.flavors.TheConstants.{RPCSEC_GSS}
 use Rattle.lnfs_xdr.specs.Message.{parse}
 use Rattle.lnfs_arguments.specs.Whole.{compound}
 use Rattle.lnfs_arguments.specs.Further.{Further}
 use Rattle.lnfs_policy.specs.Policy.{Policy}
 use Rattle.lnfs_gss3.specs.declared.caller.Caller.{Caller}
 use Rattle.lnfs_gss3.specs.declared.caller.Caller.TheVariants.{Garbage}
-use Rattle.lnfs_gss3.specs.declared.numbers.TheConstants.{RPCSEC_GSS}
 use Rattle.lnfs_gss3.specs.Mechanism.{Signing}
 use Rattle.lnfs_gss3.specs.Grammar.{Body, body, Assertion}
 use Rattle.lnfs_gss3.specs.Who.{who}

@@ -1,11 +1,11 @@
 -- How a reply is wrapped: plainly, or signed under a parent of the policy (RFC 7861 section 2.3, RFC 2203 section 5.3.3).
 use Rattle.std.specs.Prelude.{ℕ, ◌==◌, cond, List, [], ◌++◌}
+use Rattle.lnfs_xdr.specs.declared.flavors.TheConstants.{AUTH_NONE}
 use Rattle.lnfs_xdr.specs.Canon.{word}
 use Rattle.lnfs_rpc.specs.declared.numbers.TheConstants.{PROG_MISMATCH, NFS_VERSION}
 use Rattle.lnfs_rpc.specs.Calls.{OpaqueAuth}
 use Rattle.lnfs_rpc.specs.Replies.{ReplyHead, accepted, version_mismatch, auth_error, reply_text}
 use Rattle.lnfs_policy.specs.declared.rows.Parent.{Parent}
-use Rattle.lnfs_gss3.specs.declared.numbers.TheConstants.{AUTH_NONE}
 use Rattle.lnfs_gss3.specs.Mechanism.{Signing}
 use Rattle.lnfs_gss3.specs.Replies.{verifier_of, wrapped}
 use Rattle.lnfs_step.specs.declared.numbers.TheConstants.{SUCCESS}

@@ -1,13 +1,13 @@
 //! The laws of contexts, as contracts of functions that do nothing.
 ghost use Rattle.std.specs.Prelude.{◌≡◌, ℕ, Bool, true, List, Option, Some, Ok};
 ghost use Rattle.lnfs_calipso.specs.Label.{IsPreorderWithBottom};
+ghost use Rattle.lnfs_xdr.specs.declared.flavors.TheConstants.{RPCSEC_GSS};
 ghost use Rattle.lnfs_arguments.specs.Further.{Further};
 ghost use Rattle.lnfs_rpc.specs.Calls.{CallMessage, call_of};
 ghost use Rattle.lnfs_policy.specs.Policy.{Policy};
 ghost use Rattle.lnfs_world.specs.World.{World};
 ghost use Rattle.lnfs_world.specs.Erased.{erased};
 ghost use Rattle.lnfs_world.specs.Outcome.{View, Footprint};
-ghost use Rattle.lnfs_gss3.specs.declared.numbers.TheConstants.{RPCSEC_GSS};
 ghost use Rattle.lnfs_gss3.specs.Mechanism.{Signing};
 ghost use Rattle.lnfs_gss3.specs.Grammar.{Assertion};
 ghost use Rattle.lnfs_step.specs.Wrapping.{Wrapping, called};

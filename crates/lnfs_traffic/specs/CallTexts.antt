@@ -1,5 +1,6 @@
 -- The spelling of a call with zero pad bytes (RFC 5531 section 9).
 use Rattle.std.specs.Prelude.{◌≡◌, ℕ, List, ◌++◌}
+use Rattle.lnfs_xdr.specs.declared.flavors.TheConstants.{AUTH_SYS}
 use Rattle.lnfs_xdr.specs.Canon.{word, opaque}
 use Rattle.lnfs_xdr.specs.Format.{Spells}
 use Rattle.lnfs_xdr.specs.Message.{Tells}
@@ -8,7 +9,6 @@ use Rattle.lnfs_rpc.specs.Calls.{OpaqueAuth, CallMessage}
 use Rattle.lnfs_rpc.specs.CallGrammar.{IsCall}
 use Rattle.lnfs_rpc.specs.Sys.{authsys_parms}
 use Rattle.lnfs_rpc.specs.Numbers.{a_call, rpc_version, nfs_program, nfs_version, last_procedure}
-use Rattle.lnfs_arguments.specs.declared.numbers.TheConstants.{AUTH_SYS}
 use Rattle.lnfs_arguments.specs.declared.types.Compound.{Compound}
 use Rattle.lnfs_arguments.specs.Further.{Further, IsLawful}
 use Rattle.lnfs_arguments.specs.Whole.{compound}

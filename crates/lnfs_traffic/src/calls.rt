@@ -4,10 +4,9 @@ ghost use Rattle.lnfs_rpc.specs.Numbers.{last_procedure};
 ghost use Rattle.lnfs_traffic.specs.CallTexts.{auth_text, call_text};
 ghost use Rattle.lnfs_traffic.specs.Generated.{credential, no_verifier};
 
-use lnfs_arguments::numbers::{AUTH_NONE, AUTH_SYS};
 use lnfs_requests::put_sys;
 use lnfs_rpc::{CALL, NFS_PROGRAM, NFS_VERSION, PROC_COMPOUND, RPC_VERSION};
-use lnfs_xdr::XdrWriter;
+use lnfs_xdr::{AUTH_NONE, AUTH_SYS, XdrWriter};
 use std::alloc::{AllocError, Global};
 
 const MACHINE: &[u8] = b"gen";

@@ -1,11 +1,11 @@
 -- What the code's values of a request stand for.
 use Rattle.std.specs.Prelude.{◌≡◌, ◌≤◌, ◌<◌, ◌^◌, ℕ, List, [], ◌++◌, length, Option, Some, None, option_map}
+use Rattle.lnfs_xdr.specs.declared.flavors.TheConstants.{AUTH_NONE, RPCSEC_GSS}
 use Rattle.lnfs_xdr.specs.Canon.{word}
 use Rattle.lnfs_rpc.specs.Calls.{OpaqueAuth}
 use Rattle.lnfs_rpc.specs.Replies.{accepted, reply_text}
 use Rattle.lnfs_format.specs.declared.formats.TheConstants.{MAX_SPELLING}
 use Rattle.lnfs_operations.specs.Sizes.{IsRead}
-use Rattle.lnfs_gss3.specs.declared.numbers.TheConstants.{AUTH_NONE, RPCSEC_GSS}
 use Rattle.lnfs_gss3.specs.Mechanism.{Signing}
 use Rattle.lnfs_step.specs.declared.numbers.TheConstants.{SUCCESS}
 use Rattle.lnfs_step.specs.Request as request

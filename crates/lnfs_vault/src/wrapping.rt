@@ -7,12 +7,12 @@ ghost use Rattle.lnfs_step.specs.Wrapping.{verifier_in, answer_text, bare_text, 
 ghost use Rattle.lnfs_vault.specs.Requests.{seen_wrapping, seen_cause, verifier_by, results_begun, FitsBody};
 
 use crate::request::{Cause, Wrapping};
-use lnfs_gss3::numbers::{AUTH_NONE, RPCSEC_GSS, SIGNATURE};
+use lnfs_gss3::numbers::SIGNATURE;
 use lnfs_gss3::{Mechanism, append_signed, begin_databody, reply_mic};
 use lnfs_lists::Octets;
 use lnfs_rpc::{Auth, Head, NFS_VERSION, PROG_MISMATCH, begin_reply, write_reply};
 use lnfs_step::numbers::SUCCESS;
-use lnfs_xdr::XdrWriter;
+use lnfs_xdr::{AUTH_NONE, RPCSEC_GSS, XdrWriter};
 use std::alloc::{AllocError, Global};
 
 /// The bytes beside a databody that is signed: two lengths, the pad bytes and the signature.

@@ -5,6 +5,7 @@
 #![tactic(auto)]
 
 mod error;
+mod flavors;
 mod limits;
 mod promises;
 mod reader;
@@ -12,6 +13,7 @@ mod slices;
 mod writer;
 
 pub use error::XdrError;
+pub use flavors::{AUTH_NONE, AUTH_SYS, RPCSEC_GSS};
 pub use limits::{GROUP_LIMIT, MACHINE_LIMIT};
 pub use promises::{canonical, refusals, spellings};
 pub use reader::XdrReader;
