@@ -1,4 +1,5 @@
-//! The statuses of operations (RFC 8881 section 15, RFC 7862 section 11). They stand here alone.
+//! The statuses of operations (RFC 8881 section 15, RFC 7862 section 11). Those that operations
+//! of this server answer stand here alone.
 
 /// Success.
 pub const NFS4_OK: u32 = 0;

@@ -4,7 +4,7 @@ use Rattle.std.specs.Prelude.{◌==◌, filter, length}
 use Rattle.std.specs.List.{AllByRecursion, list_any}
 use Rattle.std.proofs.lemmas.Bool.Decides.{nat_tests}
 use Rattle.lnfs_calipso.specs.Label.{IsPreorderWithBottom}
-use Rattle.lnfs_arguments.specs.declared.statuses.TheConstants.{NFS4ERR_NOTSUPP}
+use Rattle.lnfs_arguments.specs.declared.statuses.TheConstants.{NFS4ERR_BAD_STATEID, NFS4ERR_NOTSUPP}
 use Rattle.lnfs_world.specs.World.{Id, World, same_id, label_at, is_given}
 use Rattle.lnfs_world.specs.Outcome.{Site, Place, Stands}
 use Rattle.lnfs_world.specs.Tame.{Tame}
@@ -17,7 +17,7 @@ use Rattle.lnfs_world.proofs.Beside.{both_same}
 use Rattle.lnfs_operations.specs.declared.Gate.TheVariants as gates
 use Rattle.lnfs_operations.specs.Sizes.{NodeFits}
 use Rattle.lnfs_operations.specs.Extra.{Said, IsRefused, IsTame, AreLawful}
-use Rattle.lnfs_hold.specs.declared.TheConstants.{NFS4ERR_DENIED, NFS4ERR_BAD_STATEID}
+use Rattle.lnfs_hold.specs.declared.TheConstants.{NFS4ERR_DENIED}
 use Rattle.lnfs_hold.specs.Hold.{Held, opening_of, is_open, is_held, refuse, hold, outcome, WereOpen, holds}
 
 -- what holds of each end of the tests holds of the outcome

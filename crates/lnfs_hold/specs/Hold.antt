@@ -2,7 +2,7 @@
 use Rattle.std.specs.Prelude.{◌≡◌, ℕ, ◌+◌, ◌*◌, ◌==◌, Bool, true, cond, List, [], ◌∷◌, Some, None}
 use Rattle.std.specs.List.{fold, list_any, AllByRecursion}
 use Rattle.lnfs_xdr.specs.Format.{Word, Done, ◌>>=◌}
-use Rattle.lnfs_arguments.specs.declared.statuses.TheConstants.{NFS4ERR_NOTSUPP}
+use Rattle.lnfs_arguments.specs.declared.statuses.TheConstants.{NFS4ERR_BAD_STATEID, NFS4ERR_NOTSUPP}
 use Rattle.lnfs_arguments.specs.Further.{further_of}
 use Rattle.lnfs_world.specs.World.{Id, World, same_id, is_given}
 use Rattle.lnfs_world.specs.Outcome.{Site, Place}
@@ -11,7 +11,7 @@ use Rattle.lnfs_world.specs.Both.{Both, both}
 use Rattle.lnfs_operations.specs.declared.Gate.{Gate}
 use Rattle.lnfs_operations.specs.declared.Gate.TheVariants.{Outside, Open}
 use Rattle.lnfs_operations.specs.Extra.{Said, Extra}
-use Rattle.lnfs_hold.specs.declared.TheConstants.{NFS4ERR_DENIED, NFS4ERR_BAD_STATEID}
+use Rattle.lnfs_hold.specs.declared.TheConstants.{NFS4ERR_DENIED}
 
 -- an open that is held
 pub record Held : Type 0 where

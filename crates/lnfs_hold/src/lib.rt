@@ -7,8 +7,6 @@ mod laws;
 
 pub use laws::{hold_is_exclusive, hold_is_lawful};
 
-/// A lock that another holder has (RFC 8881 section 15.1.8.3).
+/// A lock that another holder has (RFC 8881 section 15.1.8.3). No operation that is served answers it, so it stands
+/// beside the statuses of `lnfs_arguments`.
 pub const NFS4ERR_DENIED: u32 = 10010;
-
-/// A state id that names nothing (RFC 8881 section 15.1.5.2).
-pub const NFS4ERR_BAD_STATEID: u32 = 10025;
