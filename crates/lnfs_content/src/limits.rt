@@ -2,8 +2,10 @@
 
 ghost use Rattle.std.specs.Prelude.{◌≡◌, ◌+◌, length, nat_le};
 
+use lnfs_world::numbers::MOST_FILE;
+
 /// The most bytes of a file.
-pub const MOST_BYTES: u64 = 16_777_216;
+pub const MOST_BYTES: u64 = MOST_FILE;
 
 /// The bytes of a chunk, but for the last, which may be shorter.
 pub(crate) const CHUNK: usize = 4_096;

@@ -33,10 +33,11 @@ use lnfs_attrs::{Bitmap, RawAttrs};
 use lnfs_files::{Opened, Opening, close, commit, open, read, set_attr, write};
 use lnfs_open::Opens;
 use lnfs_operations::Refusal;
-use lnfs_operations::numbers::{FILE_SYNC4, LAST_SEQUENCE};
+use lnfs_operations::numbers::FILE_SYNC4;
 use lnfs_quota::Quota;
 use lnfs_results::OpResult;
 use lnfs_tree::Tree;
+use lnfs_world::numbers::LAST_SEQUENCE;
 use lnfs_xdr::XdrWriter;
 use std::alloc::AllocError;
 

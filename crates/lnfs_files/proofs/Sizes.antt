@@ -16,7 +16,7 @@ use Rattle.lnfs_world.proofs.Seen.{node_at-id}
 use Rattle.lnfs_monitor.specs.Rules.{Write}
 use Rattle.lnfs_operations.specs.declared.Gate.TheVariants.{Namespace, Quota}
 use Rattle.lnfs_operations.specs.declared.Refusal.{Refusal}
-use Rattle.lnfs_operations.specs.declared.numbers.TheConstants.{MOST_FILE}
+use Rattle.lnfs_world.specs.declared.numbers.TheConstants.{MOST_FILE}
 use Rattle.lnfs_operations.specs.Chain.{Answer, refuse, done, demand}
 use Rattle.lnfs_operations.specs.Chain as chain
 use Rattle.lnfs_operations.specs.StateIds.{Writing, where_usable}

@@ -10,7 +10,7 @@ use Rattle.lnfs_world.specs.Effects.{written, size_written, data_changed}
 use Rattle.lnfs_world.specs.Outcome.{Site, Place, begins_at, done_to}
 use Rattle.lnfs_arguments.specs.declared.stateid.StateId.{StateId}
 use Rattle.lnfs_operations.specs.declared.Gate.TheVariants.{Namespace, Quota}
-use Rattle.lnfs_operations.specs.declared.numbers.TheConstants.{MOST_FILE}
+use Rattle.lnfs_world.specs.declared.numbers.TheConstants.{MOST_FILE}
 use Rattle.lnfs_operations.specs.Chain.{refuse, done, demand}
 use Rattle.lnfs_operations.specs.Files.{passes_quota}
 use Rattle.lnfs_operations.specs.Write.{Arguments, data_written}

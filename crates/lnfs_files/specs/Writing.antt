@@ -3,7 +3,7 @@ use Rattle.std.specs.Prelude.{ℕ, Option, Some, None, length, nat_le, if◌then
 use Rattle.lnfs_world.specs.World.{Node, World}
 use Rattle.lnfs_world.specs.Effects.{size_written}
 use Rattle.lnfs_world.specs.Outcome.{Site, Place, Outcome}
-use Rattle.lnfs_operations.specs.declared.numbers.TheConstants.{MOST_FILE}
+use Rattle.lnfs_world.specs.declared.numbers.TheConstants.{MOST_FILE}
 use Rattle.lnfs_operations.specs.Chain.{Answer, done}
 use Rattle.lnfs_operations.specs.Files.{where_fitting}
 use Rattle.lnfs_operations.specs.Write.{Arguments, data_written}

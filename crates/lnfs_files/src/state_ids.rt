@@ -15,10 +15,11 @@ use lnfs_arguments::StateId;
 use lnfs_arguments::statuses::{NFS4ERR_LOCKED, NFS4ERR_OPENMODE};
 use lnfs_nodes::Caller;
 use lnfs_open::{OpenError, Opens};
-use lnfs_operations::numbers::{LAST_SEQUENCE, OPEN4_SHARE_ACCESS_READ, OPEN4_SHARE_ACCESS_WRITE};
+use lnfs_operations::numbers::{OPEN4_SHARE_ACCESS_READ, OPEN4_SHARE_ACCESS_WRITE};
 use lnfs_operations::{Gate, Refusal};
 use lnfs_site::Site;
 use lnfs_tree::NodeId;
+use lnfs_world::numbers::LAST_SEQUENCE;
 
 /// A state id with a meaning of its own (RFC 8881 section 8.2.3).
 #[derive(Clone, Copy, Debug, PartialEq, Eq)]

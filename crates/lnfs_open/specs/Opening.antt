@@ -6,7 +6,7 @@ use Rattle.lnfs_world.specs.World.{Id, Open, open_order, same_id}
 use Rattle.lnfs_world.specs.Change.{Change, AddOpen, SetOpen, EndOpen}
 use Rattle.lnfs_world.specs.Facts.{same_opening}
 use Rattle.lnfs_world.specs.Effects.{has_number, next_id}
-use Rattle.lnfs_open.specs.declared.numbers.TheConstants.{OPENS_OF_A_LEVEL, LAST_SEQUENCE}
+use Rattle.lnfs_world.specs.declared.numbers.TheConstants.{OPENS_OF_A_LEVEL, LAST_SEQUENCE}
 use Rattle.lnfs_open.specs.declared.keys.OpenRef.{OpenRef}
 use Rattle.lnfs_open.specs.declared.keys.OpenError.{OpenError}
 use Rattle.lnfs_open.specs.declared.keys.OpenError.TheVariants.{Full, Bad, Old, Memory}

@@ -9,12 +9,10 @@ mod finder;
 mod groups;
 mod keys;
 mod lasts;
-mod numbers;
 mod opens;
 mod owners;
 mod rows;
 mod shares;
 
 pub use keys::{ClientKey, NodeKey, OpenError, OpenRef, OpenRow};
-pub use numbers::{LAST_SEQUENCE, OPENS_OF_A_LEVEL};
 pub use opens::Opens;

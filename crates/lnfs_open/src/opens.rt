@@ -12,13 +12,12 @@ ghost use Rattle.lnfs_open.specs.Sharing.{conflicts, is_denied};
 
 use crate::finder::Finder;
 use crate::keys::{ClientKey, Key, NodeKey, OpenError, OpenRef, OpenRow};
-use crate::numbers::OPENS_OF_A_LEVEL;
 use crate::owners::Matter;
 use crate::rows::{is_of, row_at};
 use crate::shares::Share;
 use lnfs_calipso::{Lattice, Level};
 use lnfs_counts::{Counter, count, last_given};
-use lnfs_world::numbers::LAST_NUMBER;
+use lnfs_world::numbers::{LAST_NUMBER, OPENS_OF_A_LEVEL};
 use std::alloc::Global;
 use std::collections::BTreeMap;
 use std::marker::Model;

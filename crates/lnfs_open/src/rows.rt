@@ -7,7 +7,7 @@ ghost use Rattle.lnfs_open.specs.Opening.{sequence_after, joined, rows_set};
 ghost use Rattle.lnfs_open.specs.Indexed.{open_at};
 
 use crate::keys::{ClientKey, Key, NodeKey, OpenRow};
-use crate::numbers::LAST_SEQUENCE;
+use lnfs_world::numbers::LAST_SEQUENCE;
 use std::alloc::AllocError;
 use std::collections::BTreeMap;
 

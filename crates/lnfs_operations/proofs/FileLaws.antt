@@ -18,7 +18,8 @@ use Rattle.lnfs_world.proofs.Seen.{node_at-id, shrunk_whole}
 use Rattle.lnfs_world.proofs.Usage.{bytes_used-seen}
 use Rattle.lnfs_operations.specs.declared.Gate.{Gate}
 use Rattle.lnfs_operations.specs.declared.Gate.TheVariants.{Namespace, Quota}
-use Rattle.lnfs_operations.specs.declared.numbers.TheConstants.{MOST_FILE, FILE_SYNC4}
+use Rattle.lnfs_world.specs.declared.numbers.TheConstants.{MOST_FILE}
+use Rattle.lnfs_operations.specs.declared.numbers.TheConstants.{FILE_SYNC4}
 use Rattle.lnfs_operations.specs.Chain.{Answer, refuse, done, demand}
 use Rattle.lnfs_operations.specs.Accessed.{accessed}
 use Rattle.lnfs_operations.specs.Handles.{with_current}

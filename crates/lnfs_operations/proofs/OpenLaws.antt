@@ -13,7 +13,7 @@ use Rattle.lnfs_arguments.specs.declared.types.Claim.TheVariants.{Name, Handle}
 use Rattle.lnfs_arguments.specs.declared.statuses.TheConstants.{NFS4ERR_NOENT, NFS4ERR_NOSPC}
 use Rattle.lnfs_monitor.specs.Rules.{Asks, allows}
 use Rattle.lnfs_monitor.specs.Rules as rules
-use Rattle.lnfs_world.specs.declared.numbers.TheConstants.{LAST_NUMBER}
+use Rattle.lnfs_world.specs.declared.numbers.TheConstants.{OPENS_OF_A_LEVEL, LAST_NUMBER}
 use Rattle.lnfs_world.specs.World.{Id, Node, Open, World, node_at, same_id, is_directory, last_of}
 use Rattle.lnfs_world.specs.Names.{entry_at}
 use Rattle.lnfs_world.specs.Erased.{erased, shrunk}
@@ -26,7 +26,7 @@ use Rattle.lnfs_world.proofs.Seen.{shrunk_whole, node_at-seen, sees_node, entry_
 use Rattle.lnfs_world.proofs.Usage.{nodes_used-seen}
 use Rattle.lnfs_world.proofs.Views.{row_at-seen, last_of-seen}
 use Rattle.lnfs_operations.specs.declared.Gate.TheVariants as gates
-use Rattle.lnfs_operations.specs.declared.numbers.TheConstants.{OPENS_OF_A_LEVEL, OPEN4_SHARE_ACCESS_WRITE, OPEN4_SHARE_ACCESS_BOTH}
+use Rattle.lnfs_operations.specs.declared.numbers.TheConstants.{OPEN4_SHARE_ACCESS_WRITE, OPEN4_SHARE_ACCESS_BOTH}
 use Rattle.lnfs_operations.specs.Chain.{Answer, refuse, done, demand, where_there}
 use Rattle.lnfs_operations.specs.NewNames.{changed, unchanged}
 use Rattle.lnfs_operations.specs.Shown.{bitmap_of}

@@ -5,7 +5,7 @@ use Rattle.lnfs_world.specs.Outcome.{Act}
 use Rattle.lnfs_arguments.specs.declared.stateid.StateId.{StateId}
 use Rattle.lnfs_arguments.specs.declared.statuses.TheConstants.{NFS4ERR_BAD_STATEID}
 use Rattle.lnfs_operations.specs.declared.Gate.TheVariants as gates
-use Rattle.lnfs_operations.specs.declared.numbers.TheConstants.{LAST_SEQUENCE}
+use Rattle.lnfs_world.specs.declared.numbers.TheConstants.{LAST_SEQUENCE}
 use Rattle.lnfs_operations.specs.Chain.{Answer, refuse, done, demand}
 use Rattle.lnfs_operations.specs.Handles.{with_current}
 use Rattle.lnfs_operations.specs.StateIds.{special, where_open}

@@ -5,7 +5,7 @@ use Rattle.lnfs_world.specs.Usage.{bytes_used}
 use Rattle.lnfs_world.specs.Outcome.{Site, Place, Outcome}
 use Rattle.lnfs_arguments.specs.declared.statuses.TheConstants.{NFS4ERR_ISDIR, NFS4ERR_SYMLINK, NFS4ERR_FBIG, NFS4ERR_DQUOT}
 use Rattle.lnfs_operations.specs.declared.Gate.TheVariants.{Namespace, Quota}
-use Rattle.lnfs_operations.specs.declared.numbers.TheConstants.{MOST_FILE}
+use Rattle.lnfs_world.specs.declared.numbers.TheConstants.{MOST_FILE}
 use Rattle.lnfs_operations.specs.Chain.{Answer, refuse, demand}
 use Rattle.lnfs_operations.specs.Lookup.{is_link}
 

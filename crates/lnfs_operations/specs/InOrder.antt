@@ -6,7 +6,7 @@ use Rattle.lnfs_world.specs.World.{Kept}
 use Rattle.lnfs_world.specs.Outcome.{Place, Outcome}
 use Rattle.lnfs_arguments.specs.declared.statuses.TheConstants.{NFS4ERR_SEQ_FALSE_RETRY, NFS4ERR_SEQ_MISORDERED}
 use Rattle.lnfs_operations.specs.declared.Gate.TheVariants.{Session}
-use Rattle.lnfs_operations.specs.declared.numbers.TheConstants.{LAST_SEQUENCE}
+use Rattle.lnfs_world.specs.declared.numbers.TheConstants.{LAST_SEQUENCE}
 use Rattle.lnfs_operations.specs.Chain.{Answer, refuse, demand, where_there}
 
 -- the sequence before one

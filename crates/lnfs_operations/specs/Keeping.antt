@@ -3,7 +3,7 @@ use Rattle.std.specs.Prelude.{ℕ, zero, suc, ◌+◌, ◌==◌, List, [], ◌�
 use Rattle.lnfs_world.specs.World.{Kept, Client, Slot, Session, client_at, session_at}
 use Rattle.lnfs_world.specs.Change.{Change, SetClient, SetSession}
 use Rattle.lnfs_world.specs.Outcome.{Place, Outcome, Act}
-use Rattle.lnfs_operations.specs.declared.numbers.TheConstants.{LAST_SEQUENCE}
+use Rattle.lnfs_world.specs.declared.numbers.TheConstants.{LAST_SEQUENCE}
 
 -- the sequence after one
 abbrev pub next_sequence : ℕ → ℕ

@@ -13,6 +13,7 @@ use Rattle.lnfs_arguments.specs.declared.types.Making.TheVariants.{Unchecked, Gu
 use Rattle.lnfs_arguments.specs.declared.types.Claim.{Claim}
 use Rattle.lnfs_arguments.specs.declared.types.Claim.TheVariants.{Name, Handle}
 use Rattle.lnfs_arguments.specs.declared.statuses.TheConstants.{NFS4ERR_NOENT, NFS4ERR_EXIST, NFS4ERR_INVAL, NFS4ERR_NOSPC, NFS4ERR_SHARE_DENIED, NFS4ERR_OP_NOT_IN_SESSION}
+use Rattle.lnfs_world.specs.declared.numbers.TheConstants.{OPENS_OF_A_LEVEL, LAST_SEQUENCE}
 use Rattle.lnfs_world.specs.World.{Id, File, Node, Open, World, node_at, same_id}
 use Rattle.lnfs_world.specs.Names.{entry_at}
 use Rattle.lnfs_world.specs.Change.{Change, Touch, Make, AddOpen, SetOpen}
@@ -21,7 +22,7 @@ use Rattle.lnfs_world.specs.Effects.{name_added, next_entry, has_number, next_id
 use Rattle.lnfs_world.specs.Outcome.{Site, Place, Outcome, Act}
 use Rattle.lnfs_monitor.specs.Rules as rules
 use Rattle.lnfs_operations.specs.declared.Gate.TheVariants as gates
-use Rattle.lnfs_operations.specs.declared.numbers.TheConstants.{FILE_MODE, OPENS_OF_A_LEVEL, LAST_SEQUENCE, OPEN4_SHARE_ACCESS_READ, OPEN4_SHARE_ACCESS_WRITE, OPEN4_SHARE_ACCESS_BOTH}
+use Rattle.lnfs_operations.specs.declared.numbers.TheConstants.{FILE_MODE, OPEN4_SHARE_ACCESS_READ, OPEN4_SHARE_ACCESS_WRITE, OPEN4_SHARE_ACCESS_BOTH}
 use Rattle.lnfs_operations.specs.Chain.{Answer, refuse, done, demand, where_there}
 use Rattle.lnfs_operations.specs.Judged.{where_allowed, where_asked}
 use Rattle.lnfs_operations.specs.Handles.{with_current}

@@ -7,7 +7,8 @@ use Rattle.lnfs_world.specs.World.{Id, Node, Open, World, same_id}
 use Rattle.lnfs_world.specs.Outcome.{Site, Place, Outcome}
 use Rattle.lnfs_monitor.specs.declared.rule.Rule.TheVariants.{M9}
 use Rattle.lnfs_operations.specs.declared.Gate.TheVariants as gates
-use Rattle.lnfs_operations.specs.declared.numbers.TheConstants.{LAST_SEQUENCE, OPEN4_SHARE_ACCESS_READ, OPEN4_SHARE_ACCESS_WRITE}
+use Rattle.lnfs_world.specs.declared.numbers.TheConstants.{LAST_SEQUENCE}
+use Rattle.lnfs_operations.specs.declared.numbers.TheConstants.{OPEN4_SHARE_ACCESS_READ, OPEN4_SHARE_ACCESS_WRITE}
 use Rattle.lnfs_operations.specs.Chain.{Answer, refuse, demand, where_there}
 use Rattle.lnfs_operations.specs.Handles.{handle_of, handle_named}
 

@@ -1,5 +1,6 @@
 //! Flags of the protocol (RFC 8881 section 18.35.3) and limits of this server. The numbers of
-//! operations and their statuses stand in `lnfs_arguments`.
+//! operations and their statuses stand in `lnfs_arguments`, and the limits of rows that the crates
+//! below share in `lnfs_world`.
 
 /// A flag that asks to update a confirmed record. Not served.
 pub const EXCHGID4_FLAG_UPD_CONFIRMED_REC_A: u32 = 0x4000_0000;
@@ -12,9 +13,6 @@ pub const EXCHGID4_FLAG_USE_NON_PNFS: u32 = 0x0001_0000;
 
 /// How many client records a level may have.
 pub const CLIENTS_OF_A_LEVEL: u32 = 64;
-
-/// The last sequence of a slot or of a CREATE_SESSION, after which comes 0.
-pub const LAST_SEQUENCE: u32 = 4_294_967_295;
 
 /// How many sessions a level may have.
 pub const SESSIONS_OF_A_LEVEL: u32 = 64;
@@ -71,12 +69,6 @@ pub const LINK_MODE: u32 = 0o777;
 
 /// The mode of a new file that brings none.
 pub const FILE_MODE: u32 = 0o644;
-
-/// The most bytes of a file.
-pub const MOST_FILE: u32 = 16_777_216;
-
-/// How many opens a level may have.
-pub const OPENS_OF_A_LEVEL: u32 = 4_096;
 
 /// What an open of a file is for, and what it denies to others (RFC 8881 section 18.16.3): reading, writing, and both.
 /// The bits of access and of deny are the same.

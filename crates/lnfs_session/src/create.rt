@@ -22,9 +22,9 @@ use lnfs_arguments::statuses::{
 };
 use lnfs_arguments::{Channel, CreateSession};
 use lnfs_operations::numbers::{
-    LAST_SEQUENCE, LEAST_SIZE, MOST_OPERATIONS, MOST_REQUESTS, MOST_SIZE, SESSIONS_OF_A_LEVEL,
+    LEAST_SIZE, MOST_OPERATIONS, MOST_REQUESTS, MOST_SIZE, SESSIONS_OF_A_LEVEL,
 };
-use lnfs_world::numbers::LAST_NUMBER;
+use lnfs_world::numbers::{LAST_NUMBER, LAST_SEQUENCE};
 use std::alloc::{AllocError, Global};
 
 /// What a CREATE_SESSION brought.

@@ -1,7 +1,8 @@
 //! Opens of two levels, of which level 1 dominates level 0. Each call that takes memory has ample memory.
 use crate::compare::same;
 use lnfs_calipso::{Label, Lattice, LatticeError, Level};
-use lnfs_open::{ClientKey, NodeKey, OPENS_OF_A_LEVEL, OpenError, OpenRef, Opens};
+use lnfs_open::{ClientKey, NodeKey, OpenError, OpenRef, Opens};
+use lnfs_world::numbers::OPENS_OF_A_LEVEL;
 use std::alloc::Global;
 use std::process::Abort;
 

@@ -6,7 +6,7 @@ use Rattle.lnfs_world.specs.Usage.{bytes_of}
 use Rattle.lnfs_world.specs.Outcome.{Place}
 use Rattle.lnfs_site.specs.Site.{site_of}
 use Rattle.lnfs_operations.specs.declared.Refusal.{Refusal}
-use Rattle.lnfs_operations.specs.declared.numbers.TheConstants.{MOST_FILE}
+use Rattle.lnfs_world.specs.declared.numbers.TheConstants.{MOST_FILE}
 use Rattle.lnfs_operations.specs.Files.{passes_quota}
 use Rattle.lnfs_quota.specs.Quota.{row_at}
 use Rattle.lnfs_tree.specs.Rows.{id_of}
