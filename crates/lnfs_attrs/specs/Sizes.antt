@@ -1,5 +1,6 @@
 -- How large attributes are that are answered or can be set.
 use Rattle.std.specs.Prelude.{◌≡◌, ◌≤◌, ℕ, Bool, length, ◌&&◌}
+use Rattle.lnfs_lists.specs.declared.limits.TheConstants.{LABEL_LIMIT}
 use Rattle.lnfs_attrs.specs.Bitmaps.{has_attr, trimmed, BitmapFits}
 use Rattle.lnfs_attrs.specs.Attributes.{is_listed, is_answered, list_text}
 use Rattle.lnfs_attrs.specs.declared.bitmap.Bitmap.{Bitmap}
@@ -12,7 +13,7 @@ IsNarrow b = length (trimmed b.words) ≤ 3
 
 -- a file handle of this server, and a label as long as a label may be
 abbrev pub ViewFits : View → Type 0
-ViewFits v = (length v.handle ≡ 12) × (length v.label.bytes ≤ 1024)
+ViewFits v = (length v.handle ≡ 12) × (length v.label.bytes ≤ LABEL_LIMIT)
 
 -- What GETATTR answers: those of the attributes asked that are answered, and their values.
 pub record IsAnswer (a : RawAttrs) : Type 0 where

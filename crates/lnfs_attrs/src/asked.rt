@@ -1,4 +1,5 @@
 ghost use Rattle.std.specs.Prelude.{◌≡◌, ◌==◌, ◌&&◌, ◌++◌, ◌≤◌, ◌<◌, ◌↔◌, ℕ, IsTrue, true, length, slice_index, All, OnOk, OnErr};
+ghost use Rattle.lnfs_lists.specs.declared.limits.TheConstants.{LABEL_LIMIT};
 ghost use Rattle.lnfs_xdr.specs.Written.{Extends};
 ghost use Rattle.lnfs_xdr.specs.Canon.{word, long};
 ghost use Rattle.std.specs.List.{list_any, flat_map};
@@ -65,7 +66,7 @@ fn put_moment(out: &mut XdrWriter, moment: &Moment) -> Result<(), AllocError>
 }
 
 fn put_label(out: &mut XdrWriter, label: &LabelValue) -> Result<(), AllocError>
-    requires { length label.now.bytes ≤ 1024 }
+    requires { length label.now.bytes ≤ LABEL_LIMIT }
     ensures ok { OnOk result (out.new ≡ out.old ++ label_text label.now) }
     ensures err { OnErr result (Extends out.old out.new) }
 {
@@ -96,7 +97,7 @@ fn put_fsid(out: &mut XdrWriter) -> Result<(), AllocError>
 /// The value of an attribute. Outside of the table there is none.
 #[tactic(auto, unfolding(crate::specs::Attributes::value_of))]
 fn put_value(out: &mut XdrWriter, number: u32, view: &View) -> Result<(), AllocError>
-    requires { length view.now.label.bytes ≤ 1024 }
+    requires { length view.now.label.bytes ≤ LABEL_LIMIT }
     ensures ok { OnOk result (out.new ≡ out.old ++ value_of number view.now) }
     ensures err { OnErr result (Extends out.old out.new) }
 {
@@ -169,7 +170,7 @@ fn put_attr(
     inner: bool,
     number: u32,
 ) -> Result<(), AllocError>
-    requires { length view.now.label.bytes ≤ 1024 }
+    requires { length view.now.label.bytes ≤ LABEL_LIMIT }
     ensures ok { OnOk result (out.new ≡ out.old ++ attr_text asked.now view.now inner number) }
     ensures err { OnErr result (Extends out.old out.new) }
 {
@@ -186,7 +187,7 @@ fn put_all(
     inner: bool,
     numbers: &[u32],
 ) -> Result<(), AllocError>
-    requires { length view.now.label.bytes ≤ 1024 }
+    requires { length view.now.label.bytes ≤ LABEL_LIMIT }
     ensures ok { OnOk result (out.new ≡ out.old ++ flat_map (attr_text asked.now view.now inner) numbers.now) }
     ensures err { OnErr result (Extends out.old out.new) }
 {
@@ -206,7 +207,7 @@ pub fn write_attrs(
     inner: bool,
     out: &mut XdrWriter,
 ) -> Result<(), AllocError>
-    requires { length view.now.label.bytes ≤ 1024 }
+    requires { length view.now.label.bytes ≤ LABEL_LIMIT }
     ensures ok { OnOk result (out.new ≡ out.old ++ list_text asked.now view.now inner) }
     ensures err { OnErr result (out.new ≡ out.old) }
 {

@@ -11,6 +11,7 @@ ghost use Rattle.lnfs_format.specs.LevelWritten.{level_written, IsWritten};
 use crate::codec::Codecs;
 use crate::kind::Kind;
 use lnfs_calipso::{Lattice, Level};
+use lnfs_lists::LABEL_LIMIT;
 use std::alloc::{AllocError, AllocFailed, Global};
 use std::marker::Model;
 
@@ -18,7 +19,7 @@ use std::marker::Model;
 pub const MAX_FORMATS: usize = 8;
 
 /// The longest spelling of a label, in bytes.
-pub const MAX_SPELLING: usize = 1024;
+pub const MAX_SPELLING: usize = LABEL_LIMIT as usize;
 
 /// What names a format: its number and its policy identifier (RFC 7569).
 #[derive(Clone, Copy, Debug, PartialEq, Eq)]
