@@ -16,6 +16,7 @@ ghost use Rattle.lnfs_nodes.specs.Trees.{with_tree, Holds};
 
 use crate::handles::handle_of;
 use crate::held::{Held, denied};
+use lnfs_arguments::numbers::{TYPE_DIR, TYPE_LINK};
 use lnfs_attrs::{Bitmap, LabelValue, Moment as Time, View, answered, write_attrs, write_bitmap};
 use lnfs_calipso::Level;
 use lnfs_format::MAX_SPELLING;
@@ -27,12 +28,8 @@ use lnfs_tree::{NodeId, NodeKind, Stored, Tree};
 use lnfs_xdr::XdrWriter;
 use std::alloc::{AllocError, Global};
 
-/// The types of nodes (`nfs_ftype4`, RFC 8881 section 3.2).
-const NF4REG: u32 = 1;
-
-const NF4DIR: u32 = 2;
-
-const NF4LNK: u32 = 5;
+/// `nfs_ftype4` of a file (RFC 8881 section 3.2). No argument has it.
+const TYPE_FILE: u32 = 1;
 
 /// Who looks, and how many bytes the files at the level of who looks have.
 #[derive(Clone, Copy, Debug)]
@@ -45,9 +42,9 @@ fn type_of(kind: NodeKind) -> u32
     ensures { result ≡ type_of (kind_of kind) }
 {
     match kind {
-        NodeKind::File => NF4REG,
-        NodeKind::Dir => NF4DIR,
-        NodeKind::Link => NF4LNK,
+        NodeKind::File => TYPE_FILE,
+        NodeKind::Dir => TYPE_DIR,
+        NodeKind::Link => TYPE_LINK,
     }
 }
 
@@ -85,7 +82,7 @@ pub fn label_shown<'a>(site: &Site<'a>, tree: &'a Tree, subject: Level, held: &H
 /// A label as the value of an attribute.
 fn label_value(alloc: Global, label: &Stored) -> Result<LabelValue, AllocError>
     ensures value { IfOk result (λ value. value ≡ label_value (stored_of label.now)) }
-    ensures short { IfOk result (λ value. length value.bytes ≤ 1024) }
+    ensures short { IfOk result (λ value. length value.bytes ≤ MAX_SPELLING) }
 {
     // No label that is kept is longer.
     if label.bytes.len() > MAX_SPELLING {
