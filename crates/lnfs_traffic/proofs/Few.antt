@@ -7,6 +7,7 @@ use Rattle.lnfs_lists.specs.declared.limits.TheConstants.{RECORD_LIMIT}
 use Rattle.lnfs_xdr.specs.declared.error.XdrError.{XdrError}
 use Rattle.lnfs_xdr.specs.declared.error.XdrError.TheVariants.{Short, TooLong}
 use Rattle.lnfs_xdr.specs.Reading.{Item, after, number_at, count_at, raw_at}
+use Rattle.lnfs_traffic.specs.Recording.{event_limit}
 use Rattle.lnfs_traffic.proofs.Cutting.{number_left, count_left, left_length}
 
 guarded : {A : Type 0} (b : Bool) (x : A) (e : XdrError) → cond b (Err Short) (Ok x) ≡ Err e → b ≡ true
@@ -39,10 +40,10 @@ module _ (a b c d s : List ℕ) (class link secs nanos : ℕ) (w : number_at w32
   head : length a ≡ length s + 20
   head = omega (arith, left_length (number_left w32 a (class, b) w), left_length (number_left w32 b (link, c) x), left_length (number_left w64 c (secs, d) y), left_length (number_left w32 d (nanos, s) z))
 
-  pub few_size : count_at RECORD_LIMIT s ≡ Err Short → length a < 131096
+  pub few_size : count_at RECORD_LIMIT s ≡ Err Short → length a < event_limit
   few_size h = omega (arith, head, count_few RECORD_LIMIT s h)
 
-  pub few_message : (size : ℕ) (m : List ℕ) (e : XdrError) → count_at RECORD_LIMIT s ≡ Ok (size, m) → raw_at size m ≡ Err e → length a < 131096
+  pub few_message : (size : ℕ) (m : List ℕ) (e : XdrError) → count_at RECORD_LIMIT s ≡ Ok (size, m) → raw_at size m ≡ Err e → length a < event_limit
   few_message size m e k h =
       let l = count_left RECORD_LIMIT s (size, m) k in
       omega (arith, head, l.0, left_length l.1, raw_few size m e h)

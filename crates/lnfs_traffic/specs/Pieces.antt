@@ -6,7 +6,7 @@ use Rattle.std.specs.declared.option.Option.TheVariants.{Some, None}
 use Rattle.lnfs_outside.specs.declared.event.Event.{Event}
 use Rattle.lnfs_xdr.specs.Format.{Spells}
 use Rattle.lnfs_xdr.specs.Reading.{read}
-use Rattle.lnfs_traffic.specs.Recording.{event, beginning, IsRecording}
+use Rattle.lnfs_traffic.specs.Recording.{event, event_limit, beginning, IsRecording}
 use Rattle.lnfs_traffic.specs.Parts.{begins, recorded, is_recording, place_of}
 use Rattle.lnfs_traffic.specs.declared.error.TrafficError.{TrafficError}
 use Rattle.lnfs_traffic.specs.declared.error.TrafficError.TheVariants.{Damaged, Memory}
@@ -58,7 +58,7 @@ IsNext (Ok (Some e)) old new =
     (stage old.place old.rest ≡ Whole) × (new.held ≡ old.held)
     × ((fed : List ℕ) (events : List Event) → Reads fed events old.place old.rest → Reads fed (events ++ e ∷ []) new.place new.rest)
 IsNext (Ok None) old new =
-    (stage old.place old.rest ≡ Part) × (new ≡ old) × (length old.rest < cond (nat_eq old.place 0) 131104 131096)
+    (stage old.place old.rest ≡ Part) × (new ≡ old) × (length old.rest < cond (nat_eq old.place 0) (event_limit + 8) event_limit)
     × ((fed : List ℕ) (events : List Event) → Reads fed events old.place old.rest → events ≡ recorded fed)
 IsNext (Err (Damaged at)) old new =
     (stage old.place old.rest ≡ Damage) × (new ≡ old)
@@ -78,7 +78,7 @@ Finishes (Err Memory) place rest = ⊥
 -- what stands at the front of bytes
 abbrev pub Stands : Front → List ℕ → Type 0
 Stands (fronts.Whole e size) bytes = (stage_of (read event bytes) ≡ Whole) × Spells event e (take size bytes) × (size ≤ length bytes) × (0 < size)
-Stands fronts.Part bytes = (stage_of (read event bytes) ≡ Part) × (length bytes < 131096)
+Stands fronts.Part bytes = (stage_of (read event bytes) ≡ Part) × (length bytes < event_limit)
 Stands fronts.Damage bytes = stage_of (read event bytes) ≡ Damage
 
 -- how a recording goes on behind so many bytes, and what that comes to
@@ -87,7 +87,7 @@ Finds (founds.Whole e size) place rest =
     (stage place rest ≡ Whole) × (size ≤ length rest)
     × ((fed : List ℕ) (events : List Event) → Reads fed events place rest → Reads fed (events ++ e ∷ []) (place + size) (drop size rest))
 Finds founds.Part place rest =
-    (stage place rest ≡ Part) × (length rest < cond (nat_eq place 0) 131104 131096)
+    (stage place rest ≡ Part) × (length rest < cond (nat_eq place 0) (event_limit + 8) event_limit)
     × ((fed : List ℕ) (events : List Event) → Reads fed events place rest → events ≡ recorded fed)
 Finds (founds.Damage at) place rest =
     (stage place rest ≡ Damage)

@@ -1,5 +1,5 @@
 -- Recordings: 8 bytes, and then events, each a head of 24 bytes and a record. All numbers are big-endian, and nothing is padded.
-use Rattle.std.specs.Prelude.{◌≡◌, ℕ, List, ◌++◌, length, codes}
+use Rattle.std.specs.Prelude.{◌≡◌, ◌+◌, ℕ, List, ◌++◌, length, codes}
 use Rattle.lnfs_lists.specs.declared.limits.TheConstants.{RECORD_LIMIT}
 use Rattle.lnfs_outside.specs.declared.event.Event.{Event}
 use Rattle.lnfs_outside.specs.Moments.{is_moment}
@@ -17,6 +17,10 @@ event = do
     message ← Raw size
     Done (record { class = class; link = link; moment = record { secs = secs; nanos = nanos }; message = message }))
       else Outside tt
+
+-- the most bytes of an event
+abbrev pub event_limit : ℕ
+event_limit = RECORD_LIMIT + 24
 
 -- what a recording begins with
 abbrev pub beginning : List ℕ

@@ -3,7 +3,7 @@ ghost use Rattle.std.specs.Prelude.{◌≡◌, ◌<◌, Ok, IfOk, IfErr, OnErr, 
 ghost use Rattle.std.specs.Result.{IsErr};
 ghost use Rattle.lnfs_xdr.specs.Reading.{read};
 ghost use Rattle.lnfs_traffic.specs.Answers.{event_in};
-ghost use Rattle.lnfs_traffic.specs.Recording.{event};
+ghost use Rattle.lnfs_traffic.specs.Recording.{event, event_limit};
 ghost use Rattle.lnfs_traffic.specs.Stages.{Whole, stage_at, stage_of};
 ghost use Rattle.lnfs_traffic.specs.Pieces.{Stands};
 ghost use Rattle.lnfs_xdr.specs.declared.error.XdrError.TheVariants.{Short};
@@ -31,7 +31,7 @@ struct Fields<'a> {
 fn fields_of<'a>(reader: &mut XdrReader<'a>) -> Result<Fields<'a>, XdrError>
     ensures stage { IfErr result (λ error. stage_of (read event reader.old.rest) ≡ stage_at error) }
     ensures total { reader.new.total ≡ reader.old.total }
-    ensures few { IfErr result (λ error. error ≡ Short → length reader.old.rest < 131096) }
+    ensures few { IfErr result (λ error. error ≡ Short → length reader.old.rest < event_limit) }
     ensures fields { MatchResult result (λ fields. read event reader.old.rest ≡ Ok (event_in fields, reader.new.rest)) (λ _. IsErr (read event reader.old.rest)) }
 {
     let class = reader.u32()?;
