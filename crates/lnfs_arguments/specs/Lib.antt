@@ -2,6 +2,7 @@ pub mod Parsing
 pub mod Shared
 pub mod SharedTexts
 pub mod Numbers
+pub mod Identifiers
 pub mod Numbered
 pub mod Grammar
 pub mod Further

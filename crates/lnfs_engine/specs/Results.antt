@@ -5,7 +5,7 @@ use Rattle.lnfs_arguments.specs.declared.types.CreateSession.{CreateSession}
 use Rattle.lnfs_arguments.specs.declared.types.Sequence.{Sequence}
 use Rattle.lnfs_results.specs.declared.types.OpResult.{OpResult}
 use Rattle.lnfs_results.specs.declared.types.OpResult.TheVariants as results
-use Rattle.lnfs_operations.specs.Identifiers.{session_id}
+use Rattle.lnfs_arguments.specs.Identifiers.{session_id}
 
 -- a session of a level, with what was granted, and the back channel as it was asked
 abbrev pub created_result : ℕ → CreateSession → ℕ → Channel → OpResult

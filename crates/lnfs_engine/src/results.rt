@@ -3,11 +3,10 @@ ghost use Rattle.std.specs.Prelude.{◌≡◌, IfOk};
 ghost use Rattle.lnfs_results.specs.Fits.{ResultSized};
 ghost use Rattle.lnfs_results.specs.Numbered.{status_of};
 ghost use Rattle.lnfs_session.specs.Answers.{told_of};
-ghost use Rattle.lnfs_operations.specs.Identifiers.{client_id, session_id};
 ghost use Rattle.lnfs_operations.specs.Results.{flags_of, told_result, failed};
 ghost use Rattle.lnfs_engine.specs.Results.{created_result, sequence_result};
 
-use lnfs_arguments::{Channel, CreateSession, Op, Sequence};
+use lnfs_arguments::{Channel, CreateSession, Op, Sequence, client_id, session_id};
 use lnfs_attrs::Bitmap;
 use lnfs_lists::Octets;
 use lnfs_operations::numbers::{EXCHGID4_FLAG_CONFIRMED_R, EXCHGID4_FLAG_USE_NON_PNFS};
@@ -17,26 +16,6 @@ use std::alloc::{AllocError, Global};
 
 /// The name under which the server goes, as owner and as scope (RFC 8881 section 18.35.2).
 const SERVER_NAME: &[u8; 12] = b"labelled-nfs";
-
-/// How far a level stands above the number of a record in a client id.
-const LEVEL_UNIT: u64 = 4_294_967_296;
-
-/// A client id: the level, and the number of its record.
-fn client_id(level: u32, number: u32) -> u64
-    ensures { result ≡ client_id level number }
-{
-    u64::from(level) * LEVEL_UNIT + u64::from(number)
-}
-
-/// A session id: the level, the number, and four zero bytes.
-fn session_id(level: u32, number: u32) -> [u8; 16]
-    ensures { result ≡ session_id level number }
-{
-    let mut id = [0; 16];
-    id[..4].copy_from_slice(&level.to_be_bytes());
-    id[4..12].copy_from_slice(&u64::from(number).to_be_bytes());
-    id
-}
 
 fn flags_of(confirmed: bool) -> u32
     ensures { result ≡ flags_of confirmed }

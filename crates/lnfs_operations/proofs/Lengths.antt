@@ -15,7 +15,7 @@ use Rattle.lnfs_xdr.proofs.Sizes.{length-word, length-long, length-padded, lengt
 use Rattle.lnfs_results.specs.Texts.{result_text, fields_text, results_text}
 use Rattle.lnfs_arguments.specs.declared.channel.Channel.{Channel}
 use Rattle.lnfs_operations.specs.declared.numbers.TheConstants.{MOST_CREATED}
-use Rattle.lnfs_operations.specs.Identifiers.{session_id}
+use Rattle.lnfs_arguments.specs.Identifiers.{session_id}
 use Rattle.lnfs_operations.specs.Results.{failed, no_attributes, told_result, server_name}
 use Rattle.lnfs_operations.specs.Admission.{used}
 use Rattle.lnfs_operations.specs.ExchangeId.{Told}

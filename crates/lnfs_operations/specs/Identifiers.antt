@@ -1,21 +1,14 @@
--- Identifiers as they are sent. Each has its level in it.
-use Rattle.std.specs.Prelude.{ℕ, ◌+◌, ◌*◌, ◌/◌, ◌%◌, ◌^◌, cond, List, [], ◌∷◌, ◌++◌, take, drop, Option, None}
+-- What identifiers name that were sent. How they are spelled stands in lnfs_arguments/specs/Identifiers.antt.
+use Rattle.std.specs.Prelude.{ℕ, ◌/◌, ◌%◌, ◌^◌, cond, List, [], ◌∷◌, take, drop, Option, None}
 use Rattle.std.specs.Int.{w32, w64, from_be_bytes}
 use Rattle.std.specs.Str.{bytes_eq}
-use Rattle.lnfs_xdr.specs.Canon.{word, long}
 use Rattle.lnfs_world.specs.World.{Id, Session, session_at}
 
--- A client id: the level and the number of its record are its upper and its lower half.
-abbrev pub client_id : ℕ → ℕ → ℕ
-client_id level number = level * 2 ^ 32 + number
-
+-- the level and the number of a client id
 abbrev pub client_named : ℕ → Id
 client_named id = record { level = id / 2 ^ 32; number = id % 2 ^ 32 }
 
--- A session id: the level, the number, and four zero bytes.
-abbrev pub session_id : ℕ → ℕ → List ℕ
-session_id level number = word level ++ long number ++ word 0
-
+-- the level and the number of a session id
 abbrev pub session_named : List ℕ → Id
 session_named bytes = record { level = from_be_bytes w32 (take 4 bytes); number = from_be_bytes w64 (take 8 (drop 4 bytes)) }
 

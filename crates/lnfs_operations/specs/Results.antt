@@ -3,13 +3,13 @@ use Rattle.std.specs.Prelude.{ℕ, ◌+◌, Bool, cond, List, [], ◌∷◌, Opt
 use Rattle.lnfs_attrs.specs.declared.bitmap.Bitmap.{Bitmap}
 use Rattle.lnfs_arguments.specs.declared.types.Op.{Op}
 use Rattle.lnfs_arguments.specs.declared.types.Op.TheVariants as ops
+use Rattle.lnfs_arguments.specs.Identifiers.{client_id}
 use Rattle.lnfs_arguments.specs.Numbered.{result_number}
 use Rattle.lnfs_results.specs.declared.types.OpResult.{OpResult}
 use Rattle.lnfs_results.specs.declared.types.OpResult.TheVariants as results
 use Rattle.lnfs_operations.specs.declared.Gate.{Gate}
 use Rattle.lnfs_operations.specs.declared.numbers.TheConstants.{EXCHGID4_FLAG_CONFIRMED_R, EXCHGID4_FLAG_USE_NON_PNFS}
 use Rattle.lnfs_operations.specs.Chain.{Refusal}
-use Rattle.lnfs_operations.specs.Identifiers.{client_id}
 use Rattle.lnfs_operations.specs.ExchangeId.{Told}
 use Rattle.lnfs_operations.specs.Extra.{Said}
 

@@ -8,6 +8,7 @@ use Rattle.lnfs_arguments.specs.declared.types.CreateSession.{CreateSession}
 use Rattle.lnfs_arguments.specs.declared.types.Sequence.{Sequence}
 use Rattle.lnfs_arguments.specs.declared.channel.Channel.{Channel as Sizes}
 use Rattle.lnfs_arguments.specs.declared.statuses.TheConstants.{NFS4ERR_NOTSUPP}
+use Rattle.lnfs_arguments.specs.Identifiers.{session_id}
 use Rattle.lnfs_results.specs.declared.types.OpResult.{OpResult}
 use Rattle.lnfs_results.specs.declared.types.OpResult.TheVariants as results
 use Rattle.lnfs_world.specs.World.{Channel, World}
@@ -16,7 +17,7 @@ use Rattle.lnfs_world.specs.Lawful.{Turn, Deed, deed_of}
 use Rattle.lnfs_world.specs.Both.{Both, on_world}
 use Rattle.lnfs_operations.specs.declared.Gate.TheVariants.{Outside}
 use Rattle.lnfs_operations.specs.Chain.{Refusal, Answer, Done, Refused, refuse}
-use Rattle.lnfs_operations.specs.Identifiers.{client_named, session_id}
+use Rattle.lnfs_operations.specs.Identifiers.{client_named}
 use Rattle.lnfs_operations.specs.ExchangeId.{Told, exchange_id}
 use Rattle.lnfs_operations.specs.CreateSession.{Created, New as Made, Again as MadeBefore, create_session, is_next_created}
 use Rattle.lnfs_operations.specs.DestroySession.{destroy_session}

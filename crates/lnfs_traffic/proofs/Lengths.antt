@@ -12,12 +12,13 @@ use Rattle.lnfs_attrs.proofs.Words.{trimmed_short}
 use Rattle.lnfs_arguments.specs.declared.types.Op.{Op}
 use Rattle.lnfs_arguments.specs.declared.types.Op.TheVariants as ops
 use Rattle.lnfs_arguments.specs.SharedTexts.{attrs_text, state_id_text, channel_text}
+use Rattle.lnfs_arguments.specs.Identifiers.{session_id}
 use Rattle.lnfs_requests.specs.Texts.{op_text, sys_text, create_session_text, sequence_text, making_text, claim_text, implementation_text, compound_text}
 use Rattle.lnfs_rpc.specs.Numbers.{last_procedure}
 use Rattle.lnfs_traffic.specs.declared.guests.Row.{Row}
 use Rattle.lnfs_traffic.specs.declared.turns.Turn.{Turn}
 use Rattle.lnfs_traffic.specs.CallTexts.{auth_text, header_text, call_text}
-use Rattle.lnfs_traffic.specs.Generated.{session_id, channel, no_attrs, type_and_size, type_and_label, anonymous, name, open_op, root_ops, ops_of, content, compound_of, credential, no_verifier, message}
+use Rattle.lnfs_traffic.specs.Generated.{channel, no_attrs, type_and_size, type_and_label, anonymous, name, open_op, root_ops, ops_of, content, compound_of, credential, no_verifier, message}
 
 -- ---- names and items
 

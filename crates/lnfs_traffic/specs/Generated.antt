@@ -2,7 +2,6 @@
 use Rattle.std.specs.Prelude.{ℕ, zero, suc, ◌+◌, ◌-◌, ◌*◌, ◌/◌, ◌%◌, ◌^◌, ◌==◌, ◌&&◌, if◌then◌else◌, true, List, [], ◌∷◌, ◌++◌, length, map, count_by, replicate, slice_index_or, Some, None, codes}
 use Rattle.std.specs.Fmt.{decimal}
 use Rattle.std.specs.Option.{unwrap_or}
-use Rattle.lnfs_xdr.specs.Canon.{word, long}
 use Rattle.lnfs_outside.specs.declared.event.Event.{Event}
 use Rattle.lnfs_attrs.specs.declared.bitmap.Bitmap.{Bitmap}
 use Rattle.lnfs_rpc.specs.Calls.{OpaqueAuth}
@@ -14,6 +13,7 @@ use Rattle.lnfs_arguments.specs.declared.types.Claim.TheVariants.{Name}
 use Rattle.lnfs_arguments.specs.declared.types.Compound.{Compound}
 use Rattle.lnfs_arguments.specs.declared.types.Op.{Op}
 use Rattle.lnfs_arguments.specs.declared.types.Op.TheVariants as ops
+use Rattle.lnfs_arguments.specs.Identifiers.{client_id, session_id}
 use Rattle.lnfs_requests.specs.Texts.{sys_text, compound_text}
 use Rattle.lnfs_policy.specs.declared.mode.Mode.{Mode}
 use Rattle.lnfs_policy.specs.declared.mode.Mode.TheVariants.{Enforcing, Limited}
@@ -94,13 +94,6 @@ abbrev pub past_of : (level : ℕ → ℕ) → (g : ℕ) → (earlier : List ℕ
 past_of level g earlier = record { events = events_of g earlier; client = got level 0 g (g ∷ earlier); session = got level 1 g (g ∷ earlier) }
 
 -- ---- what an event asks for
-
--- the identifiers of the client and of the session of a number in a level
-abbrev pub client_id : (level number : ℕ) → ℕ
-client_id level number = level * 2 ^ 32 + number
-
-abbrev pub session_id : (level number : ℕ) → List ℕ
-session_id level number = word level ++ long number ++ word 0
 
 abbrev pub channel : Channel
 channel = record { headerpad = 0; maxrequest = 65536; maxresponse = 65536; cached = 65536; operations = 32; requests = 16; ird = None }

@@ -1,11 +1,14 @@
 //! What the events of a guest ask for.
 ghost use Rattle.std.specs.Prelude.{◌≡◌, ◌<◌, ◌≤◌, ◌-◌, ◌++◌, ◌∷◌, [], length, All, IfOk, OnOk};
+ghost use Rattle.lnfs_arguments.specs.Identifiers.{client_id, session_id};
 ghost use Rattle.lnfs_requests.specs.Fits.{OpFits};
-ghost use Rattle.lnfs_traffic.specs.Generated.{client_id, session_id, first_ops, second_ops, name, open_op, root_ops, later_ops, ops_of};
+ghost use Rattle.lnfs_traffic.specs.Generated.{first_ops, second_ops, name, open_op, root_ops, later_ops, ops_of};
 
 use crate::guests::Row;
 use crate::turns::Turn;
-use lnfs_arguments::{Channel, Claim, CreateSession, Making, Op, Sequence, Span, StateId};
+use lnfs_arguments::{
+    Channel, Claim, CreateSession, Making, Op, Sequence, Span, StateId, client_id, session_id,
+};
 use lnfs_attrs::{Bitmap, RawAttrs};
 use lnfs_lists::{Items, Octets};
 use std::alloc::{AllocError, Global};
@@ -36,24 +39,6 @@ const TYPE_AND_SIZE: Bitmap = Bitmap {
 const TYPE_AND_LABEL: Bitmap = Bitmap {
     words: [2, 0, 65536, 0, 0, 0, 0, 0],
 };
-
-/// How far a level stands above the number of a client in its identifier.
-const LEVEL_UNIT: u64 = 4_294_967_296;
-
-fn client_id(level: u32, number: u32) -> u64
-    ensures { result ≡ client_id level number }
-{
-    u64::from(level) * LEVEL_UNIT + u64::from(number)
-}
-
-fn session_id(level: u32, number: u32) -> [u8; 16]
-    ensures { result ≡ session_id level number }
-{
-    let mut id = [0; 16];
-    id[..4].copy_from_slice(&level.to_be_bytes());
-    id[4..12].copy_from_slice(&u64::from(number).to_be_bytes());
-    id
-}
 
 #[tactic(auto, using(crate::proofs::Lengths::owner_short))]
 fn first_ops<'a>(alloc: Global, place: u32) -> Result<Vec<Op<'a>>, AllocError>

@@ -1,6 +1,6 @@
 use Rattle.std.proofs.Common.{refl}
 use Rattle.lnfs_xdr.specs.Canon.{word, long}
-use Rattle.lnfs_engine.proofs.results.session_id.Goals as goal
+use Rattle.lnfs_arguments.proofs.identifiers.session_id.Goals as goal
 
 pub returns : goal.returns
 unfolding word long
