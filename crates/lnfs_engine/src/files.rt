@@ -348,6 +348,6 @@ pub fn on_files(
             let answer = on_set_attr(request, tree, opens, quota, place, id, attrs)?;
             say(out, op, answer)
         }
-        _ => Err(AllocError),
+        _ => unreachable!(),
     }
 }

@@ -246,6 +246,6 @@ pub fn on_names(
             let answer = on_rename(request, tree, opens, quota, place, old, new)?;
             say(out, op, answer)
         }
-        _ => Err(AllocError),
+        _ => unreachable!(),
     }
 }

@@ -217,6 +217,6 @@ pub fn on_nodes(
             let answer = nverify(request.alloc, site, tree, viewer, current, attrs)?;
             say(out, op, plain(answer, OpResult::NVerify))
         }
-        _ => Err(AllocError),
+        _ => unreachable!(),
     }
 }
