@@ -19,7 +19,7 @@ use Rattle.lnfs_tree.specs.declared.node.NodeId.{NodeId}
 use Rattle.lnfs_tree.specs.declared.node.Info.{Info}
 use Rattle.lnfs_tree.specs.declared.node.Fresh.{Fresh}
 use Rattle.lnfs_tree.specs.declared.node.TreeError.{TreeError}
-use Rattle.lnfs_tree.specs.declared.node.TreeError.TheVariants.{NotDir, Exist, Spent}
+use Rattle.lnfs_tree.specs.declared.node.TreeError.TheVariants.{NotDir, Exist, Spent, Memory}
 use Rattle.lnfs_nodes.specs.Trees.{with_tree}
 use Rattle.lnfs_nodes.specs.Acts.{Succeeds}
 use Rattle.lnfs_nodes.specs.Told.{cinfo_of}
@@ -61,6 +61,22 @@ module _ (t u : Rows) (dir : Id) (d : Node) (name : List ℕ) (fresh : Fresh) (m
       by : (b : Bool) → answers t u (test b Spent (Ok doing)) (Err Spent) → (b ≡ false) × (u ≡ t)
       by true does = absurd does
       by false does = (refl, does.1)
+
+  -- no other error is told
+  pub only_spent : (e : TreeError) → (e ≡ Spent → ⊥) → (e ≡ Memory → ⊥) → answers t u (insert_of t dir name fresh moment) (Err e) → ⊥
+  only_spent e not_spent not_memory does = by room (behind (Err e) does)
+    where
+      done : (e : TreeError) → (e ≡ Memory → ⊥) → answers t u (Ok doing) (Err e) → ⊥
+      done Memory not_memory does = not_memory refl
+      done e not_memory does = does
+
+      refused : (e : TreeError) → (e ≡ Spent → ⊥) → (e ≡ Memory → ⊥) → answers t u (Err Spent) (Err e) → ⊥
+      refused Memory not_spent not_memory does = not_memory refl
+      refused e not_spent not_memory does = not_spent does.0
+
+      by : (b : Bool) → answers t u (test b Spent (Ok doing)) (Err e) → ⊥
+      by true does = done e not_memory does
+      by false does = refused e not_spent not_memory does
 
 -- ---- room
 

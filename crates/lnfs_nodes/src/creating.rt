@@ -251,8 +251,11 @@ pub fn create(
             info: made.1,
             set: set_of(given),
         })),
-        Err(TreeError::Spent) => Ok(Err(no_space())),
-        // The directory is there and hasn't the name, so that only memory can be wanting.
-        Err(_) => Err(AllocError),
+        Err(error) => match error {
+            TreeError::Spent => Ok(Err(no_space())),
+            TreeError::Memory => Err(AllocError),
+            // The directory is there and hasn't the name.
+            _ => unreachable!(),
+        },
     }
 }

@@ -1,11 +1,12 @@
 use Rattle.std.proofs.Common.{◌≡◌, ◌∙◌, ap, sym, subst, refl, Some}
 use Rattle.lnfs_world.specs.World.{Id, World, node_at}
-use Rattle.lnfs_world.specs.Outcome.{Place, Outcome}
+use Rattle.lnfs_world.specs.Outcome.{Place, Outcome, begins_at}
 use Rattle.lnfs_site.specs.Site.{site_of}
 use Rattle.lnfs_operations.specs.Chain.{Answer, refuse}
 use Rattle.lnfs_operations.specs.Given.{set_of}
 use Rattle.lnfs_operations.specs.Create.{Made, new_node}
 use Rattle.lnfs_tree.specs.Rows.{id_of}
+use Rattle.lnfs_tree.specs.Places.{world_of}
 use Rattle.lnfs_nodes.specs.Trees.{with_tree}
 use Rattle.lnfs_nodes.specs.Acts.{placed, Succeeds, Refuses}
 use Rattle.lnfs_nodes.specs.GivenValues.{Asked, asked_of}
@@ -13,7 +14,7 @@ use Rattle.lnfs_nodes.specs.Creating.{created_of}
 use Rattle.lnfs_nodes.specs.declared.creating.Created.{Created}
 use Rattle.lnfs_nodes.proofs.Done.{kept}
 use Rattle.lnfs_nodes.proofs.Refusing.{not_held}
-use Rattle.lnfs_nodes.proofs.Inserts.{seen, inserted, spent, full, no_number, all_room, makes}
+use Rattle.lnfs_nodes.proofs.Inserts.{seen, inserted, spent, only_spent, full, no_number, all_room, makes}
 use Rattle.lnfs_nodes.proofs.Creates.{in_directory, refused, taken, name_refused, name_taken, no_space, with_space}
 use Rattle.lnfs_nodes.proofs.creating.create.Goals as goal
 
@@ -88,8 +89,8 @@ returns-in-Ok-insert-clause-acts c = λ p rest.
     (makes site at rest t u d name (set_of given) fresh (new_node site at (with_tree rest t) what x.mode x.label d) (home ∙ holds.tells.label) refl (c.in_ok-fresh.ensures.node d at (with_tree rest t) holds)
     it c.set_of.ensures (ap (λ r. r.0) there.1) (ap (λ r. r.1) there.1) there.2))
 
-pub returns-in-Err-Spent-clause-acts : goal.returns-in-Err-Spent-clause-acts
-returns-in-Err-Spent-clause-acts c = λ p rest.
+pub returns-in-Spent-clause-acts : goal.returns-in-Spent-clause-acts
+returns-in-Spent-clause-acts c = λ p rest.
     let at : Place = placed p c.args.caller.now in
     let t = c.args.tree.now in
     let u = c.insert.new.self in
@@ -102,17 +103,28 @@ returns-in-Err-Spent-clause-acts c = λ p rest.
     let child = c.level_or-child.result.0 in
     let fresh = c.in_ok-fresh.fresh in
     let home : fresh.home.0 ≡ h.facts.label.0 = ap (λ l. l.0) c.in_ok-fresh.ensures.home in
-    let why = c.no_space-in-Err-Spent.result in
+    let why = c.no_space-in-Spent.result in
     name_taken site what name given at rest t h x child c.in-Ok-node_held.ensures (rw c.in-Ok.is at c.in_ok-asked.ensures) c.level_or-child.ensures
     (λ (o : Outcome (Answer Made)). Refuses why at t u o) c.in_default.ensures
     (λ d holds directory subject absent.
-    let there = spent t u (id_of h.id) d name fresh at.moment (ap (λ (i : Id). node_at t.nodes i) holds.id ∙ holds.node_is) directory absent (rw c.in-Err-Spent.field-0-is at c.in-Err-Spent.ensures) in
+    let there = spent t u (id_of h.id) d name fresh at.moment (ap (λ (i : Id). node_at t.nodes i) holds.id ∙ holds.node_is) directory absent (rw c.in-Spent.is at c.in-Err-insert.ensures) in
     record {
       outcome =
           no_space site what name given at rest t h x child c.in-Ok-node_held.ensures (rw c.in-Ok.is at c.in_ok-asked.ensures) c.level_or-child.ensures
-          (with_tree rest t) d why (no_number site at rest t d c.args.room c.requires.room subject fresh.home.0 (home ∙ holds.tells.label) there.0) c.no_space-in-Err-Spent.ensures;
+          (with_tree rest t) d why (no_number site at rest t d c.args.room c.requires.room subject fresh.home.0 (home ∙ holds.tells.label) there.0) c.no_space-in-Spent.ensures;
       tree = there.1;
     })
 
-pub returns-in-Err-insert : goal.returns-in-Err-insert
-returns-in-Err-insert c = record { acts = tt; kept = kept seen _ c.args.tree.now c.insert.new.self c.in-Err-insert.field-0 c.in-Err-insert.ensures }
+pub returns-in-Memory : goal.returns-in-Memory
+returns-in-Memory c = record { acts = tt; kept = kept seen _ c.args.tree.now c.insert.new.self c.in-Err-insert.error c.in-Err-insert.ensures }
+
+pub unreachable-requires : goal.unreachable-requires
+unreachable-requires c =
+    let at : Place = placed (begins_at 0 c.args.caller.now.moment) c.args.caller.now in
+    let t = c.args.tree.now in
+    let name = c.args.name.now in
+    let h = c.in-Ok-node_held.dir in
+    name_taken (site_of c.args.site.now) c.args.what.now name c.args.given.now at (world_of t) t h (asked_of c.in-Ok.asked) c.level_or-child.result.0 c.in-Ok-node_held.ensures (rw c.in-Ok.is at c.in_ok-asked.ensures) c.level_or-child.ensures
+    (λ (o : Outcome (Answer Made)). ⊥) c.in_default.ensures
+    (λ d holds directory subject absent.
+    only_spent t c.insert.new.self (id_of h.id) d name c.in_ok-fresh.fresh at.moment (ap (λ (i : Id). node_at t.nodes i) holds.id ∙ holds.at) directory absent c.in-Err-insert.error c.in_default-error.not-Spent c.in_default-error.not-Memory c.in-Err-insert.ensures)
