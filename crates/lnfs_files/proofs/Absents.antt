@@ -104,6 +104,12 @@ module _ (site : Site) (args : Arguments) (p : Place) (rest : World) (t : Rows) 
         all_room p maker (nat_lt (nodes_used t.nodes d.label) (site.nodes d.label)) (has_number t.lasts d.label && has_cookie d) (has_open_left s p.subject) (sym room_is ∙ sym e)
         (ap (λ (l : ℕ). has_number t.lasts l && has_cookie d) (sym at_home) ∙ numbers)
 
+-- the second half of a room
+pub opens_left : (a b : Bool) → true ≡ (a && b) → b ≡ true
+opens_left true true e = refl
+opens_left true false e = cc
+opens_left false b e = cc
+
 -- ---- the directory that hasn't the name
 
 some_same : (a b : Node) → Some a ≡ Some b → a ≡ b

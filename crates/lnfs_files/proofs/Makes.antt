@@ -1,5 +1,5 @@
 -- A file that is made and opened.
-use Rattle.std.proofs.Common.{◌≡◌, refl, ap, sym, subst, ◌∙◌, ℕ, Bool, true, false, cond, List, [], ◌∷◌, Option, Some, None, Result, Ok, Err, arith}
+use Rattle.std.proofs.Common.{◌≡◌, refl, ap, sym, subst, ◌∙◌, ℕ, Bool, true, false, cond, List, [], ◌∷◌, Option, Some, None, Ok, Err, arith}
 use Rattle.std.specs.Prelude.{◌&&◌, if◌then◌else◌}
 use Rattle.std.specs.Option.{option_map}
 use Rattle.std.specs.List.{AllByRecursion, find}
@@ -31,8 +31,7 @@ use Rattle.lnfs_open.specs.Lists.{Lists}
 use Rattle.lnfs_open.specs.Lists as lists
 use Rattle.lnfs_open.specs.Opening.{Wish, Opened, Does, Names, opened_by, opened_of, new_open, own_open, has_open_left}
 use Rattle.lnfs_open.specs.declared.keys.OpenRef.{OpenRef}
-use Rattle.lnfs_open.specs.declared.keys.OpenError.{OpenError}
-use Rattle.lnfs_open.specs.declared.keys.OpenError.TheVariants.{Full, Memory}
+use Rattle.lnfs_open.specs.declared.keys.OpenError.TheVariants.{Full}
 use Rattle.lnfs_quota.specs.declared.quota.Row.{Row}
 use Rattle.lnfs_quota.specs.Quota.{node_charged}
 use Rattle.lnfs_quota.specs.Totals.{AreTotals}
@@ -131,14 +130,6 @@ module _ (args : Arguments) (p : Place) (rest : World) (t u : Rows) (s v : Lists
       by : (b : Bool) → (if b then Ok new else Err Full) ≡ Ok o → new ≡ o
       by true e = cc
       by false e = cc
-
-  -- there is room for it
-  pub only_memory : (e : OpenError) → own_open s wish ≡ None → has_open_left s p.subject ≡ true → Does (opened_of s wish) s v (Err e) → v ≡ s
-  only_memory e none room does = at e (subst (λ (r : Result Opened OpenError). Does r s v (Err e)) (ap (opened_by s wish) none ∙ ap (λ (b : Bool). let r : Result Opened OpenError = if b then Ok new else Err Full in r) room) does)
-    where
-      at : (e : OpenError) → Does (Ok new) s v (Err e) → v ≡ s
-      at Memory does = does.1
-      at e does = absurd does
 
   abbrev pub changes : List Change
   changes = Touch d.id (name_added p.moment d.inner) ∷ Make n (next_entry d name n.id) ∷ []

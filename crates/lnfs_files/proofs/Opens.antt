@@ -20,6 +20,7 @@ use Rattle.lnfs_tree.specs.Rows.{Rows, id_of}
 use Rattle.lnfs_tree.specs.Changed.{ran}
 use Rattle.lnfs_open.specs.Lists.{Lists}
 use Rattle.lnfs_open.specs.Lists as lists
+use Rattle.lnfs_open.specs.Opening as opening
 use Rattle.lnfs_open.specs.Opening.{Wish, Opened, Does, Names, opened_by, opened_of, new_open, joined, has_open_left}
 use Rattle.lnfs_open.specs.declared.keys.OpenRef.{OpenRef}
 use Rattle.lnfs_open.specs.declared.keys.OpenError.{OpenError}
@@ -49,6 +50,34 @@ refused_so s v (Ok opened) Bad calm does = absurd does
 refused_so s v (Ok opened) Old calm does = absurd does
 refused_so s v (Ok opened) Memory calm does = absurd (calm refl)
 refused_so s v (Err why) e calm does = (ap (λ (e : OpenError). let r : Result Opened OpenError = Err e in r) (sym does.0), does.1)
+
+module _ (s v : Lists) (wish : Wish) (e : OpenError) (not_memory : e ≡ Memory → ⊥) (does : Does (opened_of s wish) s v (Err e)) where
+  abbrev added : Opened
+  added = record { row = new_open s wish; change = AddOpen (new_open s wish) }
+
+  -- no other error is told
+  pub only_full : (e ≡ Full → ⊥) → ⊥
+  only_full not_full = at (opening.own_open s wish) (refused_so s v (opened_of s wish) e not_memory does).0
+    where
+      by : (b : Bool) → (if b then Ok added else Err Full) ≡ Err e → ⊥
+      by true is = cc
+      by false is = not_full cc
+
+      at : (x : Option Open) → opened_by s wish x ≡ Err e → ⊥
+      at (Some x) is = cc
+      at None is = by (has_open_left s wish.client.level) is
+
+  -- nor that one where there is room
+  pub only_memory : has_open_left s wish.client.level ≡ true → ⊥
+  only_memory room = at (opening.own_open s wish) (refused_so s v (opened_of s wish) e not_memory does).0
+    where
+      by : (b : Bool) → b ≡ true → (if b then Ok added else Err Full) ≡ Err e → ⊥
+      by true left is = cc
+      by false left is = cc
+
+      at : (x : Option Open) → opened_by s wish x ≡ Err e → ⊥
+      at (Some x) is = cc
+      at None is = by (has_open_left s wish.client.level) room is
 
 -- ---- the definition
 

@@ -1,5 +1,5 @@
 -- WRITE of a file that may be written: what the tree did of it, and what becomes of the totals.
-use Rattle.std.proofs.Common.{◌≡◌, ◌<◌, ◌≤◌, ◌-◌, ◌+◌, ℕ, Bool, true, false, cond, not, List, [], ◌∷◌, length, Option, Some, None, Result, Ok, refl, sym, ap, ◌∙◌, subst, arith}
+use Rattle.std.proofs.Common.{◌≡◌, ◌<◌, ◌≤◌, ◌-◌, ◌+◌, ℕ, Bool, true, false, cond, not, List, [], ◌∷◌, length, Option, Some, None, Result, Ok, Err, refl, sym, ap, ◌∙◌, subst, arith}
 use Rattle.std.specs.Prelude.{nat_le, if◌then◌else◌}
 use Rattle.lnfs_words.specs.Words.{is_empty}
 use Rattle.lnfs_arguments.specs.declared.statuses.TheConstants.{NFS4ERR_FBIG, NFS4ERR_DQUOT}
@@ -16,8 +16,8 @@ use Rattle.lnfs_operations.specs.Files.{passes_quota}
 use Rattle.lnfs_operations.specs.Write.{Arguments, data_written}
 use Rattle.lnfs_content.specs.declared.limits.TheConstants.{MOST_BYTES}
 use Rattle.lnfs_tree.specs.declared.node.TreeError.{TreeError}
-use Rattle.lnfs_tree.specs.declared.node.TreeError.TheVariants.{FBig}
-use Rattle.lnfs_tree.specs.Rows.{Rows, id_of, of_file, on_file, file_found}
+use Rattle.lnfs_tree.specs.declared.node.TreeError.TheVariants.{FBig, Memory}
+use Rattle.lnfs_tree.specs.Rows.{Rows, id_of, kind_of, of_file, on_file, file_found}
 use Rattle.lnfs_tree.specs.Changed.{Doing, Does, ran, test, writes, write_of}
 use Rattle.lnfs_tree.specs.Places.{world_of}
 use Rattle.lnfs_quota.specs.declared.quota.Row.{Row}
@@ -70,6 +70,16 @@ file_is t n h content holds e = at n.kind refl (e ∙ ap (λ (o : Option Node). 
     at Directory is e = absurd cc
     at SymbolicLink is e = absurd cc
 
+-- the data of a file is found
+pub no_data : (t : Rows) (n : Node) (h : Held) (why : TreeError) → Holds t n h → kind_of h.facts.kind ≡ File → Err why ≡ file_found t (id_of h.id) → ⊥
+no_data t n h why holds kind e = none (e ∙ ap (λ (o : Option Node). on_file o (λ m. Ok m.inner.content)) (found t n h holds) ∙ ap (λ (k : Kind). of_file k (Ok n.inner.content)) (sym holds.tells.kind ∙ kind))
+  where
+    told : Result (List ℕ) TreeError
+    told = Err why
+
+    none : told ≡ Ok n.inner.content → ⊥
+    none e = cc
+
 pub file_bytes : (n : Node) (content : List ℕ) → IsFile n content → bytes_of n n.kind ≡ length content
 file_bytes n content is = ap (bytes_of n) is.kind ∙ ap length (sym is.same)
 
@@ -116,6 +126,14 @@ module _ (p : Place) (t u : Rows) (n : Node) (h : Held) (args : Arguments) (hold
   written_so a kind fit does =
       (subst (λ (d : Result (Doing (Unit {0})) TreeError). Does {A = Unit {0}} {B = Unit {0}} (λ x. x) d t u (Ok a)) (told kind fit) does).1
       ∙ ap (λ (cs : List Change). ran cs t) (changes_same (is_empty args.content) (data_changed p.moment (written args.offset args.content n.inner.content) n.inner))
+
+  -- only memory can be wanting
+  pub only_memory : (e : TreeError) → n.kind ≡ File → nat_le (size_written args.offset args.content n.inner.content) MOST_BYTES ≡ true → (e ≡ Memory → ⊥) → Does {A = Unit {0}} {B = Unit {0}} (λ x. x) (write_of t (id_of h.id) args.offset args.content p.moment) t u (Err e) → ⊥
+  only_memory e kind fit not_memory does = at e not_memory (subst (λ (d : Result (Doing (Unit {0})) TreeError). Does {A = Unit {0}} {B = Unit {0}} (λ x. x) d t u (Err e)) (told kind fit) does)
+    where
+      at : (e : TreeError) → (e ≡ Memory → ⊥) → Does {A = Unit {0}} {B = Unit {0}} (λ x. x) (Ok (writes p.moment n args.offset args.content)) t u (Err e) → ⊥
+      at Memory not_memory does = not_memory refl
+      at e not_memory does = does
 
   pub succeeds : (rest : World) (s : Lists) → u ≡ ran (data_written p n args) t → Succeeds (length args.content) p rest t u s s (done p (length args.content) (data_written p n args))
   succeeds rest s is = record { answer = refl; place = refl; world = at (is_empty args.content) ∙ ap (λ (x : Rows). with_files rest x s) (sym is) }

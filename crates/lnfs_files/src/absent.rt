@@ -33,7 +33,7 @@ use lnfs_arguments::statuses::NFS4ERR_NOENT;
 use lnfs_calipso::Level;
 use lnfs_lists::Octets;
 use lnfs_nodes::{Held, cinfo, kept_label, level_or, namespace, no_space};
-use lnfs_open::Opens;
+use lnfs_open::{OpenError, Opens};
 use lnfs_operations::Refusal;
 use lnfs_operations::numbers::FILE_MODE;
 use lnfs_quota::{Quota, totals};
@@ -153,9 +153,12 @@ pub fn open_absent(
     let fresh = fresh_file(opener, tree, dir, making, label, wanted)?;
     let (node, info) = match tree.insert(opener.alloc, dir.id, name, fresh, caller.moment) {
         Ok(made) => made,
-        Err(TreeError::Spent) => return Ok(Err(no_space())),
-        // The directory is there and hasn't the name, so that only memory can be wanting.
-        Err(_) => return Err(AllocError),
+        Err(error) => match error {
+            TreeError::Spent => return Ok(Err(no_space())),
+            TreeError::Memory => return Err(AllocError),
+            // The directory is there and hasn't the name.
+            _ => unreachable!(),
+        },
     };
     totals();
     quota.charge_node(home);
@@ -172,7 +175,10 @@ pub fn open_absent(
             info: cinfo(info),
             set,
         })),
-        // There is room, so that only memory can be wanting.
-        Err(_) => Err(AllocError),
+        Err(error) => match error {
+            OpenError::Memory => Err(AllocError),
+            // There is room.
+            _ => unreachable!(),
+        },
     }
 }

@@ -1,7 +1,7 @@
 //! The current file, and what is tested of it before it is read or written.
 ghost use Rattle.std.specs.Prelude.{◌≡◌, Ok, IfOk};
 ghost use Rattle.std.specs.Option.{option_map};
-ghost use Rattle.lnfs_world.specs.World.{Node, World};
+ghost use Rattle.lnfs_world.specs.World.{File, Node, World};
 ghost use Rattle.lnfs_world.specs.Outcome.{Place};
 ghost use Rattle.lnfs_site.specs.Site.{site_of};
 ghost use Rattle.lnfs_monitor.specs.Questions.{asked};
@@ -64,6 +64,7 @@ pub fn usable_file(
         let at = placed p caller.now in
         refused result ≡ refusal_in (where_current_usable (site_of site.now) at (with_files rest tree.now opens.now) id.now (way_of way) (λ n. passed at)) }
     ensures held { IfOk result (λ held. IsHeld tree.now (held_in tree.now.nodes (option_map id_of caller.now.current)) (Ok held)) }
+    ensures file { IfOk result (λ held. kind_of held.facts.kind ≡ File) }
 {
     let held = node_held(tree, caller.current)?;
     check_file(&held)?;

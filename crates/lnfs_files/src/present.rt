@@ -102,9 +102,12 @@ pub fn open_present(
     let node = node_key(held.id);
     let id = match opens.open(client, args.owner, node, args.share(), args.deny) {
         Ok(id) => id,
-        Err(OpenError::Full) => return Ok(Err(no_space())),
-        // Where there is room, only memory can be wanting.
-        Err(_) => return Err(AllocError),
+        Err(error) => match error {
+            OpenError::Full => return Ok(Err(no_space())),
+            OpenError::Memory => return Err(AllocError),
+            // No open is named.
+            _ => unreachable!(),
+        },
     };
     if sized {
         cut(tree, quota, held, caller.moment);

@@ -97,8 +97,7 @@ pub fn read(
         Err(why) => return Ok(Err(why)),
     };
     let Ok(content) = tree.file(held.id) else {
-        // It is one.
-        return Err(AllocError);
+        unreachable!();
     };
     put_data(out, content, offset, count.min(MOST_DATA))?;
     set_accessed(tree, caller.subject, caller.moment, &held);

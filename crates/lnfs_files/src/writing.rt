@@ -1,7 +1,7 @@
 //! WRITE (RFC 8881 section 18.32).
 ghost use Rattle.std.specs.Prelude.{◌≡◌, ℕ, Ok, IfOk, OnErr, map};
 ghost use Rattle.std.specs.Option.{option_map};
-ghost use Rattle.lnfs_world.specs.World.{Node, World};
+ghost use Rattle.lnfs_world.specs.World.{File, Node, World};
 ghost use Rattle.lnfs_world.specs.Effects.{size_written};
 ghost use Rattle.lnfs_world.specs.Outcome.{Place};
 ghost use Rattle.lnfs_arguments.specs.declared.stateid.StateId.{StateId};
@@ -11,7 +11,7 @@ ghost use Rattle.lnfs_arguments.specs.declared.statuses.TheConstants.{NFS4ERR_DQ
 ghost use Rattle.lnfs_operations.specs.Write as operation;
 ghost use Rattle.lnfs_quota.specs.Quota.{limits_of};
 ghost use Rattle.lnfs_quota.specs.Totals.{AreTotals};
-ghost use Rattle.lnfs_tree.specs.Rows.{id_of};
+ghost use Rattle.lnfs_tree.specs.Rows.{id_of, kind_of};
 ghost use Rattle.lnfs_open.specs.Lists.{Lists};
 ghost use Rattle.lnfs_nodes.specs.Trees.{held_in, IsHeld, Holds};
 ghost use Rattle.lnfs_nodes.specs.Acts.{placed};
@@ -31,7 +31,7 @@ use lnfs_operations::numbers::FILE_SYNC4;
 use lnfs_operations::{Gate, Refusal};
 use lnfs_quota::{Quota, totals};
 use lnfs_site::Site;
-use lnfs_tree::Tree;
+use lnfs_tree::{Tree, TreeError};
 use std::alloc::{AllocError, Global};
 
 /// A refusal where a level's bytes would pass its limit.
@@ -75,6 +75,7 @@ fn put(
     content: &[u8],
 ) -> Result<Result<u32, Refusal>, AllocError>
     requires held { IsHeld tree.old (held_in tree.old.nodes (option_map id_of caller.now.current)) (Ok held.now) }
+    requires file { kind_of held.now.facts.kind ≡ File }
     requires counts { AreTotals quota.old tree.old.nodes }
     ensures acts { IfOk result (λ told. (n : Node) (p : Place) (rest : World) (opens : Lists) (id : StateId) (stable : ℕ) → Holds tree.old n held.now →
         let at = placed p caller.now in
@@ -88,8 +89,7 @@ fn put(
     // The call says that the file's bytes are counted in its label, and what a change of them does to the totals.
     totals();
     let Ok(file) = tree.file(held.id) else {
-        // It is one.
-        return Err(AllocError);
+        unreachable!();
     };
     let old = file.len();
     let Some(size) = size_after(file, offset, content) else {
@@ -104,8 +104,11 @@ fn put(
             quota.resize(label, old, size);
             Ok(Ok(content.len() as u32))
         }
-        // The file is there and takes the bytes, so that only memory can be wanting.
-        Err(_) => Err(AllocError),
+        Err(error) => match error {
+            TreeError::Memory => Err(AllocError),
+            // The file is there and takes the bytes.
+            _ => unreachable!(),
+        },
     }
 }
 

@@ -17,7 +17,7 @@ use Rattle.lnfs_open.specs.Opening.{Wish, Does, opened_of, own_open, new_open}
 use Rattle.lnfs_open.specs.Listed.{node_id}
 use Rattle.lnfs_nodes.specs.Acts.{placed}
 use Rattle.lnfs_nodes.proofs.Done.{kept}
-use Rattle.lnfs_nodes.proofs.Inserts.{seen, inserted, spent}
+use Rattle.lnfs_nodes.proofs.Inserts.{seen, inserted, spent, only_spent}
 use Rattle.lnfs_quota.specs.declared.quota.Row.{Row}
 use Rattle.lnfs_quota.specs.Totals.{AreTotals}
 use Rattle.lnfs_files.specs.Worlds.{with_files}
@@ -26,7 +26,8 @@ use Rattle.lnfs_files.specs.Openings.{args_of, wanted_of}
 use Rattle.lnfs_files.specs.Openings as files
 use Rattle.lnfs_files.specs.declared.opened.Opened as code_opened
 use Rattle.lnfs_files.proofs.Makes.{makes, none_of, not_there}
-use Rattle.lnfs_files.proofs.Absents.{behind, by_label, is_full, is_spent, is_made, absent_in, made_counts, same_changes, no_label}
+use Rattle.lnfs_files.proofs.Opens.{only_memory}
+use Rattle.lnfs_files.proofs.Absents.{behind, by_label, opens_left, is_full, is_spent, is_made, absent_in, made_counts, same_changes, no_label}
 use Rattle.lnfs_files.proofs.absent.open_absent.Goals as goal
 
 abbrev wished : (level number : ℕ) (args : Arguments) (node : Id) (access : ℕ) → Wish
@@ -82,8 +83,8 @@ returns-then-not-branch-clause-acts c = λ p rest d holds.
       opens = refl;
     }
 
-pub returns-in-Err-Spent-clause-acts : goal.returns-in-Err-Spent-clause-acts
-returns-in-Err-Spent-clause-acts c = λ p rest d holds.
+pub returns-in-Spent-clause-acts : goal.returns-in-Spent-clause-acts
+returns-in-Spent-clause-acts c = λ p rest d holds.
     let at : Place = placed p c.args.opener.now.caller.now in
     let t = c.args.tree.now in
     let s = c.args.opens.now in
@@ -97,21 +98,33 @@ returns-in-Err-Spent-clause-acts c = λ p rest d holds.
     let fresh = c.in_ok-fresh.fresh in
     let home : fresh.home.0 ≡ d.label = ap (λ (l : Level). l.0) c.in_ok-fresh.ensures.home ∙ holds.tells.label in
     let x = absent_in t c.args.dir.now name c.requires.there d holds in
-    let there = spent t c.insert.new.self (id_of c.args.dir.now.id) d name fresh at.moment (ap (λ (i : Id). node_at t.nodes i) holds.id ∙ holds.node_is) x.0 x.1 (rw c.in-Err-Spent.field-0-is at c.in-Err-Spent.ensures) in
+    let there = spent t c.insert.new.self (id_of c.args.dir.now.id) d name fresh at.moment (ap (λ (i : Id). node_at t.nodes i) holds.id ∙ holds.node_is) x.0 x.1 (rw c.in-Spent.is at c.in-Err-insert.ensures) in
     record {
       outcome =
           ap (operation.open_absent site args at w number d name wanted) c.in-Some.is
           ∙ by_label site args at rest t s number d name wanted making c.level_or-label.result.0 (c.level_or-label.ensures ∙ ap (λ (l : ℕ). level_or l wanted.label) holds.tells.label) _
           (c.in_default-check_makable.ensures at t d (behind site args at rest t s number d name wanted making) holds
-          ∙ is_spent site args at rest t s number d name wanted making fresh.home.0 c.args.opener.now.client.level.0 home (ap (λ (l : Level). l.0) c.requires.level) c.no_space-in-Err-Spent.result c.no_space-in-Err-Spent.ensures there.0);
+          ∙ is_spent site args at rest t s number d name wanted making fresh.home.0 c.args.opener.now.client.level.0 home (ap (λ (l : Level). l.0) c.requires.level) c.no_space-in-Spent.result c.no_space-in-Spent.ensures there.0);
       tree = there.1;
       opens = refl;
     }
 
-pub returns-in-Err-insert : goal.returns-in-Err-insert
-returns-in-Err-insert c =
-    let same = kept seen _ c.args.tree.now c.insert.new.self c.in-Err-insert.field-0 c.in-Err-insert.ensures in
+pub returns-in-Memory : goal.returns-in-Memory
+returns-in-Memory c =
+    let same = kept seen _ c.args.tree.now c.insert.new.self c.in-Err-insert.error c.in-Err-insert.ensures in
     record { acts = tt; tree = (None, same); opens = refl; counts = subst (λ (x : Rows). AreTotals c.args.quota.now x.nodes) (sym same) c.requires.counts }
+
+pub unreachable-requires : goal.unreachable-requires
+unreachable-requires c =
+    let t = c.args.tree.now in
+    let holds = c.requires.there.1.0 in
+    only_spent t c.insert.new.self (id_of c.args.dir.now.id) c.requires.there.0 c.args.name.now c.in_ok-fresh.fresh c.args.opener.now.caller.now.moment (ap (λ (i : Id). node_at t.nodes i) holds.id ∙ holds.node_is) c.requires.there.1.1 c.requires.there.1.2 c.in-Err-insert.error c.in_default-error.not-Spent c.in_default-error.not-Memory c.in-Err-insert.ensures
+
+pub unreachable-requires-in_default-error-2 : goal.unreachable-requires-in_default-error-2
+unreachable-requires-in_default-error-2 c =
+    let opener = c.args.opener.now in
+    only_memory c.args.opens.now c.open.new.self (wished opener.client.level.0 opener.client.number (args_of opener.args.now) (node_id c.node_key.result) c.share.result) c.in-Err-open.error c.in_default-error-2.not-Memory c.in-Err-open.ensures
+    (opens_left _ _ (sym c.if-not-branch.false ∙ c.in_ok-has_room.ensures.room c.args.tree.now.nodes c.requires.counts))
 
 pub returns-in-Ok-open-clause-acts : goal.returns-in-Ok-open-clause-acts
 returns-in-Ok-open-clause-acts c = λ p rest d holds.
@@ -166,8 +179,8 @@ returns-in-Ok-open-clause-counts c =
     (made_counts c.args.quota.now (site_of c.args.opener.now.site.now).dom t u d c.args.name.now fresh moment c.args.dir.now.facts.label.0 (c.totals.ensures.touched_alike c.args.quota.now) (c.totals.ensures.made c.args.quota.now) c.requires.counts c.requires.facts holds.node_is x.0
     (ap (λ (l : Level). l.0) c.in_ok-fresh.ensures.home) there.2)
 
-pub returns-in-Err-open-clause-tree : goal.returns-in-Err-open-clause-tree
-returns-in-Err-open-clause-tree c =
+pub returns-in-Memory-error-clause-tree : goal.returns-in-Memory-error-clause-tree
+returns-in-Memory-error-clause-tree c =
     let t = c.args.tree.now in
     let u = c.insert.new.self in
     let d : Node = c.requires.there.0 in
@@ -179,8 +192,8 @@ returns-in-Err-open-clause-tree c =
     let i : Id = next_id t.lasts fresh.home.0 in
     (Some (record { directory = d.id; inner = name_added moment d.inner; node = new_node moment fresh i; entry = next_entry d c.args.name.now i }), there.2)
 
-pub returns-in-Err-open-clause-counts : goal.returns-in-Err-open-clause-counts
-returns-in-Err-open-clause-counts c =
+pub returns-in-Memory-error-clause-counts : goal.returns-in-Memory-error-clause-counts
+returns-in-Memory-error-clause-counts c =
     let t = c.args.tree.now in
     let u = c.insert.new.self in
     let d : Node = c.requires.there.0 in

@@ -1,12 +1,16 @@
 use Rattle.std.proofs.Common.{ap, ◌∙◌, None}
+use Rattle.std.specs.Option.{option_map}
 use Rattle.lnfs_world.specs.Outcome.{Place}
 use Rattle.lnfs_site.specs.Site.{site_of}
 use Rattle.lnfs_monitor.specs.Rules.{Asks}
+use Rattle.lnfs_tree.specs.Rows.{id_of}
 use Rattle.lnfs_nodes.specs.Trees.{with_tree, refusal_of, denial}
 use Rattle.lnfs_nodes.specs.Acts.{placed}
 use Rattle.lnfs_files.specs.Uses.{way_of}
 use Rattle.lnfs_files.proofs.Stages.{err_refused}
 use Rattle.lnfs_files.proofs.Uses.{kind_off, rules_off, by_state_id}
+use Rattle.lnfs_files.proofs.Openable.{is_file}
+use Rattle.lnfs_files.proofs.WriteOn.{some_place, held_node}
 use Rattle.lnfs_files.proofs.files.usable_file.Goals as goal
 
 pub returns-in_err-check_file-clause-refused : goal.returns-in_err-check_file-clause-refused
@@ -36,3 +40,9 @@ returns-clause-refused c = λ p rest client.
     by_state_id (site_of c.args.site.now) at rest c.args.tree.now c.args.opens.now c.args.id.now (way_of c.args.way) c.in_ok-held.held c.in_ok-held.ensures (λ n holds. c.in_ok-check_file.ensures at n holds.tells.kind) None
     (c.in_ok-check_allowed.ensures ∙ ap (λ (q : Asks). denial (site_of c.args.site.now) c.args.caller.now.subject.0 q) c.question-question.ensures)
     (λ n holds. c.in_ok-check_usable.ensures p (with_tree rest c.args.tree.now) n client holds.id)
+
+pub returns-clause-file : goal.returns-clause-file
+returns-clause-file c =
+    let at : Place = placed some_place c.args.caller.now in
+    let x = held_node c.args.tree.now (option_map id_of c.args.caller.now.current) c.in_ok-held.held c.in_ok-held.ensures in
+    is_file at x.0 _ x.1.tells.kind (c.in_ok-check_file.ensures at x.0 x.1.tells.kind)

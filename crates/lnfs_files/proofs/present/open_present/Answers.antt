@@ -12,7 +12,7 @@ use Rattle.lnfs_nodes.specs.Acts.{placed}
 use Rattle.lnfs_nodes.proofs.Refusing.{refused_as}
 use Rattle.lnfs_files.specs.Openings.{args_of, wanted_of}
 use Rattle.lnfs_files.proofs.Cuts.{bytes_held}
-use Rattle.lnfs_files.proofs.Opens.{wish, with_own, refused_so, is_full, after_cut, succeeds}
+use Rattle.lnfs_files.proofs.Opens.{wish, with_own, refused_so, only_full, is_full, after_cut, succeeds}
 use Rattle.lnfs_files.proofs.present.open_present.Goals.{then-sized-2, else-sized-2}
 use Rattle.lnfs_files.proofs.present.open_present.Goals as goal
 
@@ -33,8 +33,8 @@ byte_room-requires c =
     let holds = c.requires.there.1 in
     record { held = bytes_held c.args.quota.now t n h (λ i at. c.totals.ensures.held_bytes c.args.quota.now t.nodes i n c.requires.counts at) holds (sym holds.tells.kind ∙ c.in_default.ensures.file) }
 
-pub returns-in-Err-Full-clause-acts : goal.returns-in-Err-Full-clause-acts
-returns-in-Err-Full-clause-acts c = λ p rest n holds.
+pub returns-in-Full-clause-acts : goal.returns-in-Full-clause-acts
+returns-in-Full-clause-acts c = λ p rest n holds.
     let at : Place = placed p c.args.opener.now.caller.now in
     let args : Arguments = args_of c.args.opener.now.args.now in
     let t = c.args.tree.now in
@@ -43,7 +43,7 @@ returns-in-Err-Full-clause-acts c = λ p rest n holds.
     let number = c.args.opener.now.client.number in
     let w : Wanted = wanted_of c.args.wanted.now in
     let same = same_wish c.args.opener.now.client.level.0 at.subject number args (node_id c.node_key-node.result) n.id c.share.result (access_of args) (ap (λ (l : Level). l.0) c.requires.level) (c.node_key-node.ensures ∙ holds.id) c.share.ensures in
-    let does = subst (λ (x : Wish). Does (opened_of s x) s v (Err Full)) same (rw c.in-Err-Full.field-0-is at c.in-Err-Full.ensures) in
+    let does = subst (λ (x : Wish). Does (opened_of s x) s v (Err Full)) same (rw c.in-Full.is at c.in-Err-open.ensures) in
     let told : (opened_of s (wish args at rest t s number n) ≡ Err Full) × (v ≡ s) = refused_so s v (opened_of s (wish args at rest t s number n)) Full (λ e. cc) does in
     record {
       outcome =
@@ -53,6 +53,11 @@ returns-in-Err-Full-clause-acts c = λ p rest n holds.
       tree = refl;
       opens = told.1;
     }
+
+pub unreachable-requires : goal.unreachable-requires
+unreachable-requires c =
+    let opener = c.args.opener.now in
+    only_full c.args.opens.now c.open.new.self (wished opener.client.level.0 opener.client.number (args_of opener.args.now) (node_id c.node_key-node.result) c.share.result) c.in-Err-open.error c.in_default-error.not-Memory c.in-Err-open.ensures c.in_default-error.not-Full
 
 pub returns-clause-acts : goal.returns-clause-acts
 returns-clause-acts c = λ p rest n holds.

@@ -19,9 +19,16 @@ use Rattle.lnfs_nodes.specs.Acts.{placed}
 use Rattle.lnfs_files.specs.Worlds.{with_files}
 use Rattle.lnfs_files.specs.Acts.{Succeeds}
 use Rattle.lnfs_files.proofs.Charged.{resized_limits}
-use Rattle.lnfs_files.proofs.WriteOn.{held_node, file_is, held_room, fits_so, within, past, goes_on, is_past, written_so, succeeds, written_totals}
+use Rattle.lnfs_files.proofs.WriteOn.{held_node, file_is, no_data, only_memory, held_room, fits_so, within, past, goes_on, is_past, written_so, succeeds, written_totals}
 use Rattle.lnfs_files.proofs.WriteOn.{some_place, some_id}
 use Rattle.lnfs_files.proofs.writing.put.Goals as goal
+
+pub unreachable-requires : goal.unreachable-requires
+unreachable-requires c =
+    let t = c.args.tree.now in
+    let h = c.args.held.now in
+    let x = held_node t (option_map id_of c.args.caller.now.current) h c.requires.held in
+    no_data t x.0 h _ x.1 c.requires.file c.in_default.ensures
 
 pub byte_room-requires : goal.byte_room-requires
 byte_room-requires c =
@@ -89,3 +96,15 @@ returns-in-Ok-write-clause-counts c =
     (subst (λ (size : ℕ). AreTotals (resized c.args.quota.now n.label size c.in-Some.size) u.nodes) (sym old)
     (subst (λ (size : ℕ). AreTotals (resized c.args.quota.now n.label (length n.inner.content) size) u.nodes) (sym f.1)
     (written_totals c.args.quota.now t u n c.requires.counts x.1.node_is is.kind at args (λ inner. c.totals.ensures.touched c.args.quota.now n.id inner n (world_of t) c.requires.counts x.1.node_is) done))))
+
+pub unreachable-requires-in_default-error : goal.unreachable-requires-in_default-error
+unreachable-requires-in_default-error c =
+    let at : Place = placed some_place c.args.caller.now in
+    let t = c.args.tree.now in
+    let h = c.args.held.now in
+    let x = held_node t (option_map id_of c.args.caller.now.current) h c.requires.held in
+    let n = x.0 in
+    let args : Arguments = record { id = some_id; offset = c.args.offset; stable = 0; content = c.args.content.now } in
+    let is = file_is t n h c.in-Ok.file.now x.1 c.in-Ok.ensures in
+    let f = fits_so args.offset args.content c.in-Ok.file.now n.inner.content c.in-Some.size is.same c.in-Some.ensures in
+    only_memory at t c.write.new.self n h args x.1 c.in-Err.error is.kind f.0 c.in_default-error.not-Memory c.in-Err.ensures

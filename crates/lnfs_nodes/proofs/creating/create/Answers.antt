@@ -127,4 +127,4 @@ unreachable-requires c =
     name_taken (site_of c.args.site.now) c.args.what.now name c.args.given.now at (world_of t) t h (asked_of c.in-Ok.asked) c.level_or-child.result.0 c.in-Ok-node_held.ensures (rw c.in-Ok.is at c.in_ok-asked.ensures) c.level_or-child.ensures
     (λ (o : Outcome (Answer Made)). ⊥) c.in_default.ensures
     (λ d holds directory subject absent.
-    only_spent t c.insert.new.self (id_of h.id) d name c.in_ok-fresh.fresh at.moment (ap (λ (i : Id). node_at t.nodes i) holds.id ∙ holds.at) directory absent c.in-Err-insert.error c.in_default-error.not-Spent c.in_default-error.not-Memory c.in-Err-insert.ensures)
+    only_spent t c.insert.new.self (id_of h.id) d name c.in_ok-fresh.fresh at.moment (ap (λ (i : Id). node_at t.nodes i) holds.id ∙ holds.node_is) directory absent c.in-Err-insert.error c.in_default-error.not-Spent c.in_default-error.not-Memory c.in-Err-insert.ensures)
