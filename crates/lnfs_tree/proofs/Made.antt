@@ -36,6 +36,13 @@ use Rattle.lnfs_tree.proofs.LastNumbers.{last_set}
 use Rattle.lnfs_tree.proofs.Lines.{key_free}
 use Rattle.lnfs_tree.proofs.Numbers.{next_above, nothing_more, below_next, some_same, some_none}
 
+-- a row has its node
+pub not_absent : (ns : List Node) (i : Id) (row : NodeRow) → world.node_at (map row_of ns) i ≡ Some row → None ≡ node_at ns i → ⊥
+not_absent ns i row found none = none_some (sym (node_at-rows i ns ∙ ap (option_map row_of) (sym none)) ∙ found)
+  where
+    none_some : None ≡ Some row → ⊥
+    none_some e = cc
+
 -- what is known where it is made: the nodes, the directory and its name there, the new identifier
 pub record Making (dom : ℕ → ℕ → Bool) (ns : List Node) (lasts : List (Level × ℕ)) (i : Id) (name : List ℕ) (n : Node) (id : NodeId) : Type 0 where
   pub rising : Rising node_order ns

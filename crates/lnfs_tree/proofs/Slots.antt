@@ -260,3 +260,10 @@ not_empty i k s es all at none = here (get s k) none (node_there i k s es all (s
     here : (o : Option Node) → None ≡ o → IsSomeAnd o (λ n. n.id ≡ i) → ⊥
     here None e no_node = no_node
     here (Some n) e id = absurd (cc)
+
+-- a node that is there is in the index
+pub not_missing : (i : NodeId) (s : Slab Node) (es : List (NodeId × ℕ)) (ns : List Node) (node : Node) → AreHeld s es → held s es ≡ ns → node_at ns (id_of i) ≡ Some node → None ≡ lookup (λ x. is_eq (id_cmp i x)) es → ⊥
+not_missing i s es ns node all view here none = none_some (sym (node_at-held i s es all ∙ ap (found s) (sym none)) ∙ ap (λ (ms : List Node). node_at ms (id_of i)) view ∙ here)
+  where
+    none_some : None ≡ Some node → ⊥
+    none_some e = cc

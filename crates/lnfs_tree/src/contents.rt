@@ -80,7 +80,7 @@ impl Store {
         node.set_size(size, at);
     }
 
-    /// Writes bytes to a node.
+    /// Writes bytes to a node, if it is there.
     pub fn write(
         &mut self,
         alloc: Global,
@@ -96,11 +96,11 @@ impl Store {
         // The call says that the identifiers rise.
         let _count = self.by_id.len();
         let Some(key) = self.by_id.get(&id) else {
-            return Err(AllocError);
+            return Ok(());
         };
         let key = *key;
         let Some(node) = self.slots.get_mut(key) else {
-            return Err(AllocError);
+            unreachable!();
         };
         node.write(alloc, offset, bytes, at)?;
         Ok(())

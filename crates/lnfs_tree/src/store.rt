@@ -139,11 +139,11 @@ impl Store {
         // The call says that the identifiers rise.
         let _count = self.by_id.len();
         let Some(key) = self.by_id.get(&id) else {
-            return Err(AllocError);
+            unreachable!();
         };
         let key = *key;
         let Some(node) = self.slots.get_mut(key) else {
-            return Err(AllocError);
+            unreachable!();
         };
         node.names.insert(alloc, cookie, name, child)?;
         node.cookies = cookie + 1;
