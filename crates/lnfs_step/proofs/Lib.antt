@@ -12,3 +12,4 @@ pub mod Labels
 pub mod Slots
 pub mod Keeping
 pub mod Origins
+pub mod CreatedOnce

@@ -50,7 +50,7 @@ pub state_next : (X : Extra) (m : Signing) (p : Policy) (journal : List Event) (
 state_next X m p journal event = state_from-append X m p (first_state X p) journal event
 
 -- an event that is answered again, by what is served
-again : (X : Extra) (m : Signing) (p : Policy) (journal : List Event) (event : Event) (call : Call) (arguments : List ℕ) (c : Compound) (result : List ℕ) → Asks X m p journal event call arguments c →
+pub again : (X : Extra) (m : Signing) (p : Policy) (journal : List Event) (event : Event) (call : Call) (arguments : List ℕ) (c : Compound) (result : List ℕ) → Asks X m p journal event call arguments c →
     serving X p event call arguments c (state_after X m p journal) ≡ record { answer = record { result = result; denial = None }; place = begins_at call.level event.moment; state = state_after X m p journal } →
     IsAnswered X m p journal event call result
 unfolding reply_with line_with

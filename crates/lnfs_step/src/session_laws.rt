@@ -38,6 +38,12 @@ pub fn sessions<X: ExtraRows, M: Mechanism>()
         ComesOnSlot X.extra M.signing p journal event call arguments c args x slot → args.sequence ≡ next_sequence slot.sequence →
         Asks X.extra M.signing p (journal ++ event ∷ []) again other arguments c → other.level ≡ call.level → length again.message ≤ x.channel.max_request →
         (result : List ℕ) × (reply_with X.extra M.signing p journal event ≡ Some (answer_text M.signing call.wrapping call.xid result)) × IsAnswered X.extra M.signing p (journal ++ event ∷ []) again other result }
+    // So does a CREATE_SESSION under the next sequence of its client's record, be it granted or refused (RFC 8881
+    // section 18.36.4): the same behind it gets its result, makes no session more, and leaves what the first one left.
+    ensures once_created { (p : Policy) (journal : List Event) (event again : Event) (call other : Call) (arguments : List ℕ) (c : Compound) (args : CreateSession) (client : Client) →
+        ComesToClient X.extra M.signing p journal event call arguments c args client → args.sequence ≡ client.sequence →
+        Asks X.extra M.signing p (journal ++ event ∷ []) again other arguments c → other.level ≡ call.level →
+        (result : List ℕ) × (reply_with X.extra M.signing p journal event ≡ Some (answer_text M.signing call.wrapping call.xid result)) × IsAnswered X.extra M.signing p (journal ++ event ∷ []) again other result }
     // What a slot of a session keeps is what an event of the journal got, of the session's level.
     ensures origin { (p : Policy) → IsPreorderWithBottom (dominance p) → (journal : List Event) (i : Id) (x : Session) (n : ℕ) (slot : Slot) (kept : Kept) →
         session_at (state_after X.extra M.signing p journal).world.sessions i ≡ Some x → slice_get x.slots n ≡ Some slot → slot.kept ≡ Some kept →
