@@ -1,7 +1,8 @@
 -- What holds of every COMPOUND that is read: its tag is short, and it has no more operations than it counts.
-use Rattle.std.proofs.Common.{◌≡◌, ◌≤◌, ◌+◌, ℕ, zero, suc, Bool, true, false, cond, eqb, List, [], ◌∷◌, length, take, drop, Ok, Err, nat_lt, nat_le, refl, ap, subst, arith}
+use Rattle.std.proofs.Common.{◌≡◌, ◌≤◌, ◌+◌, ℕ, zero, suc, Bool, true, false, cond, eqb, List, [], ◌∷◌, ◌++◌, length, take, drop, Ok, Err, nat_lt, nat_le, refl, ap, subst, arith}
 use Rattle.std.specs.Prelude.{◌==◌, Result}
 use Rattle.std.specs.Int.{w32}
+use Rattle.std.specs.List.{AllByRecursion}
 use Rattle.std.proofs.lemmas.Bool.{ltb-false}
 use Rattle.std.proofs.lemmas.Bool.Decides.{nat_tests}
 use Rattle.std.proofs.lemmas.List.{length-take, length-append}
@@ -13,11 +14,12 @@ use Rattle.lnfs_xdr.proofs.Fields.{after_ok, guard_ok, here_ok}
 use Rattle.lnfs_arguments.specs.declared.types.Op.{Op}
 use Rattle.lnfs_arguments.specs.declared.types.Op.TheVariants as ops
 use Rattle.lnfs_arguments.specs.declared.types.Compound.{Compound}
-use Rattle.lnfs_arguments.specs.Grammar.{arguments}
 use Rattle.lnfs_xdr.specs.Message.{Message, Closed, Unread, Next, Measured, parse, decided, cut_at}
 use Rattle.lnfs_arguments.specs.Further.{Further}
 use Rattle.lnfs_arguments.specs.Whole.{header, compound, operations, served, is_cut, with_op, ended, chosen}
 use Rattle.lnfs_operations.specs.Sizes.{IsRead}
+use Rattle.lnfs_step.proofs.Denials.{OutsideIs}
+use Rattle.lnfs_step.proofs.Outsides.{inside_read, outside_left}
 
 opaque_short : (max : ℕ) (bytes : List ℕ) (x : List ℕ × List ℕ) → opaque_at max bytes ≡ Ok x → length x.0 ≤ max
 opaque_short max bytes x e =
@@ -111,23 +113,28 @@ tells_chosen : {B : Type 0} {P : B → Type 0} (b : Bool) (m n : Message B) → 
 tells_chosen true m n p q = p
 tells_chosen false m n p q = q
 
--- the same tag and count, and at most so many operations
+-- the same tag and count, and at most so many operations, each of which is refused with a status of its gate where it is outside
 record Few (tag : List ℕ) (count most : ℕ) (c : Compound) : Type 0 where
   tag_is : c.tag ≡ tag
   count_is : c.count ≡ count
   few : length c.ops ≤ most
+  outside : AllByRecursion OutsideIs c.ops
 
 few_more : (c : Compound) (op : Op) → length (with_op c op).ops ≡ length c.ops + 1
 few_more c op = length-append c.ops (op ∷ [])
 
-operations_tell : (x : Further) (cut : Bool) (n : ℕ) (c : Compound) (tag : List ℕ) (count most : ℕ) → c.tag ≡ tag → c.count ≡ count → length c.ops + n ≤ most → Tells (operations x cut n c) (Few tag count most)
+all_more : (os : List Op) (op : Op) → AllByRecursion OutsideIs os → OutsideIs op → AllByRecursion OutsideIs (os ++ op ∷ [])
+all_more [] op all is = (is, tt)
+all_more (o ∷ os) op all is = (all.0, all_more os op all.1 is)
+
+operations_tell : (x : Further) (cut : Bool) (n : ℕ) (c : Compound) (tag : List ℕ) (count most : ℕ) → c.tag ≡ tag → c.count ≡ count → length c.ops + n ≤ most → AllByRecursion OutsideIs c.ops → Tells (operations x cut n c) (Few tag count most)
 unfolding operations
-operations_tell x cut zero c tag count most is counts few = tells_ended cut c (record { tag_is = is; count_is = counts; few = omega arith })
-operations_tell x cut (suc n) c tag count most is counts few =
+operations_tell x cut zero c tag count most is counts few outside = tells_ended cut c (record { tag_is = is; count_is = counts; few = omega arith; outside = outside })
+operations_tell x cut (suc n) c tag count most is counts few outside =
     tells_next (λ number. Unit {0}) (gives_any Word) (λ number _. tells_chosen (x.serves number) _ _
-    (tells_measured (λ args. operations_tell x cut n (with_op c (ops.Extra number args)) tag count most is counts (omega (arith, few_more c (ops.Extra number args)))))
-    (tells_next (λ op. Unit {0}) (gives_any (arguments number)) (λ op _. operations_tell x cut n (with_op c op) tag count most is counts (omega (arith, few_more c op)))
-    (λ bytes e left. record { tag_is = is; count_is = counts; few = omega (arith, few_more c (ops.Outside e.0 e.1)) })))
+    (tells_measured (λ args. operations_tell x cut n (with_op c (ops.Extra number args)) tag count most is counts (omega (arith, few_more c (ops.Extra number args))) (all_more c.ops (ops.Extra number args) outside tt)))
+    (tells_next OutsideIs (record { is = λ bytes x e. inside_read number bytes x e }) (λ op inside. operations_tell x cut n (with_op c op) tag count most is counts (omega (arith, few_more c op)) (all_more c.ops op outside inside))
+    (λ bytes e left. record { tag_is = is; count_is = counts; few = omega (arith, few_more c (ops.Outside e.0 e.1)); outside = all_more c.ops (ops.Outside e.0 e.1) outside (outside_left number bytes e left) })))
     (λ bytes e left. absurd e)
 
 served_few : (minor count : ℕ) → served minor count ≤ count
@@ -136,13 +143,13 @@ served_few minor count = grind (arith, nat_tests)
 served_most : (minor count : ℕ) → served minor count ≤ 32
 served_most minor count = grind (arith, nat_tests)
 
-compound_tells : (x : Further) → Tells (compound x) (λ c. IsRead c × (length c.ops ≤ 32))
+compound_tells : (x : Further) → Tells (compound x) (λ c. IsRead c × (length c.ops ≤ 32) × AllByRecursion OutsideIs c.ops)
 unfolding compound
 compound_tells x = tells_next Begins header_gives (λ h begins. record {
   is = λ bytes c e.
       let n = served h.minor h.count in
-      let f = (operations_tell x (is_cut h.minor h.count) n h h.tag h.count n refl refl (omega (arith, ap length begins.none))).is bytes c e in
-      (record { tag = rw f.tag_is begins.short; operations = omega (arith, f.few, f.count_is, served_few h.minor h.count) }, omega (arith, f.few, served_most h.minor h.count));
+      let f = (operations_tell x (is_cut h.minor h.count) n h h.tag h.count n refl refl (omega (arith, ap length begins.none)) (rw begins.none tt)).is bytes c e in
+      (record { tag = rw f.tag_is begins.short; operations = omega (arith, f.few, f.count_is, served_few h.minor h.count) }, omega (arith, f.few, served_most h.minor h.count), f.outside);
 }) (λ bytes e left. absurd e)
 
 pub compound_read : (x : Further) (bytes : List ℕ) (c : Compound) → parse (compound x) bytes ≡ Ok c → IsRead c
@@ -151,3 +158,7 @@ compound_read x bytes c e = ((compound_tells x).is bytes c e).0
 -- and at most 32 operations, however many it counts
 pub compound_few : (x : Further) (bytes : List ℕ) (c : Compound) → parse (compound x) bytes ≡ Ok c → length c.ops ≤ 32
 compound_few x bytes c e = ((compound_tells x).is bytes c e).1
+
+-- and one that is outside is refused with a status of its gate
+pub compound_outside : (x : Further) (bytes : List ℕ) (c : Compound) → parse (compound x) bytes ≡ Ok c → AllByRecursion OutsideIs c.ops
+compound_outside x bytes c e = ((compound_tells x).is bytes c e).2

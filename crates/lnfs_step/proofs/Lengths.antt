@@ -66,7 +66,7 @@ sizes_beside a b beside sizes = record {
 module _ (X : Extra) (owed : AreLawful X) (m : Signing) (p : Policy) (lattice : IsPreorderWithBottom (dominance p)) where
   task_sizes : (event : Event) (call : Call) (task : Task) (b : Both X.Row) → IsTask task → Holds X p b → Sizes b.world → Sizes (done_for X m p b event call task).state.world
   task_sizes event call Garbled b read holds sizes = sizes
-  task_sizes event call (Run arguments c) b read holds sizes = served_sizes X owed (site_of p) lattice (spells_shortly p) (sent_of event arguments c) c call.level event.moment b (begins X owed m p lattice call.level event.moment b holds) sizes read
+  task_sizes event call (Run arguments c) b read holds sizes = served_sizes X owed (site_of p) lattice (spells_shortly p) (sent_of event arguments c) c call.level event.moment b (begins X owed m p lattice call.level event.moment b holds) sizes read.0
   task_sizes event call (MakeContext parent assertion) b read holds sizes = sizes_beside _ _ (made_beside X m p b event call parent assertion) sizes
   task_sizes event call (EndContext number) b read holds sizes = sizes_beside _ _ (ended_beside X m p b event call number) sizes
 
@@ -100,7 +100,7 @@ module _ (X : Extra) (owed : AreLawful X) (m : Signing) (p : Policy) (lattice : 
     task_short event call Garbled b read holds sizes = refusal_length m sized call.wrapping call.xid (called GARBAGE_ARGS)
     task_short event call (Run arguments c) b read holds sizes =
         let t = served X (site_of p) (sent_of event arguments c) c (begins_at call.level event.moment) b in
-        omega (arith, answer_length m sized call.wrapping call.xid t.answer.result, served_short X owed (site_of p) lattice (spells_shortly p) (sent_of event arguments c) c call.level event.moment b (begins X owed m p lattice call.level event.moment b holds) sizes read)
+        omega (arith, answer_length m sized call.wrapping call.xid t.answer.result, served_short X owed (site_of p) lattice (spells_shortly p) (sent_of event arguments c) c call.level event.moment b (begins X owed m p lattice call.level event.moment b holds) sizes read.0)
     task_short event call (MakeContext parent assertion) b read holds sizes =
         let t = on_world (deed_of (make_context parent)) (begins_at call.level event.moment) b in
         made_short call parent assertion t.answer t.state read

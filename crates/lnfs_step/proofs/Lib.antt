@@ -13,3 +13,8 @@ pub mod Slots
 pub mod Keeping
 pub mod Origins
 pub mod CreatedOnce
+pub mod Lines
+pub mod Failing
+pub mod Recorded
+pub mod Denials
+pub mod Outsides

@@ -2,6 +2,7 @@
 -- label that is asserted is short.
 use Rattle.std.proofs.Common.{◌≡◌, ◌≤◌, ℕ, Bool, true, false, List, [], ◌∷◌, length, Option, Some, None, Ok, Err, refl, subst}
 use Rattle.std.specs.Prelude.{Result}
+use Rattle.std.specs.List.{AllByRecursion}
 use Rattle.lnfs_outside.specs.declared.event.Event.{Event}
 use Rattle.lnfs_format.specs.declared.formats.TheConstants.{MAX_SPELLING}
 use Rattle.lnfs_policy.specs.Policy.{Policy}
@@ -21,7 +22,8 @@ use Rattle.lnfs_gss3.specs.Who.{who}
 use Rattle.lnfs_gss3.specs.Who as whose
 use Rattle.lnfs_step.specs.Request.{Call, Task, Garbled, Run, MakeContext, EndContext, Request, Silent, Refused, Nothing, Asked, null_call, run_as, run_of, run_in, run_signed, asked_by, asked_of, request_with, level_by, level_of}
 use Rattle.lnfs_step.proofs.Callers.{who_any}
-use Rattle.lnfs_step.proofs.Compounds.{compound_read}
+use Rattle.lnfs_step.proofs.Compounds.{compound_read, compound_outside}
+use Rattle.lnfs_step.proofs.Denials.{OutsideIs}
 
 abbrev pub level_in : Request → Option ℕ
 level_in Silent = None
@@ -35,7 +37,7 @@ null_level xid (b ∷ bytes) = refl
 
 abbrev pub IsTask : Task → Type 0
 IsTask Garbled = Unit {0}
-IsTask (Run arguments c) = IsRead c
+IsTask (Run arguments c) = IsRead c × AllByRecursion OutsideIs c.ops
 IsTask (MakeContext parent assertion) = length assertion.label ≤ MAX_SPELLING
 IsTask (EndContext number) = Unit {0}
 
@@ -51,7 +53,7 @@ null_reads xid (b ∷ bytes) = tt
 
 module _ (g : Further) where
   as_task : (arguments : List ℕ) (r : Result Compound (List ℕ)) → parse (compound g) arguments ≡ r → IsTask (run_as arguments r)
-  as_task arguments (Ok c) e = compound_read g arguments c e
+  as_task arguments (Ok c) e = (compound_read g arguments c e, compound_outside g arguments c e)
   as_task arguments (Err stuck) e = tt
 
   of_task : (arguments : List ℕ) → IsTask (run_of g arguments)
@@ -111,4 +113,7 @@ module _ (g : Further) where
     request_reads class bytes = of_reads class (call_of bytes)
 
     pub asked_read : (event : Event) (call : Call) (arguments : List ℕ) (c : Compound) → request_with g m p event.class event.message ≡ Asked call (Run arguments c) → IsRead c
-    asked_read event call arguments c asked = subst Reads asked (request_reads event.class event.message)
+    asked_read event call arguments c asked = (subst Reads asked (request_reads event.class event.message)).0
+
+    pub asked_outside : (event : Event) (call : Call) (arguments : List ℕ) (c : Compound) → request_with g m p event.class event.message ≡ Asked call (Run arguments c) → AllByRecursion OutsideIs c.ops
+    asked_outside event call arguments c asked = (subst Reads asked (request_reads event.class event.message)).1

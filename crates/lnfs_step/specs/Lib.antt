@@ -4,3 +4,4 @@ pub mod Contexts
 pub mod Step
 pub mod Journal
 pub mod Sessions
+pub mod Lines

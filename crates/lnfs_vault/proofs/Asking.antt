@@ -9,7 +9,7 @@ use Rattle.lnfs_vault.specs.Requests.{IsTask, IsAsked}
 
 task_is : (t : Task) → step.IsTask t → IsTask t
 task_is Garbled is = tt
-task_is (Run arguments c) is = is
+task_is (Run arguments c) is = is.0
 task_is (MakeContext parent assertion) is = is
 task_is (EndContext number) is = tt
 

@@ -1,0 +1,22 @@
+//! The law of the lines of events, as the contract of a function that does nothing.
+ghost use Rattle.std.specs.Prelude.{List};
+ghost use Rattle.lnfs_calipso.specs.Label.{IsPreorderWithBottom};
+ghost use Rattle.lnfs_outside.specs.declared.event.Event.{Event};
+ghost use Rattle.lnfs_policy.specs.Policy.{Policy, dominance};
+ghost use Rattle.lnfs_step.specs.Lines.{Recorded};
+
+use lnfs_gss3::Mechanism;
+use lnfs_operations::ExtraRows;
+
+/// Every denial has its line, after each journal: with further operations that meet what these owe,
+/// under any mechanism of signatures, and under a policy whose dominance is a preorder with level 0
+/// below all. An event has no line only where it is no call, where it gets again what was kept for
+/// its arguments, or where its call was accepted and its COMPOUND, if it has one, ended with status 0.
+/// A call that is refused as a whole has the line of what refused it. The line of a COMPOUND bears the
+/// status with which that ended, which isn't 0, and names the operation that failed, by its place and
+/// its number, or the COMPOUND as a whole. Where an operation of the table is denied access, the gate
+/// is a rule of labels, and only there.
+pub fn denials_are_recorded<X: ExtraRows, M: Mechanism>()
+    ensures { (p : Policy) → IsPreorderWithBottom (dominance p) → (journal : List Event) (event : Event) →
+        Recorded X.extra M.signing p journal event }
+{}
