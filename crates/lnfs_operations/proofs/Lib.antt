@@ -44,5 +44,6 @@ pub mod Once
 pub mod Walks
 pub mod SizeChanges
 pub mod Rooms
+pub mod Bounded
 pub mod SizeLaws
 pub mod LabelLaws

@@ -189,7 +189,7 @@ module _ (c : Compound) (most : ℕ) where
 -- ---- a COMPOUND
 
 -- The last four bytes of an id that names a session are there, so the others are.
-session_length : (bytes : List ℕ) (sessions : List Session) (x : Session) → session_under bytes sessions ≡ Some x → length bytes ≡ 16
+pub session_length : (bytes : List ℕ) (sessions : List Session) (x : Session) → session_under bytes sessions ≡ Some x → length bytes ≡ 16
 session_length bytes sessions x found = at (bytes_eq (drop 12 bytes) (0 ∷ 0 ∷ 0 ∷ 0 ∷ [])) refl found
   where
     at : (b : Bool) → bytes_eq (drop 12 bytes) (0 ∷ 0 ∷ 0 ∷ 0 ∷ []) ≡ b → cond b (session_at sessions (session_named bytes)) None ≡ Some x → length bytes ≡ 16

@@ -39,3 +39,4 @@ pub mod Admission
 pub mod Served
 pub mod SlotRule
 pub mod Retries
+pub mod Bounded

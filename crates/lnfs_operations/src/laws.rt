@@ -16,7 +16,7 @@ ghost use Rattle.lnfs_arguments.specs.declared.types.CreateSession.{CreateSessio
 ghost use Rattle.lnfs_arguments.specs.declared.types.Sequence.{Sequence};
 ghost use Rattle.lnfs_results.specs.declared.types.OpResult.{OpResult};
 ghost use Rattle.lnfs_world.specs.World.{Id, Kept, Client, Slot, Session, client_at};
-ghost use Rattle.lnfs_world.specs.Outcome.{Site, View, Footprint, begins_at};
+ghost use Rattle.lnfs_world.specs.Outcome.{Site, Place, View, Footprint, begins_at};
 ghost use Rattle.lnfs_world.specs.Both.{Both, both_seen, BothStand};
 ghost use Rattle.lnfs_world.specs.Lawful.{Lawful};
 ghost use Rattle.lnfs_world.specs.Labels.{LabelsRise};
@@ -38,6 +38,7 @@ ghost use Rattle.lnfs_operations.specs.Served.{operation};
 ghost use Rattle.lnfs_operations.specs.SlotRule.{served};
 ghost use Rattle.lnfs_operations.specs.Retries.{Names};
 ghost use Rattle.lnfs_operations.specs.Sizes.{Sizes, SpellsShortly, IsRead};
+ghost use Rattle.lnfs_operations.specs.Bounded.{IsBounded};
 ghost use Rattle.lnfs_operations.specs.Shown.{bitmap_of, answer_to};
 ghost use Rattle.lnfs_operations.specs.Handles.{handle_of};
 ghost use Rattle.lnfs_operations.specs.GetAttr.{get_attr, verify, nverify};
@@ -186,6 +187,20 @@ pub fn retries_are_answered_again<X: ExtraRows>()
         let first = served X.extra site sent c (begins_at level moment) b in
         served X.extra site again c (begins_at level later) first.state
         ≡ record { answer = record { result = first.answer.result; denial = None }; place = begins_at level later; state = first.state } }
+{}
+
+/// The result of each operation behind the results so far of its COMPOUND is no longer than its bound, by which the
+/// room for it is tested before it runs (RFC 8881 section 2.10.6.4); and that of an operation of the table which is
+/// refused has at most 12 bytes. So it is where world and place stand, labels are short, and what is stored keeps
+/// its limits. These are kept behind each operation, so that the next one finds them.
+pub fn results_are_bounded<X: ExtraRows>()
+    ensures bounded { (site : Site) → IsPreorderWithBottom site.dom → SpellsShortly site → (sent : Sent) (c : Compound) (so_far : List OpResult) (op : Op) (p : Place) (b : Both X.extra.Row) →
+        BothStand X.extra.Fact site.dom p b → Sizes b.world →
+        IsBounded X.extra.grammar op (operation X.extra site sent c so_far op p b).answer }
+    ensures kept { (site : Site) → IsPreorderWithBottom site.dom → SpellsShortly site → (sent : Sent) (c : Compound) (so_far : List OpResult) (op : Op) (p : Place) (b : Both X.extra.Row) →
+        BothStand X.extra.Fact site.dom p b → Sizes b.world →
+        let t = operation X.extra site sent c so_far op p b in
+        BothStand X.extra.Fact site.dom t.place t.state × Sizes t.state.world }
 {}
 
 /// The result of a new COMPOUND on an accepted slot leaves room in a response of its session for the largest

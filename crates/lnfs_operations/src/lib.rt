@@ -13,7 +13,7 @@ pub use extra::ExtraRows;
 pub use laws::{
     attributes_are_told, compounds_are_lawful, exchange_id_is_lawful, files_are_lawful,
     keeping_is_lawful, labels_rise, making_is_lawful, naming_is_lawful, operations_are_lawful,
-    reading_is_lawful, results_leave_room, retries_are_answered_again,
+    reading_is_lawful, results_are_bounded, results_leave_room, retries_are_answered_again,
     session_operations_are_lawful, sizes_are_kept,
 };
 use lnfs_monitor::Rule;
