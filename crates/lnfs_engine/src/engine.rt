@@ -100,7 +100,7 @@ fn serve<X: Extra>(
 }
 
 impl<X: Extra> Engine<X> {
-    /// The nodes of a tree without bytes, no client, no open and no context. What each level uses is counted against the limits of a site.
+    /// The nodes of a tree without bytes, no client, no open and no context. What each level of a site uses is counted.
     ///
     /// # Errors
     ///

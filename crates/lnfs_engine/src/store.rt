@@ -41,7 +41,7 @@ impl Model for Store {
 }
 
 impl Store {
-    /// The nodes of a tree without bytes, no client, no open and no context. What each level uses is counted against the limits of a site.
+    /// The nodes of a tree without bytes, no client, no open and no context. What each level of a site uses is counted.
     ///
     /// # Errors
     ///

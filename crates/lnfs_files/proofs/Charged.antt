@@ -1,4 +1,4 @@
--- Totals from which a node is taken, and the limits of rows that are charged.
+-- Totals from which a node is taken, and how many rows there are of levels that are charged.
 use Rattle.std.proofs.Common.{◌≡◌, ◌+◌, ◌-◌, ◌<◌, ◌≤◌, ◌==◌, ℕ, Bool, cond, List, length, map, sym, ap, ◌∙◌, refl, arith}
 use Rattle.std.proofs.lemmas.Bool.Decides.{nat_tests}
 use Rattle.std.proofs.lemmas.List.{map-set, set-get_or, get_or-map, length-set}
@@ -6,7 +6,7 @@ use Rattle.std.specs.Prelude.{slice_set, slice_index_or}
 use Rattle.lnfs_world.specs.World.{Node}
 use Rattle.lnfs_world.specs.Usage.{nodes_used, bytes_used}
 use Rattle.lnfs_quota.specs.declared.quota.Row.{Row}
-use Rattle.lnfs_quota.specs.Quota.{row_at, unused, limits_of, node_credited, resized, moved}
+use Rattle.lnfs_quota.specs.Quota.{row_at, unused, node_credited, resized, moved}
 use Rattle.lnfs_quota.specs.Totals.{AreTotals}
 use Rattle.lnfs_quota.proofs.Kept.{sums_of, totals_of, sums-credited, sums-resized}
 use Rattle.lnfs_files.specs.Charges.{AreBytesHeld, IsLess, released}
@@ -19,28 +19,25 @@ module _ {A : Type 0} (f : Row → A) (rows : List Row) (level : ℕ) (r : Row) 
       map-set f rows level r
       ∙ ap (λ (x : A). slice_set (map f rows) level x) same
       ∙ sym (map-set f rows level (row_at rows level))
-      ∙ ap (map f) (set-get_or rows level (unused (0, 0)))
+      ∙ ap (map f) (set-get_or rows level unused)
 
-pub resized_limits : (rows : List Row) (level old new : ℕ) → map limits_of (resized rows level old new) ≡ map limits_of rows
-resized_limits rows level old new = maps_alike limits_of rows level _ refl
+pub resized_levels : (rows : List Row) (level old new : ℕ) → length (resized rows level old new) ≡ length rows
+resized_levels rows level old new = length-set rows level _
 
-pub credited_limits : (rows : List Row) (home : ℕ) → map limits_of (node_credited rows home) ≡ map limits_of rows
-credited_limits rows home = maps_alike limits_of rows home _ refl
+pub released_levels : (rows : List Row) (home label bytes : ℕ) → length (released rows home label bytes) ≡ length rows
+released_levels rows home label bytes = resized_levels (node_credited rows home) label bytes 0 ∙ length-set rows home _
 
-pub released_limits : (rows : List Row) (home label bytes : ℕ) → map limits_of (released rows home label bytes) ≡ map limits_of rows
-released_limits rows home label bytes = resized_limits (node_credited rows home) label bytes 0 ∙ credited_limits rows home
-
-pub moved_limits : (rows : List Row) (from to bytes : ℕ) → map limits_of (moved rows from to bytes) ≡ map limits_of rows
-moved_limits rows from to bytes = resized_limits (resized rows from bytes 0) to 0 bytes ∙ resized_limits rows from bytes 0
+pub moved_levels : (rows : List Row) (from to bytes : ℕ) → length (moved rows from to bytes) ≡ length rows
+moved_levels rows from to bytes = resized_levels (resized rows from bytes 0) to 0 bytes ∙ resized_levels rows from bytes 0
 
 -- a node that is taken away leaves the bytes
 pub credited_bytes : (rows : List Row) (home label bytes : ℕ) → AreBytesHeld rows label bytes → AreBytesHeld (node_credited rows home) label bytes
 credited_bytes rows home label bytes held known =
     let before : label < length rows = rw (length-set rows home (record (row_at rows home) { nodes = (row_at rows home).nodes - 1 })) at known in
     let same : (row_at (node_credited rows home) label).bytes ≡ (row_at rows label).bytes =
-    sym (get_or-map (λ (r : Row). r.bytes) (node_credited rows home) label (unused (0, 0)) 0 known)
+    sym (get_or-map (λ (r : Row). r.bytes) (node_credited rows home) label unused 0 known)
     ∙ ap (λ (bytes : List ℕ). slice_index_or bytes label 0) (maps_alike (λ (r : Row). r.bytes) rows home _ refl)
-    ∙ get_or-map (λ (r : Row). r.bytes) rows label (unused (0, 0)) 0 before in
+    ∙ get_or-map (λ (r : Row). r.bytes) rows label unused 0 before in
     let enough : bytes ≤ (row_at rows label).bytes = held before in
     omega arith
 

@@ -1,11 +1,11 @@
 //! What operations on files, and those that make and take out nodes, do to the totals of levels. Whether a total may rise is
 //! tested before anything else is done, so that a change of the tree and that of the totals come together.
-ghost use Rattle.std.specs.Prelude.{◌≡◌, List, IfOk, OnOk, length, map, not, nat_lt};
+ghost use Rattle.std.specs.Prelude.{◌≡◌, List, IfOk, OnOk, length, not, nat_lt};
 ghost use Rattle.lnfs_world.specs.World.{Node, World};
 ghost use Rattle.lnfs_world.specs.Usage.{nodes_used};
 ghost use Rattle.lnfs_site.specs.Site.{site_of};
 ghost use Rattle.lnfs_operations.specs.Files.{passes_quota};
-ghost use Rattle.lnfs_quota.specs.Quota.{limits_of, node_credited, resized};
+ghost use Rattle.lnfs_quota.specs.Quota.{node_credited, resized};
 ghost use Rattle.lnfs_quota.specs.Totals.{AreTotals};
 ghost use Rattle.lnfs_files.specs.Charges.{MayRise, MayResize, MayMove, IsNodeHeld, AreBytesHeld, IsLess, released};
 
@@ -111,7 +111,7 @@ pub fn credit(quota: &mut Quota, home: Level, label: Level, bytes: u64)
     requires node { IsNodeHeld quota.old home.0 }
     requires bytes { AreBytesHeld quota.old label.0 bytes }
     ensures value { quota.new ≡ released quota.old home.0 label.0 bytes }
-    ensures limits { map limits_of quota.new ≡ map limits_of quota.old }
+    ensures levels { length quota.new ≡ length quota.old }
     ensures counts { (before after : List Node) → AreTotals quota.old before → IsLess home.0 label.0 bytes before after → AreTotals quota.new after }
 {
     credit_node(quota, home);

@@ -1,6 +1,6 @@
 //! A label that SETATTR sets: as it is spelled where labels are carried alone, and else by its level (RFC 7862 section
 //! 12.2.4).
-ghost use Rattle.std.specs.Prelude.{◌≡◌, ◌==◌, false, Ok, IfOk, OnErr, map};
+ghost use Rattle.std.specs.Prelude.{◌≡◌, ◌==◌, false, Ok, IfOk, OnErr, length};
 ghost use Rattle.std.specs.Option.{option_map};
 ghost use Rattle.lnfs_attrs.specs.declared.bitmap.Bitmap as bitmap;
 ghost use Rattle.lnfs_monitor.specs.Rules.{Write, Raise};
@@ -13,7 +13,6 @@ ghost use Rattle.lnfs_site.specs.Site.{site_of};
 ghost use Rattle.lnfs_operations.specs.Judged.{where_allowed};
 ghost use Rattle.lnfs_operations.specs.Shown.{label_shown};
 ghost use Rattle.lnfs_operations.specs.SetAttr.{same_spelling, respelled, raised};
-ghost use Rattle.lnfs_quota.specs.Quota.{limits_of};
 ghost use Rattle.lnfs_quota.specs.Totals.{AreTotals};
 ghost use Rattle.lnfs_tree.specs.Rows.{Rows, id_of, stored_of};
 ghost use Rattle.lnfs_tree.specs.Changed.{HasFacts};
@@ -155,7 +154,7 @@ fn put_level(
         let at = placed p caller.now in
         Acts (λ it. set) at rest tree.old tree.new opens opens (raised at (with_files rest tree.old opens) n level.0 set) result }
     ensures counts { AreTotals quota.new tree.new.nodes }
-    ensures limits { map limits_of quota.new ≡ map limits_of quota.old }
+    ensures levels { length quota.new ≡ length quota.old }
 {
     // The call says what another label does to the totals.
     totals();
@@ -192,7 +191,7 @@ pub fn raise(
         (where_allowed (site_of site.now) at (Raise n.label (parent_labels tree.old.nodes tree.old.entries n.id) level.0)
         (raised at (with_files rest tree.old opens) n level.0 set)) told) }
     ensures counts { AreTotals quota.new tree.new.nodes }
-    ensures limits { map limits_of quota.new ≡ map limits_of quota.old }
+    ensures levels { length quota.new ≡ length quota.old }
     ensures kept { OnErr result (tree.new ≡ tree.old) }
     ensures uncharged { OnErr result (quota.new ≡ quota.old) }
 {

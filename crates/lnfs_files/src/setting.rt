@@ -1,5 +1,5 @@
 //! SETATTR (RFC 8881 section 18.30, RFC 7862 section 12.2.4).
-ghost use Rattle.std.specs.Prelude.{◌≡◌, Ok, IfOk, IfSome, OnErr, map};
+ghost use Rattle.std.specs.Prelude.{◌≡◌, Ok, IfOk, IfSome, OnErr, length};
 ghost use Rattle.std.specs.Option.{option_map};
 ghost use Rattle.lnfs_attrs.specs.declared.bitmap.Bitmap as bitmap;
 ghost use Rattle.lnfs_world.specs.World.{File, Node, World};
@@ -7,7 +7,6 @@ ghost use Rattle.lnfs_world.specs.Facts.{NodeFacts};
 ghost use Rattle.lnfs_world.specs.Outcome.{Place};
 ghost use Rattle.lnfs_site.specs.Site.{site_of};
 ghost use Rattle.lnfs_operations.specs.SetAttr as operation;
-ghost use Rattle.lnfs_quota.specs.Quota.{limits_of};
 ghost use Rattle.lnfs_quota.specs.Totals.{AreTotals};
 ghost use Rattle.lnfs_tree.specs.Rows.{id_of, kind_of};
 ghost use Rattle.lnfs_nodes.specs.Trees.{Holds, IsHeld, held_in, refusal_of};
@@ -68,7 +67,7 @@ fn set_wanted(
         let at = placed p caller.now in
         Acts (λ it. set) at rest tree.old tree.new opens.now opens.now (wanted_done (site_of site.now) id.now at (with_files rest tree.old opens.now) n (wanted_of wanted) set) told) }
     ensures counts { AreTotals quota.new tree.new.nodes }
-    ensures limits { map limits_of quota.new ≡ map limits_of quota.old }
+    ensures levels { length quota.new ≡ length quota.old }
     ensures kept { OnErr result (tree.new ≡ tree.old) }
     ensures uncharged { OnErr result (quota.new ≡ quota.old) }
 {
@@ -113,7 +112,7 @@ pub fn set_attr(
         let at = placed p caller.now in
         Acts (λ set. set) at rest tree.old tree.new opens.now opens.now (operation.set_attr (site_of site.now) id.now given.now at (with_files rest tree.old opens.now)) told) }
     ensures counts { AreTotals quota.new tree.new.nodes }
-    ensures limits { map limits_of quota.new ≡ map limits_of quota.old }
+    ensures levels { length quota.new ≡ length quota.old }
     ensures kept { OnErr result (tree.new ≡ tree.old) }
     ensures uncharged { OnErr result (quota.new ≡ quota.old) }
 {

@@ -1,5 +1,5 @@
 //! The attributes but the label that SETATTR sets: the size of a file, and a mode (RFC 8881 section 18.30).
-ghost use Rattle.std.specs.Prelude.{◌≡◌, ◌||◌, ◌≤◌, true, List, [], ◌∷◌, Ok, Some, None, is_some, cond, IfOk, IfSome, OnOk, OnErr, map};
+ghost use Rattle.std.specs.Prelude.{◌≡◌, ◌||◌, ◌≤◌, true, List, [], ◌∷◌, Ok, Some, None, is_some, cond, IfOk, IfSome, OnOk, OnErr, length};
 ghost use Rattle.std.specs.Option.{option_map};
 ghost use Rattle.lnfs_attrs.specs.declared.bitmap.Bitmap as bitmap;
 ghost use Rattle.lnfs_monitor.specs.Rules.{Write};
@@ -9,7 +9,6 @@ ghost use Rattle.lnfs_world.specs.Outcome.{Place};
 ghost use Rattle.lnfs_site.specs.Site.{site_of};
 ghost use Rattle.lnfs_operations.specs.SetAttr.{where_size, size_set, mode_set, values_written, values_set};
 ghost use Rattle.lnfs_quota.specs.declared.quota.Row.{Row};
-ghost use Rattle.lnfs_quota.specs.Quota.{limits_of};
 ghost use Rattle.lnfs_quota.specs.Totals.{AreTotals};
 ghost use Rattle.lnfs_tree.specs.Rows.{id_of, kind_of};
 ghost use Rattle.lnfs_tree.specs.Changed.{ran};
@@ -142,7 +141,7 @@ fn put_size(tree: &mut Tree, quota: &mut Quota, caller: &Caller, held: &Held, si
     ensures done { (n : Node) (p : Place) → Holds tree.old n held.now →
         tree.new ≡ ran (Touch n.id (size_set (placed p caller.now) n (Some size)) ∷ []) tree.old }
     ensures counts { AreTotals quota.new tree.new.nodes }
-    ensures limits { map limits_of quota.new ≡ map limits_of quota.old }
+    ensures levels { length quota.new ≡ length quota.old }
 {
     // The call says what a change of a file's bytes does to the totals.
     totals();
@@ -181,7 +180,7 @@ fn put_values(
     ensures done { (n : Node) (p : Place) (rest : World) (opens : Lists) → Holds tree.old n held.now →
         apply_all (values_written (placed p caller.now) n (unlabelled size mode)) (with_files rest tree.old opens) ≡ with_files rest tree.new opens }
     ensures counts { AreTotals quota.new tree.new.nodes }
-    ensures limits { map limits_of quota.new ≡ map limits_of quota.old }
+    ensures levels { length quota.new ≡ length quota.old }
 {
     if let Some(size) = size {
         put_size(tree, quota, caller, held, size);
@@ -215,7 +214,7 @@ pub fn set_values(
         let at = placed p caller.now in
         Acts (λ it. set) at rest tree.old tree.new opens.now opens.now (values_set (site_of site.now) id.now at (with_files rest tree.old opens.now) n (unlabelled size mode) set) told) }
     ensures counts { AreTotals quota.new tree.new.nodes }
-    ensures limits { map limits_of quota.new ≡ map limits_of quota.old }
+    ensures levels { length quota.new ≡ length quota.old }
     ensures kept { OnErr result (tree.new ≡ tree.old) }
     ensures uncharged { OnErr result (quota.new ≡ quota.old) }
 {

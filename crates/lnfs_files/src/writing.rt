@@ -1,5 +1,5 @@
 //! WRITE (RFC 8881 section 18.32).
-ghost use Rattle.std.specs.Prelude.{◌≡◌, ℕ, Ok, IfOk, OnErr, map};
+ghost use Rattle.std.specs.Prelude.{◌≡◌, ℕ, Ok, IfOk, OnErr, length};
 ghost use Rattle.std.specs.Option.{option_map};
 ghost use Rattle.lnfs_world.specs.World.{File, Node, World};
 ghost use Rattle.lnfs_world.specs.Effects.{size_written};
@@ -9,7 +9,6 @@ ghost use Rattle.lnfs_site.specs.Site.{site_of};
 ghost use Rattle.lnfs_operations.specs.declared.Gate.TheVariants as gates;
 ghost use Rattle.lnfs_arguments.specs.declared.statuses.TheConstants.{NFS4ERR_DQUOT};
 ghost use Rattle.lnfs_operations.specs.Write as operation;
-ghost use Rattle.lnfs_quota.specs.Quota.{limits_of};
 ghost use Rattle.lnfs_quota.specs.Totals.{AreTotals};
 ghost use Rattle.lnfs_tree.specs.Rows.{id_of, kind_of};
 ghost use Rattle.lnfs_open.specs.Lists.{Lists};
@@ -82,7 +81,7 @@ fn put(
         let args : operation.Arguments = record { id = id; offset = offset; stable = stable; content = content.now } in
         Acts (λ count. count) at rest tree.old tree.new opens opens (write_on (site_of site.now) args at (with_files rest tree.old opens) n) told) }
     ensures counts { AreTotals quota.new tree.new.nodes }
-    ensures limits { map limits_of quota.new ≡ map limits_of quota.old }
+    ensures levels { length quota.new ≡ length quota.old }
     ensures kept { OnErr result (tree.new ≡ tree.old) }
     ensures uncharged { OnErr result (quota.new ≡ quota.old) }
 {
@@ -140,7 +139,7 @@ pub fn write(
         let args : operation.Arguments = record { id = id.now; offset = offset; stable = stable; content = content.now } in
         Acts (λ count. count) at rest tree.old tree.new opens.now opens.now (operation.write (site_of site.now) args at (with_files rest tree.old opens.now)) told) }
     ensures counts { AreTotals quota.new tree.new.nodes }
-    ensures limits { map limits_of quota.new ≡ map limits_of quota.old }
+    ensures levels { length quota.new ≡ length quota.old }
     ensures kept { OnErr result (tree.new ≡ tree.old) }
     ensures uncharged { OnErr result (quota.new ≡ quota.old) }
 {

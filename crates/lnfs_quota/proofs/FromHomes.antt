@@ -1,15 +1,15 @@
 -- Totals that are counted from the homes of nodes without bytes.
-use Rattle.std.proofs.Common.{◌≡◌, ◌+◌, ◌<◌, ◌==◌, ℕ, Bool, true, false, cond, List, [], ◌∷◌, length, map, take, slice_index_or, refl, sym, ◌∙◌, ap, arith}
-use Rattle.std.specs.Prelude.{count_by, slice_set, nat_lt}
+use Rattle.std.proofs.Common.{◌≡◌, ◌+◌, ◌<◌, ◌==◌, ℕ, Bool, true, false, cond, List, [], ◌∷◌, length, map, take, replicate, slice_index_or, refl, sym, ◌∙◌, ap, arith}
+use Rattle.std.specs.Prelude.{count_by, nat_lt}
 use Rattle.std.specs.List.{AllByRecursion}
 use Rattle.std.proofs.lemmas.Bool.Decides.{nat_tests}
-use Rattle.std.proofs.lemmas.List.{map-set, set-get_or}
+use Rattle.std.proofs.lemmas.List.{length-set, length-replicate}
 use Rattle.std.proofs.lemmas.List.Sums.{sum_by-cons, sum_by_more}
 use Rattle.lnfs_calipso.specs.declared.Level.{Level}
 use Rattle.lnfs_world.specs.World.{Node}
 use Rattle.lnfs_world.specs.Usage.{bytes_of, nodes_used, bytes_used}
 use Rattle.lnfs_quota.specs.declared.quota.Row.{Row}
-use Rattle.lnfs_quota.specs.Quota.{row_at, unused, limits_of, node_charged}
+use Rattle.lnfs_quota.specs.Quota.{row_at, unused, node_charged}
 use Rattle.lnfs_quota.specs.Totals.{AreTotals, label_share}
 use Rattle.lnfs_quota.proofs.Kept.{Sums, label_empty, unused_row, sums-charged, totals_of}
 
@@ -17,42 +17,32 @@ use Rattle.lnfs_quota.proofs.Kept.{Sums, label_empty, unused_row, sums-charged, 
 abbrev pub homes_at : List Level → (level : ℕ) → ℕ
 homes_at homes level = count_by (λ h. h.0 == level) homes
 
--- rows with their limits, in which some homes are counted
-pub record IsCounted (limits : List (ℕ × ℕ)) (homes : List Level) (rows : List Row) : Type 0 where
+-- rows of so many levels, in which some homes are counted
+pub record IsCounted (levels : ℕ) (homes : List Level) (rows : List Row) : Type 0 where
   pub sums : Sums rows (homes_at homes) (λ level. 0)
-  pub limits_are : map limits_of rows ≡ limits
+  pub as_many : length rows ≡ levels
 
-limits-unused : (limits : List (ℕ × ℕ)) → map limits_of (map unused limits) ≡ limits
-limits-unused [] = refl
-limits-unused (l ∷ ls) = ap (λ rest. l ∷ rest) (limits-unused ls)
-
-pub counted-none : (limits : List (ℕ × ℕ)) (homes : List Level) → IsCounted limits (take 0 homes) (map unused limits)
-counted-none limits homes = record {
-  sums = record { nodes_sum = λ k below. ap (λ (r : Row). r.nodes) (unused_row limits k below); bytes_sum = λ k below. ap (λ (r : Row). r.bytes) (unused_row limits k below) };
-  limits_are = limits-unused limits;
+pub counted-none : (levels : ℕ) (homes : List Level) → IsCounted levels (take 0 homes) (replicate levels unused)
+counted-none levels homes = record {
+  sums = record { nodes_sum = λ k below. ap (λ (r : Row). r.nodes) (unused_row levels k below); bytes_sum = λ k below. ap (λ (r : Row). r.bytes) (unused_row levels k below) };
+  as_many = length-replicate levels unused;
 }
 
 -- one more home
 more : (homes : List Level) (i : ℕ) (d : Level) → i < length homes → (k : ℕ) → homes_at (take (i + 1) homes) k ≡ homes_at (take i homes) k + cond ((slice_index_or homes i d).0 == k) 1 0
 more homes i d below k = sum_by_more (λ h. cond (h.0 == k) 1 0) homes i d below
 
-charged_limits : (rows : List Row) (level v : ℕ) → map limits_of (slice_set rows level (record (row_at rows level) { nodes = v })) ≡ map limits_of rows
-charged_limits rows level v =
-    map-set limits_of rows level (record (row_at rows level) { nodes = v })
-    ∙ sym (map-set limits_of rows level (row_at rows level))
-    ∙ ap (map limits_of) (set-get_or rows level (unused (0, 0)))
-
-pub counted-more : (limits : List (ℕ × ℕ)) (homes : List Level) (rows : List Row) (i : ℕ) (d : Level) → i < length homes → IsCounted limits (take i homes) rows → IsCounted limits (take (i + 1) homes) (node_charged rows (slice_index_or homes i d).0)
-counted-more limits homes rows i d below was = record {
+pub counted-more : (levels : ℕ) (homes : List Level) (rows : List Row) (i : ℕ) (d : Level) → i < length homes → IsCounted levels (take i homes) rows → IsCounted levels (take (i + 1) homes) (node_charged rows (slice_index_or homes i d).0)
+counted-more levels homes rows i d below was = record {
   sums = sums-charged was.sums (slice_index_or homes i d).0 (homes_at (take (i + 1) homes)) (more homes i d below);
-  limits_are = charged_limits rows (slice_index_or homes i d).0 ((row_at rows (slice_index_or homes i d).0).nodes + 1) ∙ was.limits_are;
+  as_many = length-set rows (slice_index_or homes i d).0 _ ∙ was.as_many;
 }
 
 -- a home that has no row
-pub counted-passed : (limits : List (ℕ × ℕ)) (homes : List Level) (rows : List Row) (i : ℕ) (d : Level) → i < length homes → nat_lt (slice_index_or homes i d).0 (length rows) ≡ false → IsCounted limits (take i homes) rows → IsCounted limits (take (i + 1) homes) rows
-counted-passed limits homes rows i d below past was = record {
+pub counted-passed : (levels : ℕ) (homes : List Level) (rows : List Row) (i : ℕ) (d : Level) → i < length homes → nat_lt (slice_index_or homes i d).0 (length rows) ≡ false → IsCounted levels (take i homes) rows → IsCounted levels (take (i + 1) homes) rows
+counted-passed levels homes rows i d below past was = record {
   sums = record { nodes_sum = λ k known. at k known ((slice_index_or homes i d).0 == k) refl (more homes i d below k); bytes_sum = was.sums.bytes_sum };
-  limits_are = was.limits_are;
+  as_many = was.as_many;
 }
   where
     at : (k : ℕ) → k < length rows → (b : Bool) → ((slice_index_or homes i d).0 == k) ≡ b → homes_at (take (i + 1) homes) k ≡ homes_at (take i homes) k + cond b 1 0 → (row_at rows k).nodes ≡ homes_at (take (i + 1) homes) k
@@ -79,5 +69,5 @@ no_bytes (n ∷ ns) all k =
     let rest : bytes_used ns k ≡ 0 = no_bytes ns all.1 k in
     rw (sum_by-cons (λ m. label_share m k) n ns) (omega arith)
 
-pub counted-totals : (limits : List (ℕ × ℕ)) (homes : List Level) (rows : List Row) (nodes : List Node) → IsCounted limits homes rows → map (λ n. n.id.level) nodes ≡ map (λ (l : Level). l.0) homes → AllByRecursion (λ n. bytes_of n n.kind ≡ 0) nodes → AreTotals rows nodes
-counted-totals limits homes rows nodes was are empty = totals_of nodes was.sums (used-homes nodes homes are) (no_bytes nodes empty)
+pub counted-totals : (levels : ℕ) (homes : List Level) (rows : List Row) (nodes : List Node) → IsCounted levels homes rows → map (λ n. n.id.level) nodes ≡ map (λ (l : Level). l.0) homes → AllByRecursion (λ n. bytes_of n n.kind ≡ 0) nodes → AreTotals rows nodes
+counted-totals levels homes rows nodes was are empty = totals_of nodes was.sums (used-homes nodes homes are) (no_bytes nodes empty)

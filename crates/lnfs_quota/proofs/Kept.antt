@@ -1,8 +1,8 @@
 -- Each change of a world with the call that goes with it: totals stay those of the nodes.
-use Rattle.std.proofs.Common.{◌≡◌, ◌+◌, ◌-◌, ◌<◌, ◌≤◌, ◌==◌, ℕ, Bool, true, false, cond, List, length, map, slice_index_or, refl, sym, ◌∙◌, ap, arith}
+use Rattle.std.proofs.Common.{◌≡◌, ◌+◌, ◌-◌, ◌<◌, ◌≤◌, ◌==◌, ℕ, Bool, true, false, cond, List, length, replicate, refl, sym, ◌∙◌, ap, arith}
 use Rattle.std.specs.Prelude.{slice_set}
 use Rattle.std.proofs.lemmas.Bool.Decides.{nat_tests}
-use Rattle.std.proofs.lemmas.List.{get_or-set_same, get_or-set_other, length-set, get_or-map, length-map}
+use Rattle.std.proofs.lemmas.List.{get_or-set_same, get_or-set_other, length-set, get_or-replicate, length-replicate}
 use Rattle.lnfs_world.specs.World.{Node}
 use Rattle.lnfs_world.specs.Usage.{bytes_of, nodes_used, bytes_used}
 use Rattle.lnfs_quota.specs.declared.quota.Row.{Row}
@@ -34,8 +34,8 @@ row_set : (rows : List Row) (level : ℕ) (r : Row) (k : ℕ) → k < length row
 row_set rows level r k below = at (level == k) refl
   where
     at : (b : Bool) → (level == k) ≡ b → row_at (slice_set rows level r) k ≡ cond b r (row_at rows k)
-    at true same = let is : level ≡ k = grind (arith, nat_tests) in rw is (get_or-set_same rows k r (unused (0, 0)) below)
-    at false differ = get_or-set_other rows level k r (unused (0, 0)) (grind (arith, nat_tests))
+    at true same = let is : level ≡ k = grind (arith, nat_tests) in rw is (get_or-set_same rows k r unused below)
+    at false differ = get_or-set_other rows level k r unused (grind (arith, nat_tests))
 
 nodes_of_two : (b : Bool) (r x : Row) → (cond b r x).nodes ≡ cond b r.nodes x.nodes
 nodes_of_two true r x = refl
@@ -45,8 +45,8 @@ bytes_of_two : (b : Bool) (r x : Row) → (cond b r x).bytes ≡ cond b r.bytes 
 bytes_of_two true r x = refl
 bytes_of_two false r x = refl
 
-pub unused_row : (limits : List (ℕ × ℕ)) (k : ℕ) → k < length (map unused limits) → row_at (map unused limits) k ≡ unused (slice_index_or limits k (0, 0))
-unused_row limits k below = get_or-map unused limits k (0, 0) (unused (0, 0)) (rw (length-map limits unused) at below)
+pub unused_row : (levels k : ℕ) → k < length (replicate levels unused) → row_at (replicate levels unused) k ≡ unused
+unused_row levels k below = get_or-replicate levels k unused unused (rw (length-replicate levels unused) at below)
 
 -- ---- totals as sums, level by level
 

@@ -1,34 +1,14 @@
--- What a level uses of its limits, and what is done to it.
-use Rattle.std.specs.Prelude.{ℕ, ◌+◌, ◌-◌, ◌&&◌, cond, List, map, Result, Ok, Err, nat_lt, slice_index_or, slice_set}
-use Rattle.std.specs.List.{range_with_len}
-use Rattle.lnfs_world.specs.Outcome.{Site}
+-- What a level uses, and what is done to it.
+use Rattle.std.specs.Prelude.{ℕ, ◌+◌, ◌-◌, List, slice_index_or, slice_set}
 use Rattle.lnfs_quota.specs.declared.quota.Row.{Row}
-use Rattle.lnfs_quota.specs.declared.quota.QuotaError.{QuotaError}
-use Rattle.lnfs_quota.specs.declared.quota.QuotaError.TheVariants.{NoSpc, DQuot}
 
--- limits of which nothing is used
-abbrev pub unused : ℕ × ℕ → Row
-unused limits = record { node_limit = limits.0; byte_limit = limits.1; nodes = 0; bytes = 0 }
+-- where nothing is used
+abbrev pub unused : Row
+unused = record { nodes = 0; bytes = 0 }
 
--- the limits of a row
-abbrev pub limits_of : Row → ℕ × ℕ
-limits_of r = (r.node_limit, r.byte_limit)
-
--- the limits of each level of a site
-abbrev pub site_limits : Site → List (ℕ × ℕ)
-site_limits site = map (λ level. (site.nodes level, site.bytes level)) (range_with_len 0 site.levels)
-
--- the row of a level; a number past the end has no room
+-- the row of a level; a number past the end uses nothing
 abbrev pub row_at : List Row → (level : ℕ) → Row
-row_at rows level = slice_index_or rows level (unused (0, 0))
-
--- room for one more node: where those that are used are below the limit
-abbrev pub node_room : Row → Result (Unit {0}) QuotaError
-node_room r = cond (nat_lt r.nodes r.node_limit) (Ok tt) (Err NoSpc)
-
--- room for a file to get another size: there is none where it grows and all bytes then pass the limit
-abbrev pub byte_room : Row → (old new : ℕ) → Result (Unit {0}) QuotaError
-byte_room r old new = cond (nat_lt old new && nat_lt r.byte_limit (r.bytes - old + new)) (Err DQuot) (Ok tt)
+row_at rows level = slice_index_or rows level unused
 
 -- ---- each call changes the row of its level alone
 

@@ -1,5 +1,5 @@
 //! The laws of usage, as contracts of functions that do nothing.
-ghost use Rattle.std.specs.Prelude.{◌≡◌, ℕ, ◌+◌, ◌<◌, ◌≤◌, true, [], ◌∷◌, ◌++◌, List, Some, None, length, map};
+ghost use Rattle.std.specs.Prelude.{◌≡◌, ℕ, ◌+◌, ◌<◌, ◌≤◌, true, [], ◌∷◌, ◌++◌, List, Some, None, length, replicate};
 ghost use Rattle.lnfs_world.specs.Rows.{Rising};
 ghost use Rattle.lnfs_world.specs.World.{Id, Inner, Node, Entry, World, node_order, node_at};
 ghost use Rattle.lnfs_world.specs.Change.{Change, Make, Touch, Relabel, Drop, apply};
@@ -42,7 +42,7 @@ pub fn usage()
 /// Totals stay those of a world's nodes where each change goes with its call.
 pub fn totals()
     // To begin with: no nodes, and then one after the other, none of which has bytes.
-    ensures none { (limits : List (ℕ × ℕ)) → AreTotals (map unused limits) [] }
+    ensures none { (levels : ℕ) → AreTotals (replicate levels unused) [] }
     ensures next { (rows : List Row) (nodes : List Node) (n : Node) → AreTotals rows nodes → bytes_of n n.kind ≡ 0 →
         AreTotals (node_charged rows n.id.level) (nodes ++ n ∷ []) }
     // What is there can be taken away.

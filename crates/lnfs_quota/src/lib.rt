@@ -1,4 +1,4 @@
-//! What each level uses of its limits, kept as totals.
+//! What each level uses, kept as totals. Its limits stand in the site alone, and who charges a level asks them there.
 //!
 //! A level is charged a node where it is the node's home, and a file's bytes where it is the file's label.
 //! `specs/Quota.antt` says what each call does to a level's totals, and `specs/Totals.antt` that they are the usage of a
@@ -10,4 +10,4 @@ mod laws;
 mod quota;
 
 pub use laws::{totals, usage};
-pub use quota::{Quota, QuotaError, Row};
+pub use quota::{Quota, Row};

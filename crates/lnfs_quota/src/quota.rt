@@ -1,27 +1,14 @@
-//! Totals, level by level, against limits.
-ghost use Rattle.std.specs.Prelude.{◌≡◌, ◌+◌, ◌-◌, ◌^◌, ◌<◌, ◌≤◌, length, map, nat_lt, IfOk};
-ghost use Rattle.lnfs_quota.specs.Quota.{row_at, unused, node_room, byte_room, node_charged, node_credited, resized, moved};
+//! Totals, level by level.
+ghost use Rattle.std.specs.Prelude.{◌≡◌, ◌+◌, ◌-◌, ◌^◌, ◌<◌, ◌≤◌, length, nat_lt, replicate, IfOk};
+ghost use Rattle.lnfs_quota.specs.Quota.{row_at, unused, node_charged, node_credited, resized, moved};
 
 use lnfs_calipso::Level;
 use std::alloc::{AllocError, Global};
 use std::marker::Model;
 
-/// Why there is no room.
-#[derive(Clone, Copy, Debug, PartialEq, Eq)]
-pub enum QuotaError {
-    /// The level has as many nodes as it may have.
-    NoSpc,
-    /// The bytes would pass the level's limit.
-    DQuot,
-}
-
-/// A level's limits, and what it uses of them.
+/// What a level uses.
 #[derive(Clone, Copy, Debug, PartialEq, Eq)]
 pub struct Row {
-    /// The most nodes.
-    pub node_limit: u64,
-    /// The most bytes.
-    pub byte_limit: u64,
     /// The nodes whose home the level is.
     pub nodes: u64,
     /// The bytes of the files whose label the level is.
@@ -44,23 +31,15 @@ impl Model for Quota {
 }
 
 impl Quota {
-    /// Nothing is used yet. The limits of each level are its most nodes and its most bytes.
+    /// Nothing is used yet, by so many levels.
     ///
     /// # Errors
     ///
     /// `AllocError` where there is no memory.
-    pub fn new(alloc: Global, limits: &[(u64, u64)]) -> Result<Quota, AllocError>
-        ensures { IfOk result (λ quota. quota ≡ map unused limits.now) }
+    pub fn new(alloc: Global, levels: usize) -> Result<Quota, AllocError>
+        ensures { IfOk result (λ quota. quota ≡ replicate levels unused) }
     {
-        let mut rows = Vec::new(alloc);
-        for limit in limits {
-            rows.push(Row {
-                node_limit: limit.0,
-                byte_limit: limit.1,
-                nodes: 0,
-                bytes: 0,
-            })?;
-        }
+        let rows = vec![in alloc; Row { nodes: 0, bytes: 0 }; levels]?;
         Ok(Quota { rows })
     }
 
@@ -79,42 +58,6 @@ impl Quota {
     {
         let row = &self.rows[level.0 as usize];
         (row.nodes, row.bytes)
-    }
-
-    /// Whether a level has room for one more node.
-    ///
-    /// # Errors
-    ///
-    /// `NoSpc` where the nodes that it uses are at its limit or above.
-    pub fn room_node(&self, level: Level) -> Result<(), QuotaError>
-        requires { level.0 < length self.now }
-        ensures { result ≡ node_room (row_at self.now level.0) }
-    {
-        let row = &self.rows[level.0 as usize];
-        if row.nodes < row.node_limit {
-            Ok(())
-        } else {
-            Err(QuotaError::NoSpc)
-        }
-    }
-
-    /// Whether a level has room for a file of it to go from `old` bytes to `new`. There always is for a file that doesn't
-    /// grow, above the limit too.
-    ///
-    /// # Errors
-    ///
-    /// `DQuot` where the file grows, and the level's bytes would then pass its limit.
-    pub fn room_bytes(&self, level: Level, old: u64, new: u64) -> Result<(), QuotaError>
-        requires known { level.0 < length self.now }
-        requires held { old ≤ (row_at self.now level.0).bytes }
-        ensures { result ≡ byte_room (row_at self.now level.0) old new }
-    {
-        let row = &self.rows[level.0 as usize];
-        let others = row.bytes - old;
-        if new > old && (others > row.byte_limit || new > row.byte_limit - others) {
-            return Err(QuotaError::DQuot);
-        }
-        Ok(())
     }
 
     /// One more node whose home a level is.
@@ -155,7 +98,7 @@ impl Quota {
         self.rows[level.0 as usize].bytes -= bytes;
     }
 
-    /// The bytes of a file go from one level to another, which takes them whatever its limit. Both may be the same level.
+    /// The bytes of a file go from one level to another. Both may be the same level.
     pub fn move_up(&mut self, from: Level, to: Level, bytes: u64)
         requires from_known { from.0 < length self.old }
         requires to_known { to.0 < length self.old }

@@ -1,9 +1,9 @@
-use Rattle.std.proofs.Common.{◌≡◌, ◌∙◌, sym, subst, List, map, ap}
+use Rattle.std.proofs.Common.{◌≡◌, ◌∙◌, sym, subst, List, length, ap}
 use Rattle.lnfs_quota.specs.declared.quota.Row.{Row}
-use Rattle.lnfs_quota.specs.Quota.{limits_of, resized}
+use Rattle.lnfs_quota.specs.Quota.{resized}
 use Rattle.lnfs_quota.specs.Totals.{AreTotals}
 use Rattle.lnfs_files.specs.Charges.{AreBytesHeld, released}
-use Rattle.lnfs_files.proofs.Charged.{released_limits, credited_bytes, less_totals}
+use Rattle.lnfs_files.proofs.Charged.{released_levels, credited_bytes, less_totals}
 use Rattle.lnfs_files.proofs.charging.credit.Goals as goal
 
 pub credit_bytes-requires : goal.credit_bytes-requires
@@ -18,6 +18,6 @@ returns c =
     c.credit_bytes.ensures ∙ ap (λ (x : List Row). resized x c.args.label.0 c.args.bytes 0) c.credit_node.ensures in
     record {
       value = is;
-      limits = ap (map limits_of) is ∙ released_limits rows c.args.home.0 c.args.label.0 c.args.bytes;
+      levels = ap (λ (x : List Row). length x) is ∙ released_levels rows c.args.home.0 c.args.label.0 c.args.bytes;
       counts = λ before after totals less. subst (λ (x : List Row). AreTotals x after) (sym is) (less_totals rows before after c.args.home.0 c.args.label.0 c.args.bytes totals less);
     }

@@ -1,4 +1,4 @@
-use Rattle.std.proofs.Common.{◌≡◌, ◌∙◌, ap, sym, refl, subst, false, ℕ, List, map, [], ◌∷◌}
+use Rattle.std.proofs.Common.{◌≡◌, ◌∙◌, ap, sym, refl, subst, false, ℕ, List, length, [], ◌∷◌}
 use Rattle.std.specs.Prelude.{◌==◌}
 use Rattle.std.specs.Option.{option_map}
 use Rattle.lnfs_attrs.specs.declared.bitmap.Bitmap.{Bitmap}
@@ -9,14 +9,14 @@ use Rattle.lnfs_world.specs.Outcome.{Place, Outcome}
 use Rattle.lnfs_operations.specs.declared.Refusal.{Refusal}
 use Rattle.lnfs_operations.specs.Chain.{Answer, refuse}
 use Rattle.lnfs_quota.specs.declared.quota.Row.{Row}
-use Rattle.lnfs_quota.specs.Quota.{limits_of, moved}
+use Rattle.lnfs_quota.specs.Quota.{moved}
 use Rattle.lnfs_quota.specs.Totals.{AreTotals}
 use Rattle.lnfs_tree.specs.Rows.{Rows, id_of}
 use Rattle.lnfs_tree.specs.Places.{world_of}
 use Rattle.lnfs_nodes.specs.Acts.{placed}
 use Rattle.lnfs_files.specs.Worlds.{with_files}
 use Rattle.lnfs_files.specs.Acts.{Succeeds}
-use Rattle.lnfs_files.proofs.Charged.{moved_limits}
+use Rattle.lnfs_files.proofs.Charged.{moved_levels}
 use Rattle.lnfs_files.proofs.WriteOn.{held_node, found, some_place}
 use Rattle.lnfs_files.proofs.Labels.{raised_full, raised_so, full, was_raised, not_raised, succeeds, same_bytes}
 use Rattle.lnfs_files.proofs.labelling.put_level.Goals as goal
@@ -51,8 +51,8 @@ returns-in-Ok-clause-counts c =
     (subst (λ (r : Rows). AreTotals (moved rows n.label level (bytes_of n n.kind)) r.nodes) (sym done.1)
     (c.totals.ensures.relabelled rows n.id level (attributes_changed at.moment n.inner) n (world_of t) c.requires.counts x.1.node_is (same_bytes n (attributes_changed at.moment n.inner) refl)))))
 
-pub returns-in-Ok-clause-limits : goal.returns-in-Ok-clause-limits
-returns-in-Ok-clause-limits c = ap (map limits_of) c.move_up.ensures ∙ moved_limits c.args.quota.now c.args.held.now.facts.label.0 c.args.level.0 c.args.bytes
+pub returns-in-Ok-clause-levels : goal.returns-in-Ok-clause-levels
+returns-in-Ok-clause-levels c = ap (λ (rows : List Row). length rows) c.move_up.ensures ∙ moved_levels c.args.quota.now c.args.held.now.facts.label.0 c.args.level.0 c.args.bytes
 
 pub returns-in-Err-clause-acts : goal.returns-in-Err-clause-acts
 returns-in-Err-clause-acts c = λ n p rest opens set holds.

@@ -1,4 +1,4 @@
-use Rattle.std.proofs.Common.{◌≡◌, ◌∙◌, ap, sym, subst, List, map, [], ◌∷◌}
+use Rattle.std.proofs.Common.{◌≡◌, ◌∙◌, ap, sym, subst, List, length, [], ◌∷◌}
 use Rattle.std.specs.Option.{option_map}
 use Rattle.lnfs_world.specs.World.{Inner}
 use Rattle.lnfs_world.specs.Change.{Touch}
@@ -6,13 +6,12 @@ use Rattle.lnfs_world.specs.Effects.{sized, data_changed}
 use Rattle.lnfs_world.specs.Outcome.{Place}
 use Rattle.lnfs_content.specs.declared.limits.TheConstants.{MOST_BYTES}
 use Rattle.lnfs_quota.specs.declared.quota.Row.{Row}
-use Rattle.lnfs_quota.specs.Quota.{limits_of}
 use Rattle.lnfs_quota.specs.Totals.{AreTotals}
 use Rattle.lnfs_tree.specs.Rows.{id_of}
 use Rattle.lnfs_tree.specs.Changed.{ran}
 use Rattle.lnfs_tree.specs.Places.{world_of}
 use Rattle.lnfs_nodes.specs.Acts.{placed}
-use Rattle.lnfs_files.proofs.Charged.{resized_limits}
+use Rattle.lnfs_files.proofs.Charged.{resized_levels}
 use Rattle.lnfs_files.proofs.WriteOn.{held_node, found, some_place}
 use Rattle.lnfs_files.proofs.Writes.{up_to}
 use Rattle.lnfs_files.proofs.Sizes.{sized_so, sized_totals, held_kind}
@@ -40,5 +39,5 @@ returns-clause-counts c =
     subst (λ (rows : List Row). AreTotals rows u.nodes) (sym c.resize.ensures)
     (sized_totals rows t u n h x.1 at.moment c.args.size c.requires.file done (c.totals.ensures.touched rows n.id inner n (world_of t) c.requires.counts x.1.node_is))
 
-pub returns-clause-limits : goal.returns-clause-limits
-returns-clause-limits c = ap (map limits_of) c.resize.ensures ∙ resized_limits c.args.quota.now c.args.held.now.facts.label.0 c.args.held.now.facts.size c.args.size
+pub returns-clause-levels : goal.returns-clause-levels
+returns-clause-levels c = ap (λ (rows : List Row). length rows) c.resize.ensures ∙ resized_levels c.args.quota.now c.args.held.now.facts.label.0 c.args.held.now.facts.size c.args.size

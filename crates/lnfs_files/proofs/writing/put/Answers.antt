@@ -1,4 +1,4 @@
-use Rattle.std.proofs.Common.{◌≡◌, ◌∙◌, sym, subst, ap, ℕ, List, map, length, refl, true, false}
+use Rattle.std.proofs.Common.{◌≡◌, ◌∙◌, sym, subst, ap, ℕ, List, length, refl, true, false}
 use Rattle.std.specs.Prelude.{◌≤◌}
 use Rattle.std.specs.Option.{option_map}
 use Rattle.lnfs_world.specs.World.{World}
@@ -9,7 +9,7 @@ use Rattle.lnfs_operations.specs.declared.Refusal.{Refusal}
 use Rattle.lnfs_operations.specs.Chain.{Answer, refuse}
 use Rattle.lnfs_operations.specs.Files.{passes_quota}
 use Rattle.lnfs_operations.specs.Write.{Arguments, data_written}
-use Rattle.lnfs_quota.specs.Quota.{limits_of, row_at, resized}
+use Rattle.lnfs_quota.specs.Quota.{row_at, resized}
 use Rattle.lnfs_quota.specs.declared.quota.Row.{Row}
 use Rattle.lnfs_quota.specs.Totals.{AreTotals}
 use Rattle.lnfs_tree.specs.Rows.{id_of}
@@ -18,7 +18,7 @@ use Rattle.lnfs_tree.specs.Places.{world_of}
 use Rattle.lnfs_nodes.specs.Acts.{placed}
 use Rattle.lnfs_files.specs.Worlds.{with_files}
 use Rattle.lnfs_files.specs.Acts.{Succeeds}
-use Rattle.lnfs_files.proofs.Charged.{resized_limits}
+use Rattle.lnfs_files.proofs.Charged.{resized_levels}
 use Rattle.lnfs_files.proofs.WriteOn.{held_node, file_is, no_data, only_memory, held_room, fits_so, within, past, goes_on, is_past, written_so, succeeds, written_totals}
 use Rattle.lnfs_files.proofs.WriteOn.{some_place, some_id}
 use Rattle.lnfs_files.proofs.writing.put.Goals as goal
@@ -75,8 +75,8 @@ returns-in-Ok-write-clause-acts c = λ n p rest opens id stable holds.
     subst (λ (o : Outcome (Answer ℕ)). Succeeds (length args.content) at rest t u opens opens o) (sym (goes_on site args at w n f.0 stays))
     (succeeds at t u n h args holds rest opens (written_so at t u n h args holds c.in-Ok-write.field-0 is.kind f.0 c.in-Ok-write.ensures))
 
-pub returns-in-Ok-write-clause-limits : goal.returns-in-Ok-write-clause-limits
-returns-in-Ok-write-clause-limits c = ap (map limits_of) c.resize.ensures ∙ resized_limits c.args.quota.now c.args.held.now.facts.label.0 c.len-old.result c.in-Some.size
+pub returns-in-Ok-write-clause-levels : goal.returns-in-Ok-write-clause-levels
+returns-in-Ok-write-clause-levels c = ap (λ (rows : List Row). length rows) c.resize.ensures ∙ resized_levels c.args.quota.now c.args.held.now.facts.label.0 c.len-old.result c.in-Some.size
 
 pub returns-in-Ok-write-clause-counts : goal.returns-in-Ok-write-clause-counts
 returns-in-Ok-write-clause-counts c =

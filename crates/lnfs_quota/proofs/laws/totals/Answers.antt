@@ -13,7 +13,7 @@ nothing_more : (total : ℕ) (b : Bool) → total + cond b 0 0 ≡ total
 nothing_more total b = grind arith
 
 pub returns-clause-none : goal.returns-clause-none
-returns-clause-none c limits = record { homes = λ k below. ap (λ (r : Row). r.nodes) (unused_row limits k below); labels = λ k below. ap (λ (r : Row). r.bytes) (unused_row limits k below) }
+returns-clause-none c levels = record { homes = λ k below. ap (λ (r : Row). r.nodes) (unused_row levels k below); labels = λ k below. ap (λ (r : Row). r.bytes) (unused_row levels k below) }
 
 pub returns-clause-held_node : goal.returns-clause-held_node
 returns-clause-held_node c rows nodes i n totals found known =

@@ -7,18 +7,18 @@ use Rattle.lnfs_quota.proofs.quota.Quota.counted.Goals.{then-knows, else-knows}
 use Rattle.lnfs_quota.proofs.quota.Quota.counted.Goals as goal
 
 pub loop-home-init : goal.loop-home-init
-loop-home-init c = subst (λ (rows : List Row). IsCounted c.args.limits.now (take 0 c.args.homes.now) rows) (sym c.in_ok-quota.ensures) (counted-none c.args.limits.now c.args.homes.now)
+loop-home-init c = subst (λ (rows : List Row). IsCounted c.args.levels (take 0 c.args.homes.now) rows) (sym c.in_ok-quota.ensures) (counted-none c.args.levels c.args.homes.now)
 
 pub loop-home-preserved : goal.loop-home-preserved
 loop-home-preserved c =
-    let limits = c.args.limits.now in
+    let levels = c.args.levels in
     let homes = c.args.homes.now in
     let i = c.loop-home.home-index in
     let d : Level = record { 0 = 0 } in
     elim c.if-knows.branch [
-      | then-knows w ↦ subst (λ (rows : List Row). IsCounted limits (take (i + 1) homes) rows) (sym (w.quota-is ∙ w.charge_node.ensures)) (counted-more limits homes c.loop-home.quota i d c.loop-home-test.true c.loop-home.invariant)
-      | else-knows w ↦ subst (λ (rows : List Row). IsCounted limits (take (i + 1) homes) rows) (sym w.quota-is) (counted-passed limits homes c.loop-home.quota i d c.loop-home-test.true (sym c.knows.ensures ∙ w.if-knows.false) c.loop-home.invariant)
+      | then-knows w ↦ subst (λ (rows : List Row). IsCounted levels (take (i + 1) homes) rows) (sym (w.quota-is ∙ w.charge_node.ensures)) (counted-more levels homes c.loop-home.quota i d c.loop-home-test.true c.loop-home.invariant)
+      | else-knows w ↦ subst (λ (rows : List Row). IsCounted levels (take (i + 1) homes) rows) (sym w.quota-is) (counted-passed levels homes c.loop-home.quota i d c.loop-home-test.true (sym c.knows.ensures ∙ w.if-knows.false) c.loop-home.invariant)
     ]
 
 pub returns-clause-totals : goal.returns-clause-totals
-returns-clause-totals c nodes are empty = counted-totals c.args.limits.now c.args.homes.now c.loop-home.quota nodes (subst (λ (homes : List Level). IsCounted c.args.limits.now homes c.loop-home.quota) (take_all c.loop-home.home-index c.args.homes.now c.loop-home-test.false) c.loop-home.invariant) are empty
+returns-clause-totals c nodes are empty = counted-totals c.args.levels c.args.homes.now c.loop-home.quota nodes (subst (λ (homes : List Level). IsCounted c.args.levels homes c.loop-home.quota) (take_all c.loop-home.home-index c.args.homes.now c.loop-home-test.false) c.loop-home.invariant) are empty

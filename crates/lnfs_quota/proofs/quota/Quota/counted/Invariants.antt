@@ -4,4 +4,4 @@ use Rattle.lnfs_quota.proofs.quota.Quota.counted.Given as goal
 
 -- the homes so far are counted
 abbrev pub invariant-loop-home : goal.invariant-loop-home
-invariant-loop-home l = IsCounted l.fn.limits (take l.home-index l.homes) l.quota
+invariant-loop-home l = IsCounted l.fn.levels (take l.home-index l.homes) l.quota
