@@ -41,6 +41,7 @@ pub mod SlotRules
 pub mod NoExtra
 pub mod Retries
 pub mod Once
+pub mod CreatedOnce
 pub mod Walks
 pub mod SizeChanges
 pub mod Rooms

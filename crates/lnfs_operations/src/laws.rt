@@ -1,5 +1,5 @@
 //! The laws of each operation, as contracts of functions that do nothing.
-ghost use Rattle.std.specs.Prelude.{◌≡◌, ◌≤◌, ◌<◌, ◌+◌, ℕ, Bool, List, ◌∷◌, length, Some, None};
+ghost use Rattle.std.specs.Prelude.{◌≡◌, ◌≤◌, ◌<◌, ◌+◌, ℕ, Bool, List, [], ◌∷◌, length, Some, None};
 ghost use Rattle.lnfs_calipso.specs.Label.{IsPreorderWithBottom};
 ghost use Rattle.lnfs_outside.specs.declared.event.Moment.{Moment};
 ghost use Rattle.lnfs_attrs.specs.declared.bitmap.Bitmap.{Bitmap};
@@ -184,6 +184,14 @@ pub fn retries_are_answered_again<X: ExtraRows>()
         BothStand X.extra.Fact site.dom (begins_at level moment) b → c.minor ≡ 2 → c.ops ≡ ops.Sequence args ∷ rest →
         Names level b.world args sent x slot → args.sequence ≡ next_sequence slot.sequence →
         again.arguments ≡ sent.arguments → again.size ≤ x.channel.max_request → again.count ≤ x.channel.max_operations →
+        let first = served X.extra site sent c (begins_at level moment) b in
+        served X.extra site again c (begins_at level later) first.state
+        ≡ record { answer = record { result = first.answer.result; denial = None }; place = begins_at level later; state = first.state } }
+    // So does a CREATE_SESSION under the next sequence of its client's record, be it granted or refused.
+    ensures created_once { (site : Site) (sent again : Sent) (c : Compound) (level : ℕ) (moment later : Moment) (b : Both X.extra.Row) (args : CreateSession) (client : Client) →
+        c.minor ≡ 2 → c.count ≡ 1 → c.ops ≡ ops.CreateSession args ∷ [] →
+        (client_named args.client).level ≡ level → client_at b.world.clients (client_named args.client) ≡ Some client →
+        args.sequence ≡ client.sequence → again.arguments ≡ sent.arguments →
         let first = served X.extra site sent c (begins_at level moment) b in
         served X.extra site again c (begins_at level later) first.state
         ≡ record { answer = record { result = first.answer.result; denial = None }; place = begins_at level later; state = first.state } }

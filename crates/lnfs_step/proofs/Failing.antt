@@ -1,5 +1,5 @@
 -- A call that is refused for what it calls has an accept_stat other than success.
-use Rattle.std.proofs.Common.{◌≡◌, ℕ, Bool, true, false, cond, List, [], ◌∷◌, Some, None, Ok, Err, refl, subst, arith}
+use Rattle.std.proofs.Common.{◌≡◌, ◌≢◌, ℕ, Bool, true, false, cond, List, [], ◌∷◌, Some, None, Ok, Err, refl, subst, arith}
 use Rattle.std.specs.Prelude.{◌==◌, Result}
 use Rattle.std.proofs.lemmas.Bool.Decides.{nat_tests}
 use Rattle.lnfs_rpc.specs.Numbers.{program_unavailable, version_unavailable, procedure_unavailable}
@@ -13,9 +13,10 @@ use Rattle.lnfs_gss3.specs.declared.caller.Caller.{Caller}
 use Rattle.lnfs_gss3.specs.declared.caller.Caller.TheVariants.{Null, Nobody, Garbage, Guest, Create, Data, Destroy}
 use Rattle.lnfs_gss3.specs.Mechanism.{Signing}
 use Rattle.lnfs_gss3.specs.Who.{who}
-use Rattle.lnfs_step.specs.Wrapping.{Wrapping, Cause}
+use Rattle.lnfs_step.specs.Wrapping.{Wrapping, Cause, caller, called, version, head_of}
 use Rattle.lnfs_step.specs.Request.{Request, Refused, null_call, asked_by, asked_of, request_with}
-use Rattle.lnfs_step.specs.Lines.{Fails}
+use Rattle.lnfs_step.specs.Step.{line_of_cause}
+use Rattle.lnfs_step.specs.Lines.{TellsRefusal}
 
 abbrev FailsBy : Result CallMessage CallError → Type 0
 FailsBy (Err (BadProgram xid stat)) = (stat == 0) ≡ false
@@ -45,6 +46,18 @@ cause_fails cause by = record { by = by }
 call_fails : (bytes : List ℕ) → Failing (call_of bytes)
 unfolding call_of
 call_fails bytes = search (reading_fails, cond_fails, target_fails, cause_fails) depth 40 fits 4000
+
+-- what a cause has to be
+abbrev pub Fails : Cause → Type 0
+Fails (caller stat) = Unit {0}
+Fails (called stat) = stat ≢ 0
+Fails version = Unit {0}
+
+-- the line of a cause tells of the head of its reply
+pub cause_told : (m : Signing) (w : Wrapping) (cause : Cause) → Fails cause → TellsRefusal (head_of m w cause) (line_of_cause cause)
+cause_told m w (caller stat) fails = record { failed = tt; status = refl; gate = refl; place = refl; number = refl }
+cause_told m w (called stat) fails = record { failed = fails; status = refl; gate = refl; place = refl; number = refl }
+cause_told m w version fails = record { failed = tt; status = refl; gate = refl; place = refl; number = refl }
 
 abbrev FailsIn : Request → Type 0
 FailsIn (Refused xid w cause) = Fails cause

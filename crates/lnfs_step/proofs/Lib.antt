@@ -16,5 +16,6 @@ pub mod CreatedOnce
 pub mod Lines
 pub mod Failing
 pub mod Recorded
+pub mod Letters
 pub mod Denials
 pub mod Outsides

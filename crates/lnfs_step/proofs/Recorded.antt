@@ -13,17 +13,17 @@ use Rattle.lnfs_gss3.specs.Mechanism.{Signing}
 use Rattle.lnfs_gss3.specs.Grammar.{Assertion}
 use Rattle.lnfs_site.specs.Site.{site_of}
 use Rattle.lnfs_step.specs.declared.numbers.TheConstants.{GARBAGE_ARGS, SYSTEM_ERR}
-use Rattle.lnfs_step.specs.Wrapping.{Plain, caller, called, answer_text}
+use Rattle.lnfs_step.specs.Wrapping.{Wrapping, Plain, Cause, caller, called, answer_text, head_of, results_in}
 use Rattle.lnfs_step.specs.Request.{Call, Task, Garbled, Run, MakeContext, EndContext, Request, Silent, Nothing, Asked, request_with}
 use Rattle.lnfs_step.specs.Request.{Refused as RefusedCall}
 use Rattle.lnfs_step.specs.Contexts.{is_there, make_context}
-use Rattle.lnfs_step.specs.Step.{Step, answered, made, done_for, refused_to, step_of, step_with, sent_of}
+use Rattle.lnfs_step.specs.Step.{Step, line_of_cause, refused, answered, made, done_for, refused_to, step_of, step_with, sent_of}
 use Rattle.lnfs_step.specs.Journal.{state_after, reply_with, line_with}
 use Rattle.lnfs_step.specs.Sessions.{Asks, HasOrigin}
 use Rattle.lnfs_step.specs.Lines.{Tells, Recorded, Unanswered, Refused, Bare, Made, Resent, Ended}
 use Rattle.lnfs_step.proofs.Slots.{serving, step_is, again}
 use Rattle.lnfs_step.proofs.Origins.{slot_origin, created_origin}
-use Rattle.lnfs_step.proofs.Failing.{request_fails}
+use Rattle.lnfs_step.proofs.Failing.{Fails, cause_told, request_fails}
 use Rattle.lnfs_step.proofs.Requests.{asked_outside}
 use Rattle.lnfs_step.proofs.Steps.{begins, holds_after}
 use Rattle.lnfs_step.proofs.Lines.{KeptHave, ServedTells, served_tells}
@@ -43,6 +43,9 @@ module _ (X : Extra) (owed : AreLawful X) (m : Signing) (p : Policy) (lattice : 
   line_is : (s : Step (Both X.Row)) → IsStep s → line_with X m p journal event ≡ s.line
   unfolding line_with
   line_is s is = ap (λ (s : Step (Both X.Row)). s.line) is
+
+  refused_recorded : (xid : ℕ) (w : Wrapping) (cause : Cause) → Fails cause → (state : Both X.Row) → IsStep (refused m xid w state cause) → Recorded X m p journal event
+  refused_recorded xid w cause fails state is = Refused xid (head_of m w cause) (results_in cause) (line_of_cause cause) (reply_is _ is) (line_is _ is) (cause_told m w cause fails)
 
   kept_have : (level : ℕ) → KeptHave (HasOrigin X m p journal level) level now.world
   kept_have level = record {
@@ -66,10 +69,10 @@ module _ (X : Extra) (owed : AreLawful X) (m : Signing) (p : Policy) (lattice : 
 
   made_recorded : (call : Call) (parent : ℕ) (assertion : Assertion) (state : Both X.Row) (o : Option ℕ) → IsStep (made m call parent assertion state o) → Recorded X m p journal event
   made_recorded call parent assertion state (Some number) is = Made call parent assertion number (reply_is _ is) (line_is _ is)
-  made_recorded call parent assertion state None is = Refused call.xid call.wrapping (called SYSTEM_ERR) (λ e. grind (arith, e)) (reply_is _ is) (line_is _ is)
+  made_recorded call parent assertion state None is = refused_recorded call.xid call.wrapping (called SYSTEM_ERR) (λ e. grind (arith, e)) state is
 
   task_recorded : (call : Call) (task : Task) → request_with X.grammar m p event.class event.message ≡ Asked call task → is_there now.world.contexts call.level call.context ≡ true → IsStep (done_for X m p now event call task) → Recorded X m p journal event
-  task_recorded call Garbled asked there is = Refused call.xid call.wrapping (called GARBAGE_ARGS) (λ e. grind (arith, e)) (reply_is _ is) (line_is _ is)
+  task_recorded call Garbled asked there is = refused_recorded call.xid call.wrapping (called GARBAGE_ARGS) (λ e. grind (arith, e)) now is
   task_recorded call (Run arguments c) asked there is = run_recorded call arguments c (record { request = asked; there = there })
   task_recorded call (MakeContext parent assertion) asked there is =
       let t = on_world (deed_of (make_context parent)) (begins_at call.level event.moment) now in
@@ -79,11 +82,11 @@ module _ (X : Extra) (owed : AreLawful X) (m : Signing) (p : Policy) (lattice : 
   asked_recorded : (call : Call) (task : Task) → request_with X.grammar m p event.class event.message ≡ Asked call task → (b : Bool) → is_there now.world.contexts call.level call.context ≡ b →
       IsStep (cond b (done_for X m p now event call task) (refused_to m call now (caller RPCSEC_GSS_CTXPROBLEM))) → Recorded X m p journal event
   asked_recorded call task asked true there is = task_recorded call task asked there is
-  asked_recorded call task asked false there is = Refused call.xid call.wrapping (caller RPCSEC_GSS_CTXPROBLEM) tt (reply_is _ is) (line_is _ is)
+  asked_recorded call task asked false there is = refused_recorded call.xid call.wrapping (caller RPCSEC_GSS_CTXPROBLEM) tt now is
 
   request_recorded : (r : Request) → request_with X.grammar m p event.class event.message ≡ r → IsStep (step_of X m p now event r) → Recorded X m p journal event
   request_recorded Silent asked is = Unanswered (reply_is _ is) (line_is _ is)
-  request_recorded (RefusedCall xid w cause) asked is = Refused xid w cause (request_fails X.grammar m p event.class event.message xid w cause asked) (reply_is _ is) (line_is _ is)
+  request_recorded (RefusedCall xid w cause) asked is = refused_recorded xid w cause (request_fails X.grammar m p event.class event.message xid w cause asked) now is
   request_recorded (Nothing xid) asked is = Bare xid Plain (reply_is _ is) (line_is _ is)
   request_recorded (Asked call task) asked is = asked_recorded call task asked (is_there now.world.contexts call.level call.context) refl is
 

@@ -1,5 +1,5 @@
 -- How the reply to an event ends, and what the line of the event tells of it.
-use Rattle.std.specs.Prelude.{◌≡◌, ◌≢◌, ◌⊎◌, ℕ, ◌+◌, ◌==◌, Bool, true, false, not, List, length, Option, Some, None, slice_get}
+use Rattle.std.specs.Prelude.{◌≡◌, ◌≢◌, ◌⊎◌, ℕ, ◌+◌, ◌==◌, Bool, true, false, not, List, length, Option, Some, None, codes, slice_get}
 use Rattle.lnfs_outside.specs.declared.event.Event.{Event}
 use Rattle.lnfs_arguments.specs.declared.types.Op.{Op}
 use Rattle.lnfs_arguments.specs.declared.types.Compound.{Compound}
@@ -8,6 +8,7 @@ use Rattle.lnfs_arguments.specs.Numbered.{number_of}
 use Rattle.lnfs_results.specs.declared.types.Results.{Results}
 use Rattle.lnfs_results.specs.Texts.{results_text}
 use Rattle.lnfs_policy.specs.Policy.{Policy}
+use Rattle.lnfs_rpc.specs.Replies.{ReplyHead, accepted, version_mismatch, auth_error, reply_text}
 use Rattle.lnfs_monitor.specs.declared.rule.Rule.TheVariants as rules
 use Rattle.lnfs_operations.specs.declared.Gate.{Gate}
 use Rattle.lnfs_operations.specs.declared.Gate.TheVariants.{Monitor}
@@ -15,11 +16,13 @@ use Rattle.lnfs_operations.specs.Extra.{Extra}
 use Rattle.lnfs_gss3.specs.Mechanism.{Signing}
 use Rattle.lnfs_gss3.specs.Grammar.{Assertion}
 use Rattle.lnfs_step.specs.declared.numbers.TheConstants.{SUCCESS}
-use Rattle.lnfs_step.specs.Wrapping.{Wrapping, Cause, caller, called, version, answer_text, bare_text, refusal_text}
+use Rattle.lnfs_step.specs.Wrapping.{Wrapping, answer_text, bare_text}
 use Rattle.lnfs_step.specs.Request.{Call}
-use Rattle.lnfs_step.specs.Step.{Line, letter, line_of_cause, granted}
+use Rattle.lnfs_step.specs.Step.{Line, letter, granted}
 use Rattle.lnfs_step.specs.Journal.{reply_with, line_with}
 use Rattle.lnfs_step.specs.Sessions.{Asks, IsAnswered, HasOrigin}
+
+-- ---- a COMPOUND
 
 -- Access is denied by a rule of labels and by nothing else; a node whose home isn't dominated is stale, and an identifier of
 -- another level is one that isn't there (RFC 8881 section 15.1).
@@ -54,18 +57,44 @@ abbrev pub Tells : (X : Extra) → Compound → Results → Option Line → Type
 Tells X c r None = r.status ≡ 0
 Tells X c r (Some line) = TellsDenial X c r line
 
--- a call that isn't accepted, or that is accepted without success
-abbrev pub Fails : Cause → Type 0
-Fails (caller stat) = Unit {0}
-Fails (called stat) = stat ≢ SUCCESS
-Fails version = Unit {0}
+-- ---- a call that is refused as a whole
+
+-- it isn't accepted, or it is accepted without success (RFC 5531 section 9)
+abbrev pub IsFailure : ReplyHead → Type 0
+IsFailure (accepted verifier stat) = stat ≢ SUCCESS
+IsFailure version_mismatch = Unit {0}
+IsFailure (auth_error stat) = Unit {0}
+
+-- The status with which the head of a reply ends: the accept_stat, the auth_stat, or that the version is another one, which is the
+-- reject_stat 0.
+abbrev pub status_in : ReplyHead → ℕ
+status_in (accepted verifier stat) = stat
+status_in version_mismatch = 0
+status_in (auth_error stat) = stat
+
+-- what is called, the version of RPC, or who calls
+abbrev pub gate_in : ReplyHead → List ℕ
+gate_in (accepted verifier stat) = codes "P"
+gate_in version_mismatch = codes "V"
+gate_in (auth_error stat) = codes "C"
+
+-- What a line tells of the head of a reply.
+pub record TellsRefusal (head : ReplyHead) (line : Line) : Type 0 where
+  pub failed : IsFailure head
+  pub status : line.status ≡ status_in head
+  pub gate : line.gate ≡ gate_in head
+  -- no operation
+  pub place : line.place ≡ 0
+  pub number : line.number ≡ 0
+
+-- ---- an event
 
 -- What an event got, and its line.
 pub data Recorded (X : Extra) (m : Signing) (p : Policy) (journal : List Event) (event : Event) : Type 0 where
   -- What is no call gets no reply, and has no line.
   Unanswered : reply_with X m p journal event ≡ None → line_with X m p journal event ≡ None → Recorded X m p journal event
-  -- A call that is refused as a whole has the line of what refused it.
-  Refused : (xid : ℕ) (w : Wrapping) (cause : Cause) → Fails cause → reply_with X m p journal event ≡ Some (refusal_text m w xid cause) → line_with X m p journal event ≡ Some (line_of_cause cause) → Recorded X m p journal event
+  -- A call that is refused as a whole has one that tells of the head of its reply.
+  Refused : (xid : ℕ) (head : ReplyHead) (results : List ℕ) (line : Line) → reply_with X m p journal event ≡ Some (reply_text xid head results) → line_with X m p journal event ≡ Some line → TellsRefusal head line → Recorded X m p journal event
   -- A call that is accepted and has no results, as NULL, has none.
   Bare : (xid : ℕ) (w : Wrapping) → reply_with X m p journal event ≡ Some (bare_text m w xid) → line_with X m p journal event ≡ None → Recorded X m p journal event
   -- One that made a context has none.

@@ -1,5 +1,6 @@
 use Rattle.lnfs_operations.proofs.Retries.{answered_again, created_again}
 use Rattle.lnfs_operations.proofs.Once.{acts_once}
+use Rattle.lnfs_operations.proofs.CreatedOnce.{created_once}
 use Rattle.lnfs_operations.proofs.laws.retries_are_answered_again.Goals as goal
 
 pub returns : goal.returns
@@ -11,4 +12,5 @@ returns g c =
       created = λ site sent compound level moment b args rest client reply minor count is own there last kept. created_again X site sent compound level moment b args rest client reply minor count is own there last kept;
       once = λ site lattice sent again compound level moment later b args rest x slot stands minor is names next same size count.
           acts_once X owed site lattice sent compound level moment later b args rest x slot again stands minor is names next same size count;
+      created_once = λ site sent again compound level moment later b args client minor count is own found next same. created_once X site sent compound args level moment b client own found next later again minor count is same;
     }
