@@ -9,6 +9,7 @@ pub mod Dealing
 pub mod Handing
 pub mod Sessions
 pub mod Judging
+pub mod Idling
 pub mod Telling
 pub mod Accepting
 pub mod Performing

@@ -7,6 +7,7 @@ pub mod Ending
 pub mod Session
 pub mod Due
 pub mod Handed
+pub mod Idle
 pub mod Links
 pub mod Runs
 pub mod Rules

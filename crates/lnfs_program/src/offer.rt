@@ -1,7 +1,8 @@
 //! The service of links under a policy.
 ghost use Rattle.std.specs.Prelude.{◌≡◌, Some};
 ghost use Rattle.lnfs_program.specs.Handed.{dealings};
-ghost use Rattle.lnfs_program.specs.Runs.{Gives, Judges, Offers, WritesAndNet};
+ghost use Rattle.lnfs_program.specs.Idle.{IsIdle, IsIdleBefore};
+ghost use Rattle.lnfs_program.specs.Runs.{Gives, Judges, Offers, WritesAndNet, status_of};
 ghost use Rattle.lnfs_program.specs.Streams.{counts, streams};
 ghost use Rattle.lnfs_program.specs.Words.{serve, under};
 
@@ -32,6 +33,7 @@ fn offer<K: Sink, A: Sink, N: Net, C: Clock + Sync, R: Threads + Wait + Sync>(
 where
     N::L: Send,
     ensures offers { Offers (C.may clock.now) policy team.now.links.items result (streams (K.taken out.old) (A.taken audit.old)) (streams (K.taken out.new) (A.taken audit.new)) (dealings (N.dealt net.old) (N.dealt net.new) (N.backs net.old) (N.backs net.new)) }
+    ensures idle { IsIdleBefore (status_of result) net.old net.new }
     ensures cause { WritesAndNet result (N.faults net.old) (N.faults net.new) (counts (K.write_faults out.old) (A.write_faults audit.old)) (counts (K.write_faults out.new) (A.write_faults audit.new)) }
 {
     match policy.mode() {
@@ -68,6 +70,7 @@ pub fn offer_under<F: Files, K: Sink, A: Sink, N: Net, C: Clock + Sync, R: Threa
 where
     N::L: Send,
     ensures judges { Judges (F.content files.old) (C.may clock.now) (Some (under name.now (serve team.now.links.items team.now.workers))) result (streams (K.taken out.old) (A.taken audit.old)) (streams (K.taken out.new) (A.taken audit.new)) (dealings (N.dealt net.old) (N.dealt net.new) (N.backs net.old) (N.backs net.new)) }
+    ensures idle { IsIdle (Some (under name.now (serve team.now.links.items team.now.workers))) (status_of result) net.old net.new }
     ensures content { F.content files.new ≡ F.content files.old }
     ensures cause { Gives result (F.faults files.old) (F.faults files.new) (N.faults net.old) (N.faults net.new) (counts (K.write_faults out.old) (A.write_faults audit.old)) (counts (K.write_faults out.new) (A.write_faults audit.new)) }
 {

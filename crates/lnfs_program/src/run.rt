@@ -2,6 +2,7 @@
 ghost use Rattle.std.specs.Prelude.{◌≡◌, ◌≤◌, ◌<◌, ◌^◌, [], IfOk, IfSome, IsSome, OnOk};
 ghost use Rattle.lnfs_program.specs.Ending.{told_by};
 ghost use Rattle.lnfs_program.specs.Handed.{dealings};
+ghost use Rattle.lnfs_program.specs.Idle.{IsIdle, IsUnread};
 ghost use Rattle.lnfs_program.specs.Runs.{Judges, Runs, Gives, HasReason, NoneFell, status_of};
 ghost use Rattle.lnfs_program.specs.Streams.{HandsOn, counts, streams};
 ghost use Rattle.lnfs_program.specs.Words.{form_of, texts};
@@ -32,6 +33,8 @@ fn judge<F: Files, K: Sink, A: Sink, N: Net, C: Clock + Sync, R: Threads + Wait 
 where
     N::L: Send,
     ensures judges { Judges (F.content files.old) (C.may clock.now) (form_of (texts words.now)) result (streams (K.taken out.old) (A.taken audit.old)) (streams (K.taken out.new) (A.taken audit.new)) (dealings (N.dealt net.old) (N.dealt net.new) (N.backs net.old) (N.backs net.new)) }
+    ensures idle { IsIdle (form_of (texts words.now)) (status_of result) net.old net.new }
+    ensures unread { IsUnread (form_of (texts words.now)) files.old files.new }
     ensures content { F.content files.new ≡ F.content files.old }
     ensures cause { Gives result (F.faults files.old) (F.faults files.new) (N.faults net.old) (N.faults net.new) (counts (K.write_faults out.old) (A.write_faults audit.old)) (counts (K.write_faults out.new) (A.write_faults audit.new)) }
 {
@@ -64,6 +67,8 @@ where
     N::L: Send,
     ensures runs { Runs (F.content files.old) (C.may clock.now) (form_of (texts words.now)) (status_of result) (streams (K.taken out.old) (A.taken audit.old)) (streams (K.taken out.new) (A.taken audit.new)) (dealings (N.dealt net.old) (N.dealt net.new) (N.backs net.old) (N.backs net.new)) }
     ensures told { IfOk result (λ status. IsSome (told_by status)) }
+    ensures idle { IsIdle (form_of (texts words.now)) (status_of result) net.old net.new }
+    ensures unread { IsUnread (form_of (texts words.now)) files.old files.new }
     ensures content { F.content files.new ≡ F.content files.old }
     ensures cause { Gives result (F.faults files.old) (F.faults files.new) (N.faults net.old) (N.faults net.new) (counts (K.write_faults out.old) (A.write_faults audit.old)) (counts (K.write_faults out.new) (A.write_faults audit.new)) }
 {
@@ -91,6 +96,8 @@ where
     ensures told { IfOk result (λ status. IsSome (told_by status)) }
     ensures handed { OnOk result ((K.waiting out.new ≡ []) × (A.waiting audit.new ≡ [])) }
     ensures rests { (HandsOn (K.waiting out.new) (K.write_faults out.old) (K.write_faults out.new)) × (HandsOn (A.waiting audit.new) (A.write_faults audit.old) (A.write_faults audit.new)) }
+    ensures idle { IsIdle (form_of (texts words.now)) (status_of result) net.old net.new }
+    ensures unread { IsUnread (form_of (texts words.now)) files.old files.new }
     ensures content { F.content files.new ≡ F.content files.old }
     ensures cause { Gives result (F.faults files.old) (F.faults files.new) (N.faults net.old) (N.faults net.new) (counts (K.write_faults out.old) (A.write_faults audit.old)) (counts (K.write_faults out.new) (A.write_faults audit.new)) }
 {
@@ -126,6 +133,10 @@ where
     // otherwise the streams hold nothing back; and else neither does, unless a call of it failed
     ensures handed { IfSome (told_by result) (λ _. (K.waiting out.new ≡ []) × (A.waiting audit.new ≡ [])) }
     ensures rests { (HandsOn (K.waiting out.new) (K.write_faults out.old) (K.write_faults out.new)) × (HandsOn (A.waiting audit.new) (A.write_faults audit.old) (A.write_faults audit.new)) }
+    // for words that ask for no service, and where the status comes before one, the net was asked for nothing;
+    // without a task no file was opened
+    ensures idle { IsIdle (form_of (texts words.now)) result net.old net.new }
+    ensures unread { IsUnread (form_of (texts words.now)) files.old files.new }
     // no count falls, and no file changes
     ensures files { F.faults files.old ≤ F.faults files.new }
     ensures streams { NoneFell (counts (K.write_faults out.old) (A.write_faults audit.old)) (counts (K.write_faults out.new) (A.write_faults audit.new)) }

@@ -4,6 +4,7 @@ ghost use Rattle.std.specs.Option.{option_map};
 ghost use Rattle.lnfs_format.specs.Kinds.{reads, writes};
 ghost use Rattle.lnfs_program.specs.Ending.{told_by};
 ghost use Rattle.lnfs_program.specs.Handed.{dealings};
+ghost use Rattle.lnfs_program.specs.Idle.{IsIdle, IsUnread};
 ghost use Rattle.lnfs_program.specs.Runs.{HasReason, NoneFell, Runs};
 ghost use Rattle.lnfs_program.specs.Streams.{HandsOn, counts, streams};
 ghost use Rattle.lnfs_program.specs.Words.{form_of, texts};
@@ -38,6 +39,8 @@ where
     ensures reason { IfOk result (λ status. HasReason status (F.faults files.old) (F.faults files.new) (N.faults net.old) (N.faults net.new) (counts (K.write_faults out.old) (A.write_faults audit.old)) (counts (K.write_faults out.new) (A.write_faults audit.new))) }
     ensures handed { IfOk result (λ status. IfSome (told_by status) (λ _. (K.waiting out.new ≡ []) × (A.waiting audit.new ≡ []))) }
     ensures rests { IfOk result (λ _. (HandsOn (K.waiting out.new) (K.write_faults out.old) (K.write_faults out.new)) × (HandsOn (A.waiting audit.new) (A.write_faults audit.old) (A.write_faults audit.new))) }
+    ensures idle { IfOk result (λ status. IsIdle (form_of (texts words.now)) status net.old net.new) }
+    ensures unread { IfOk result (λ _. IsUnread (form_of (texts words.now)) files.old files.new) }
     ensures files { F.faults files.old ≤ F.faults files.new }
     ensures streams { NoneFell (counts (K.write_faults out.old) (A.write_faults audit.old)) (counts (K.write_faults out.new) (A.write_faults audit.new)) }
     ensures net { N.faults net.old < 2 ^ 64 → N.faults net.old ≤ N.faults net.new }

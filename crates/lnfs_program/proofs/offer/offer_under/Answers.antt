@@ -1,5 +1,6 @@
 use Rattle.std.proofs.Common.{rules}
 use Rattle.lnfs_program.proofs.Handing.{stop_idle}
+use Rattle.lnfs_program.proofs.Idling.{before_same}
 use Rattle.lnfs_program.proofs.Judging.{judges_over, judges_gave_up, judges_service, alone_unruled}
 use Rattle.lnfs_program.proofs.offer.offer_under.Goals as goal
 
@@ -11,3 +12,9 @@ returns-in-Ok-clause-judges g c = judges_service _ _ c.in-Ok.policy (rw c.in-Ok.
 
 pub returns-in-Err-clause-judges : goal.returns-in-Err-clause-judges
 returns-in-Err-clause-judges g c = judges_over _ _ ⊥ ⊥ tt (alone_unruled _ c.in-Err.status (rw c.in-Err.is at c.in_ok-policy.ensures.rules))
+
+pub returns-in_err-policy-clause-idle : goal.returns-in_err-policy-clause-idle
+returns-in_err-policy-clause-idle g c = before_same _ c.args.net.now
+
+pub returns-in-Err-clause-idle : goal.returns-in-Err-clause-idle
+returns-in-Err-clause-idle g c = before_same _ c.args.net.now

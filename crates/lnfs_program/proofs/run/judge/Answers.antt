@@ -1,7 +1,8 @@
 use Rattle.std.proofs.Common.{rules, refl, sym, ap, ◌∙◌, Some}
 use Rattle.std.specs.Option.{option_map}
 use Rattle.lnfs_program.specs.declared.status.Stop.TheVariants as stops
-use Rattle.lnfs_program.specs.Words.{named}
+use Rattle.lnfs_program.specs.Words.{named, form_of, texts}
+use Rattle.lnfs_program.proofs.Idling.{idle_same, unread_same, unread_under}
 use Rattle.lnfs_program.proofs.Judging.{judges_gave_up, judges_over, judges_usage, judges_help, judges_version}
 use Rattle.lnfs_program.proofs.run.judge.Goals as goal
 
@@ -28,3 +29,35 @@ returns-in-Some-Under-clause-judges g c =
     let u = c.in-Some-Under in
     let form = sym (ap (option_map named) (u.is ∙ ap Some u.field-0-is)) ∙ c.in_ok-command_of.ensures in
     rw (sym form) (judges_over _ _ _ _ c.under.ensures.cause.excused c.under.ensures.judges)
+
+pub returns-in_err-command_of-clause-idle : goal.returns-in_err-command_of-clause-idle
+returns-in_err-command_of-clause-idle g c = idle_same (form_of (texts c.args.words.now)) _ c.args.net.now
+
+pub returns-in-None-clause-idle : goal.returns-in-None-clause-idle
+returns-in-None-clause-idle g c = idle_same (form_of (texts c.args.words.now)) _ c.args.net.now
+
+pub returns-in-Some-Help-clause-idle : goal.returns-in-Some-Help-clause-idle
+returns-in-Some-Help-clause-idle g c = idle_same (form_of (texts c.args.words.now)) _ c.args.net.now
+
+pub returns-in-Some-Version-clause-idle : goal.returns-in-Some-Version-clause-idle
+returns-in-Some-Version-clause-idle g c = idle_same (form_of (texts c.args.words.now)) _ c.args.net.now
+
+pub returns-in-Some-Under-clause-idle : goal.returns-in-Some-Under-clause-idle
+returns-in-Some-Under-clause-idle g c = idle_same (form_of (texts c.args.words.now)) _ c.args.net.now
+
+pub returns-in_err-command_of-clause-unread : goal.returns-in_err-command_of-clause-unread
+returns-in_err-command_of-clause-unread g c = unread_same (form_of (texts c.args.words.now)) c.args.files.now
+
+pub returns-in-None-clause-unread : goal.returns-in-None-clause-unread
+returns-in-None-clause-unread g c = unread_same (form_of (texts c.args.words.now)) c.args.files.now
+
+pub returns-in-Some-Help-clause-unread : goal.returns-in-Some-Help-clause-unread
+returns-in-Some-Help-clause-unread g c = unread_same (form_of (texts c.args.words.now)) c.args.files.now
+
+pub returns-in-Some-Version-clause-unread : goal.returns-in-Some-Version-clause-unread
+returns-in-Some-Version-clause-unread g c = unread_same (form_of (texts c.args.words.now)) c.args.files.now
+
+pub returns-in-Some-Under-clause-unread : goal.returns-in-Some-Under-clause-unread
+returns-in-Some-Under-clause-unread g c =
+    let u = c.in-Some-Under in
+    unread_under (sym c.in_ok-command_of.ensures ∙ ap (option_map named) (u.is ∙ ap Some u.field-0-is)) c.args.files.now c.under.new.files
