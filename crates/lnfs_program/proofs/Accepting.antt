@@ -1,6 +1,6 @@
 -- Links that came, and a service of them.
-use Rattle.std.proofs.Common.{◌≡◌, ◌<◌, ◌≤◌, ℕ, zero, suc, ◌+◌, take, get_or, List, [], ◌∷◌, ◌++◌, length, map, All, refl, sym, ap, ◌∙◌, subst, arith, append-nil}
-use Rattle.std.proofs.lemmas.List.{length-map, map-append, take_more}
+use Rattle.std.proofs.Common.{◌≡◌, ◌<◌, ◌≤◌, ℕ, zero, suc, ◌+◌, take, get_or, List, [], ◌∷◌, ◌++◌, length, map, All, refl, sym, ap, ◌∙◌, subst, arith, inr}
+use Rattle.std.proofs.lemmas.List.{map-append, take_more}
 use Rattle.std.proofs.lemmas.List.Elements.{All-push}
 use Rattle.std.specs.Prelude.{Result, Err, OnOk, IfErr}
 use Rattle.std.specs.declared.option.Option.{Option}
@@ -18,19 +18,19 @@ use Rattle.lnfs_workers.specs.Transcripts.{entries_of}
 use Rattle.lnfs_workers.specs.declared.line.LinkEnd.{LinkEnd}
 use Rattle.lnfs_program.specs.declared.status.Status.{Status}
 use Rattle.lnfs_program.specs.declared.status.Stop.{Stop}
-use Rattle.lnfs_program.specs.declared.status.Stop.TheVariants.{ReadFault, WriteFault, Memory, NetFault}
+use Rattle.lnfs_program.specs.declared.status.Stop.TheVariants.{Memory, NetFault}
 use Rattle.lnfs_program.specs.Due.{served}
-use Rattle.lnfs_program.specs.Handed.{Dealings, dealings, Adds, Deals}
+use Rattle.lnfs_program.specs.Handed.{Dealings, dealings, Adds, Deals, AreServed}
 use Rattle.lnfs_program.specs.Links.{AreUnserved, Came, IsCut, IsNew, deal_of, told_end}
-use Rattle.lnfs_program.specs.Runs.{IsExcused, OneRose, WritesOnly, Plays, Serves}
+use Rattle.lnfs_program.specs.Runs.{OneRose, WritesOnly, Plays, Serves, status_of}
 use Rattle.lnfs_step.specs.Journal.{reply_with, answer}
-use Rattle.lnfs_program.specs.Session.{Session, FoundMemory, IsSession}
+use Rattle.lnfs_program.specs.Session.{Session, FoundMemory, IsSession, IsShort}
 use Rattle.lnfs_program.specs.Streams.{Streams, Counts}
-use Rattle.lnfs_program.proofs.Dealing.{adds_none, adds_more, says, untouched}
-use Rattle.lnfs_program.proofs.Handing.{none_short, unserved_is, served_is}
+use Rattle.lnfs_program.proofs.Dealing.{adds_none, adds_more, says, untouched, nothing}
+use Rattle.lnfs_program.proofs.Handing.{unserved_is, served_is}
 use Rattle.lnfs_program.proofs.Judging.{gave_up}
 use Rattle.lnfs_program.proofs.Writing.{on_ok}
-use Rattle.lnfs_program.proofs.Sessions.{New, classes_dealt, began_all, is_session, told_found}
+use Rattle.lnfs_program.proofs.Sessions.{New, classes_dealt, began_all, fresh_all, is_session, told_found}
 
 -- ---- a service that doesn't begin
 
@@ -45,13 +45,10 @@ on_stop result P stop is p = rw is p
 
 module _ (classes : List ℕ) (dealt : Option (List Deal)) (backs : Option (List Back)) where
   pub none_for_memory : (stop : Stop) → stop ≡ Memory → Deals (dealings dealt dealt backs backs) (AreUnserved stop classes)
-  none_for_memory stop is = rw is (untouched dealt backs (none_short classes))
+  none_for_memory stop is = rw is (untouched dealt backs nothing)
 
-  pub none_for_net : (net : Type 0) (stop : Stop) → IsExcused stop ⊥ ⊥ net → 0 < length classes → Deals (dealings dealt dealt backs backs) (AreUnserved stop classes)
-  none_for_net net ReadFault e some = absurd e
-  none_for_net net WriteFault e some = absurd e
-  none_for_net net Memory e some = untouched dealt backs (none_short classes)
-  none_for_net net NetFault e some = let cut : IsCut classes [] = cut_at classes 0 some in untouched dealt backs (record { class = cut.0; others = cut.1; dealt = cut.2; handed = refl })
+  pub none_for_net : (stop : Stop) → stop ≡ NetFault → 0 < length classes → Deals (dealings dealt dealt backs backs) (AreUnserved stop classes)
+  none_for_net stop is some = let cut : IsCut classes [] = cut_at classes 0 some in rw is (untouched dealt backs (record { class = cut.0; others = cut.1; dealt = cut.2; handed = refl }))
 
 -- one more link, of the next class
 module _ {L : Type 0} (classes : List ℕ) (n : ℕ) (less : n < length classes) (links : List (ℕ × L)) (link : L) {now : List (ℕ × L)} (is : now ≡ links ++ (get_or classes n 0, link) ∷ []) where
@@ -72,22 +69,9 @@ module _ {L : Type 0} (classes : List ℕ) (n : ℕ) (less : n < length classes)
         (adds_more a b c (map (deal_of tell) links) (deal_of tell (get_or classes n 0, link)) all grows)
 
 module _ {L : Type 0} (tell : L → Back) (classes : List ℕ) (links : List (ℕ × L)) {dealt dealt' : Option (List Deal)} {backs backs' : Option (List Back)} where
-  pub some_for_net : (net : Type 0) (stop : Stop) → IsExcused stop ⊥ ⊥ net → IsCut classes (map (λ link. link.0) links) → New tell links
+  pub some_for_net : (stop : Stop) → stop ≡ NetFault → IsCut classes (map (λ link. link.0) links) → New tell links
       → Adds dealt dealt' (map (deal_of tell) links) → Adds backs backs' (map (λ link. tell link.1) links) → Deals (dealings dealt dealt' backs backs') (AreUnserved stop classes)
-  some_for_net net ReadFault e cut new d b = absurd e
-  some_for_net net WriteFault e cut new d b = absurd e
-  some_for_net net Memory e cut new d b = record {
-    deals = map (deal_of tell) links;
-    backs = map (λ link. tell link.1) links;
-    dealt = d;
-    handed = b;
-    say = record {
-      others = cut.0 ∷ cut.1;
-      dealt = cut.2 ∙ ap (λ (front : List ℕ). front ++ cut.0 ∷ cut.1) (sym (classes_dealt tell links));
-      few = omega (arith, length-map links (deal_of tell), length-map links (λ (link : ℕ × L). tell link.1));
-    };
-  }
-  some_for_net net NetFault e cut new d b = record {
+  some_for_net stop is cut new d b = rw is (record {
     deals = map (deal_of tell) links;
     backs = map (λ link. tell link.1) links;
     dealt = d;
@@ -98,31 +82,29 @@ module _ {L : Type 0} (tell : L → Back) (classes : List ℕ) (links : List (�
       dealt = cut.2 ∙ ap (λ (front : List ℕ). front ++ cut.0 ∷ cut.1) (sym (classes_dealt tell links));
       handed = began_all tell links new;
     };
-  }
+  })
 
   -- there was no memory to serve them
-  pub links_lost : Came tell classes links (dealings dealt dealt' backs backs') → Deals (dealings dealt dealt' backs backs') (AreUnserved Memory classes)
+  pub links_lost : Came tell classes links (dealings dealt dealt' backs backs') → Deals (dealings dealt dealt' backs backs') (IsShort classes)
   links_lost came = record {
     deals = map (deal_of tell) links;
     backs = [];
     dealt = came.dealt;
     handed = rw came.kept (adds_none backs);
-    say = record {
-      others = [];
-      dealt = sym came.all ∙ sym (classes_dealt tell links) ∙ sym (append-nil (map (λ deal. deal.class) (map (deal_of tell) links)));
-      few = omega arith;
-    };
+    say = record { dealt = classes_dealt tell links ∙ came.all; fresh = fresh_all tell links came.new; kept = refl };
   }
 
 module _ (may : Moment → Type 0) (m : Signing) (policy : Policy) (classes : List ℕ) where
+  serves_none : {result : Result Status Stop} {s : Streams} {net : Dealings} (stop : Stop) → result ≡ Err stop → Deals net (AreServed (Unit {0}) (IsSession may m policy) None (status_of (Err stop)) classes) → Serves may m policy classes result s s net
+  serves_none {result} {s} {net} stop is links =
+      let none : Serves may m policy classes (Err stop) s s net = record { session = None; plays = gave_up (served m policy None) tt; links = links } in
+      subst (λ (r : Result Status Stop). Serves may m policy classes r s s net) (sym is) none
+
   pub serves_stopped : {result : Result Status Stop} {s : Streams} {net : Dealings} (stop : Stop) → result ≡ Err stop → Deals net (AreUnserved stop classes) → Serves may m policy classes result s s net
-  serves_stopped {result} {s} {net} stop is deals =
-      let stopped : Serves may m policy classes (Err stop) s s net = record {
-        session = None;
-        plays = gave_up (served m policy None) tt;
-        links = says (unserved_is (Unit {0}) (IsSession may m policy) tt stop classes) deals;
-      } in
-      subst (λ (r : Result Status Stop). Serves may m policy classes r s s net) (sym is) stopped
+  serves_stopped stop is deals = serves_none stop is (says (unserved_is (Unit {0}) (IsSession may m policy) tt stop classes) deals)
+
+  pub serves_short : {result : Result Status Stop} {s : Streams} {net : Dealings} → result ≡ Err Memory → Deals net (IsShort classes) → Serves may m policy classes result s s net
+  serves_short is deals = serves_none Memory is (says (λ deals backs short. inr (tt, short)) deals)
 
   -- ---- a service, and what is told of it
   module _ {L : Type 0} (tell : L → Back) (links : List (ℕ × L)) (ends : List (LinkEnd L)) (journal : List Event) {dealt dealt' dealt'' : Option (List Deal)} {backs backs' backs'' : Option (List Back)} (came : Came tell classes links (dealings dealt dealt' backs backs')) where

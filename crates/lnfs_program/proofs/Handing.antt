@@ -1,5 +1,5 @@
 -- The links of a run, by its status.
-use Rattle.std.proofs.Common.{◌≡◌, ◌⊎◌, ℕ, true, false, List, [], All, refl, sym, subst, arith, inl, inr}
+use Rattle.std.proofs.Common.{◌≡◌, ◌⊎◌, ℕ, true, false, List, [], All, refl, sym, subst, inl, inr}
 use Rattle.std.specs.Prelude.{Result, OnOk, IfOk, IfErr, IsSome}
 use Rattle.std.specs.declared.result.Result.TheVariants as result_of
 use Rattle.std.specs.declared.option.Option.{Option}
@@ -69,9 +69,6 @@ pub idle_shown : (rose : Type 0) (result : Result Status Stop) (e : Status) → 
 idle_shown rose (result_of.Ok status) e told cut = told_idle status e told
 idle_shown rose (result_of.Err stop) e told cut = write_idle stop cut.0
 
-pub none_short : (classes : List ℕ) → IsShort classes [] []
-none_short classes = record { others = classes; dealt = refl; few = omega arith }
-
 -- what is no service gives up, and not by the net
 none_stop : (stop : Stop) (read write : Type 0) → IsExcused stop read write ⊥ → (status : Status) (deals : List Deal) (backs : List Back) → AreNone status deals backs → AreNone (status_of (result_of.Err stop)) deals backs
 none_stop stop read write e status deals backs h = (stop_idle read write stop e, h.1)
@@ -106,7 +103,7 @@ module _ (May : Type 0) (Is : Session → List ℕ → List Deal → List Back �
   pub unserved_is : May → (stop : Stop) (classes : List ℕ) (deals : List Deal) (backs : List Back) → AreUnserved stop classes deals backs → AreServed May Is None (status_of (result_of.Err stop)) classes deals backs
   unserved_is may stops.ReadFault classes deals backs u = absurd u
   unserved_is may stops.WriteFault classes deals backs u = absurd u
-  unserved_is may stops.Memory classes deals backs u = inr (may, u)
+  unserved_is may stops.Memory classes deals backs u = inl u
   unserved_is may stops.NetFault classes deals backs u = (may, u)
 
   -- they were served, and then a stream failed, or there was no memory

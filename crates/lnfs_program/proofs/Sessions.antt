@@ -77,7 +77,7 @@ module _ {L : Type 0} (tell : L → Back) where
   began_all [] new = refl
   began_all (x ∷ links) new = λ i. began_is x (new zero x (omega arith)) i ∷ began_all links (λ k d less. new (suc k) d (omega arith)) i
 
-  fresh_all : (links : List (ℕ × L)) → New links → All (λ deal. IfSome deal.taken (λ bytes. bytes ≡ [])) (map (deal_of tell) links)
+  pub fresh_all : (links : List (ℕ × L)) → New links → All (λ deal. IfSome deal.taken (λ bytes. bytes ≡ [])) (map (deal_of tell) links)
   fresh_all [] new = λ k d less. absurd (omega arith)
   fresh_all (x ∷ links) new =
       All-cons (λ deal. IfSome deal.taken (λ bytes. bytes ≡ [])) (deal_of tell x) (map (deal_of tell) links) (new zero x (omega arith)).nothing (fresh_all links (λ k d less. new (suc k) d (omega arith)))

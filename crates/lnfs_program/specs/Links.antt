@@ -7,7 +7,7 @@ use Rattle.lnfs_workers.specs.declared.line.LinkEnd.{LinkEnd}
 use Rattle.lnfs_program.specs.declared.status.Stop.{Stop}
 use Rattle.lnfs_program.specs.declared.status.Stop.TheVariants as stop
 use Rattle.lnfs_program.specs.Handed.{Adds, Dealings}
-use Rattle.lnfs_program.specs.Session.{IsRefused, IsShort}
+use Rattle.lnfs_program.specs.Session.{IsRefused, Nothing}
 
 -- by what a link tells: the link as it was dealt, with its class
 abbrev pub deal_of : {L : Type 0} → (L → Back) → ℕ × L → Deal
@@ -39,8 +39,8 @@ pub record Came {L : Type 0} (tell : L → Back) (classes : List ℕ) (links : L
   pub kept : net.backs_after ≡ net.backs
   pub owes : Owes (length links) net.dealt_after net.backs_after
 
--- the links of a service that didn't begin, by what stopped it
+-- the links of a service for which they didn't all come, by what stopped it
 abbrev pub AreUnserved : Stop → (classes : List ℕ) → List Deal → List Back → Type 0
 AreUnserved stop.NetFault classes deals backs = IsRefused classes deals backs
-AreUnserved stop.Memory classes deals backs = IsShort classes deals backs
+AreUnserved stop.Memory classes deals backs = Nothing deals backs
 AreUnserved cause classes deals backs = ⊥

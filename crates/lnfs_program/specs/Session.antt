@@ -73,11 +73,11 @@ pub record IsRefused (classes : List ℕ) (deals : List Deal) (backs : List Back
   pub dealt : classes ≡ map (λ deal. deal.class) deals ++ class ∷ others
   pub handed : backs ≡ map began deals
 
--- One that found no memory: of some of the classes a link was dealt, and no more were handed back.
+-- One that found no memory behind its links: one of each of the classes was dealt and had taken nothing, and none was handed back.
 pub record IsShort (classes : List ℕ) (deals : List Deal) (backs : List Back) : Type 0 where
-  pub others : List ℕ
-  pub dealt : classes ≡ map (λ deal. deal.class) deals ++ others
-  pub few : length backs ≤ length deals
+  pub dealt : map (λ deal. deal.class) deals ≡ classes
+  pub fresh : All (λ deal. IfSome deal.taken (λ bytes. bytes ≡ [])) deals
+  pub kept : backs ≡ []
 
 -- no link was dealt, and none was handed back
 pub record Nothing (deals : List Deal) (backs : List Back) : Type 0 where

@@ -1,5 +1,6 @@
 //! The links of a service: accepted from a net, and handed back to it.
 ghost use Rattle.std.specs.Prelude.{◌≡◌, ◌≤◌, ◌<◌, [], All, IfOk, IfErr, OnOk, OnErr, length, map, vec_capacity};
+ghost use Rattle.lnfs_outside.specs.Causes.{Rose};
 ghost use Rattle.lnfs_workers.specs.Served.{telling};
 ghost use Rattle.lnfs_program.specs.Handed.{Adds, Deals, dealings};
 ghost use Rattle.lnfs_program.specs.Links.{AreUnserved, Came, IsCut, IsNew, Owes, deal_of};
@@ -16,7 +17,8 @@ fn listen<N: Net>(net: &mut N, classes: &[u32]) -> Result<(), Stop>
     ensures dealt { N.dealt net.new ≡ N.dealt net.old }
     ensures backs { N.backs net.new ≡ N.backs net.old }
     ensures some { OnErr result (0 < length classes.now) }
-    ensures cause { NetOnly result (N.faults net.old) (N.faults net.new) }
+    ensures later { Stays (N.faults net.old) (N.faults net.new) }
+    ensures excused { IfErr result (λ stop. (stop ≡ Stop.NetFault) × Rose (N.faults net.old) (N.faults net.new)) }
 {
     for class in classes {
         if net.listen(*class).is_err() {
@@ -36,7 +38,8 @@ fn accept<N: Net>(net: &mut N, classes: &[u32], links: &mut Vec<(u32, N::L)>) ->
     ensures new { All (λ link. IsNew (telling N.L.left N.L.taken N.L.read_faults N.L.write_faults link.1)) links.new.items }
     ensures dealt { Adds (N.dealt net.old) (N.dealt net.new) (map (deal_of (telling N.L.left N.L.taken N.L.read_faults N.L.write_faults)) links.new.items) }
     ensures backs { N.backs net.new ≡ N.backs net.old }
-    ensures cause { NetOnly result (N.faults net.old) (N.faults net.new) }
+    ensures later { Stays (N.faults net.old) (N.faults net.new) }
+    ensures excused { IfErr result (λ stop. (stop ≡ Stop.NetFault) × Rose (N.faults net.old) (N.faults net.new)) }
 {
     for class in classes {
         let Ok(link) = net.accept(*class) else {

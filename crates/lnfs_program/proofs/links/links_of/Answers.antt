@@ -5,15 +5,15 @@ use Rattle.lnfs_program.proofs.Accepting.{on_stop, none_for_memory, none_for_net
 use Rattle.lnfs_program.proofs.links.links_of.Goals as goal
 
 pub returns-in_err-links-clause-stopped : goal.returns-in_err-links-clause-stopped
-returns-in_err-links-clause-stopped g c = on_stop c.from_residual.result _ stops.Memory (search rules) (none_for_memory _ _ _ stops.Memory refl)
+returns-in_err-links-clause-stopped g c = on_stop c.from_residual.result _ stops.Memory (search rules) (none_for_memory c.args.classes.now _ _ stops.Memory refl)
 
 pub returns-in_err-listen-clause-stopped : goal.returns-in_err-listen-clause-stopped
 returns-in_err-listen-clause-stopped g c =
     rw (c.listen.ensures.dealt, c.listen.ensures.backs)
-    (on_stop c.from_residual-in_err-listen.result _ c.in_err-listen.field-0.0 (search rules) (none_for_net _ _ _ _ c.in_err-listen.field-0.0 c.in_err-listen.ensures.cause.excused c.in_err-listen.ensures.some))
+    (on_stop c.from_residual-in_err-listen.result _ c.in_err-listen.field-0.0 (search rules) (none_for_net _ _ _ c.in_err-listen.field-0.0 c.in_err-listen.ensures.excused.0 c.in_err-listen.ensures.some))
 
 pub returns-in-Err-clause-stopped : goal.returns-in-Err-clause-stopped
 returns-in-Err-clause-stopped g c =
     rw c.hand_back.ensures.dealt
-    (some_for_net (telling g.N.L.Source.left g.N.L.Sink.taken g.N.L.Source.read_faults g.N.L.Sink.write_faults) c.args.classes.now c.accept.new.links.items _ c.in-Err.stop c.in-Err.ensures.cause.excused c.in-Err.ensures.some c.accept.ensures.new
+    (some_for_net (telling g.N.L.Source.left g.N.L.Sink.taken g.N.L.Source.read_faults g.N.L.Sink.write_faults) c.args.classes.now c.accept.new.links.items c.in-Err.stop c.in-Err.ensures.excused.0 c.in-Err.ensures.some c.accept.ensures.new
     (rw c.listen.ensures.dealt at c.accept.ensures.dealt) (rw (c.accept.ensures.backs, c.listen.ensures.backs) at c.hand_back.ensures.backs))
