@@ -11,10 +11,6 @@ use Rattle.lnfs_program.specs.Words.{before_all, classes_of, few, classes_in}
 abbrev pub behind : List ℕ → Option (List ℕ) → Option (List ℕ)
 behind classes others = option_map (λ (rest : List ℕ). classes ++ rest) others
 
-behind_none : (o : Option (List ℕ)) → o ≡ behind [] o
-behind_none None = refl
-behind_none (Some rest) = refl
-
 behind_more : (classes : List ℕ) (class : ℕ) (o : Option (List ℕ)) → behind classes (before_all (Some class) o) ≡ behind (classes ++ class ∷ []) o
 behind_more classes class None = refl
 behind_more classes class (Some rest) = ap Some (sym (append_assoc classes (class ∷ []) rest))
@@ -22,9 +18,6 @@ behind_more classes class (Some rest) = ap Some (sym (append_assoc classes (clas
 -- those of the parts that were read, and then those of the parts that are left
 abbrev pub Listed : (word classes : List ℕ) → List (List ℕ) → Type 0
 Listed word classes parts = classes_of (split 44 word) ≡ behind classes (classes_of parts)
-
-pub listed_none : (word : List ℕ) → Listed word [] (split 44 word)
-listed_none word = behind_none (classes_of (split 44 word))
 
 module _ (word classes : List ℕ) {parts : List (List ℕ)} (so_far : Listed word classes parts) where
   pub listed_more : {part : List ℕ} {others : List (List ℕ)} {class : ℕ} → parts ≡ part ∷ others → number_up_to 7 part ≡ Some class → Listed word (classes ++ class ∷ []) others

@@ -1,10 +1,10 @@
 -- Links that were dealt and handed back, one after another.
-use Rattle.std.proofs.Common.{◌≡◌, ℕ, suc, ◌+◌, ◌≤◌, Bool, true, false, cond, nat_eq, map, List, [], ◌∷◌, ◌++◌, length, refl, sym, ap, ◌∙◌, subst, arith, append_assoc, append-nil, length-append}
+use Rattle.std.proofs.Common.{◌≡◌, ℕ, suc, ◌+◌, ◌≤◌, Bool, true, false, cond, nat_eq, map, List, [], ◌∷◌, ◌++◌, length, refl, sym, ap, ◌∙◌, subst, arith, append_assoc, append-nil}
 use Rattle.std.proofs.lemmas.List.{length_push, map-append}
 use Rattle.std.specs.declared.option.Option.{Option}
 use Rattle.std.specs.declared.option.Option.TheVariants.{Some, None}
 use Rattle.lnfs_outside.specs.Calls.{next}
-use Rattle.lnfs_outside.specs.Nets.{Deal, Back, Grows, Fewer, NoMore, after_return}
+use Rattle.lnfs_outside.specs.Nets.{Deal, Back, Grows, Fewer, after_return}
 use Rattle.lnfs_program.specs.Handed.{Dealings, dealings, Adds, Deals}
 use Rattle.lnfs_program.specs.Links.{Owes}
 use Rattle.lnfs_program.specs.Runs.{Stays}
@@ -33,13 +33,6 @@ owes_less n (Some deals) None b' x o g = subst (λ c. Owes n (Some deals) c) (sy
 owes_less n (Some deals) (Some backs) b' x o g =
     let few : length (backs ++ x ∷ []) + n ≤ length deals = omega (arith, o, length_push backs x) in
     subst (λ c. Owes n (Some deals) c) (sym g) few
-
-pub owes_dealt : (d d' : Option (List Deal)) (b : Option (List Back)) (xs : List Deal) → NoMore d b → Adds d d' xs → Owes (length xs) d' b
-owes_dealt None d' b xs m a = subst (λ c. Owes (length xs) c b) (sym a) tt
-owes_dealt (Some deals) d' None xs m a = subst (λ c. Owes (length xs) c None) (sym a) tt
-owes_dealt (Some deals) d' (Some backs) xs m a =
-    let few : length backs + length xs ≤ length (deals ++ xs) = omega (arith, m, length-append deals xs) in
-    subst (λ c. Owes (length xs) c (Some backs)) (sym a) few
 
 -- ---- links that are handed back, one after another
 

@@ -7,7 +7,7 @@ use Rattle.std.proofs.lemmas.Grind.{common_steps}
 use Rattle.lnfs_outside.specs.Bytes.{AppendsPart, Puts}
 use Rattle.lnfs_outside.proofs.Parts.{nothing, then_more}
 use Rattle.lnfs_program.specs.Streams.{Streams, streams}
-use Rattle.lnfs_program.specs.Writes.{Write, to_out, to_audit, on_out, on_audit, front, Takes, TakesFront, Does, TakesBefore}
+use Rattle.lnfs_program.specs.Writes.{Write, to_out, to_audit, on_out, on_audit, front, Takes, TakesFront, Does}
 
 out_join : (xs ys : List Write) → on_out (xs ++ ys) ≡ on_out xs ++ on_out ys
 out_join [] ys = refl
@@ -122,24 +122,6 @@ does_none {T} {E} {result} s xs never = elim result as (λ r. OnOk r ⊥ → Doe
   | Ok value ↦ λ h. absurd h
   | Err error ↦ λ h. record { begun = front_none s xs; done = tt }
 ] never
-
--- a loop over the writes: it goes on, stops and ends
-pub goes_on : {r s t : Streams} {all : List Write} (xs ys : List Write) → TakesBefore r s all (xs ++ ys) → Takes s t xs → TakesBefore r t all ys
-goes_on {all = all} xs ys p q = record {
-  part = p.part ++ xs;
-  parts = p.parts ∙ sym (append_assoc p.part xs ys);
-  takes = takes_then p.part xs p.takes q;
-}
-
-pub stops_in : {r s t : Streams} {all : List Write} (xs ys : List Write) → TakesBefore r s all (xs ++ ys) → TakesFront s t xs → TakesFront r t all
-stops_in {r} {s} {t} {all} xs ys p q =
-    subst (λ ws. TakesFront r t ws) (sym p.parts) (front_then p.part (xs ++ ys) p.takes (front_first xs ys q))
-
-pub stops_here : {s t : Streams} {all rest : List Write} → TakesBefore s t all rest → TakesFront s t all
-stops_here {s} {t} {all} {rest} p = subst (λ ws. TakesFront s t ws) (sym p.parts) (front_all p.part rest p.takes)
-
-pub ends : {s t : Streams} {all rest : List Write} → TakesBefore s t all rest → rest ≡ [] → Takes s t all
-ends {s} {t} {all} {rest} p e = subst (λ ws. Takes s t ws) (sym (p.parts ∙ ap (λ r. p.part ++ r) e ∙ append-nil p.part)) p.takes
 
 -- what follows from success
 pub on_ok : {T E : Type 0} (result : Result T E) {A B : Type 0} → (A → B) → OnOk result A → OnOk result B

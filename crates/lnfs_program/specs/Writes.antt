@@ -1,5 +1,5 @@
 -- What is written, on which of the two streams, and in which order.
-use Rattle.std.specs.Prelude.{◌≡◌, ℕ, zero, suc, List, [], ◌∷◌, ◌++◌, take, Result, OnOk, unwrap_or}
+use Rattle.std.specs.Prelude.{ℕ, zero, suc, List, [], ◌∷◌, ◌++◌, take, Result, OnOk, unwrap_or}
 use Rattle.std.specs.Io.KnownBytes.{Appends}
 use Rattle.std.specs.declared.option.Option.{Option}
 use Rattle.lnfs_workers.specs.Transcripts.{framed}
@@ -47,12 +47,6 @@ pub record TakesFront (before after : Streams) (writes : List Write) : Type 0 wh
 pub record Does {T E : Type 0} (result : Result T E) (before after : Streams) (writes : List Write) : Type 0 where
   pub begun : TakesFront before after writes
   pub done : OnOk result (Takes before after writes)
-
--- of the writes, all before the rest were taken
-pub record TakesBefore (before after : Streams) (writes rest : List Write) : Type 0 where
-  pub part : List Write
-  pub parts : writes ≡ part ++ rest
-  pub takes : Takes before after part
 
 -- the reply's frame, and then the audit line
 abbrev pub answer_writes : Option (List ℕ) → Option (List ℕ) → List Write
