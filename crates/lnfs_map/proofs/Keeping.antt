@@ -7,7 +7,7 @@ use Rattle.lnfs_calipso.specs.Label.{Label, IsLabel, label_at, lowest}
 use Rattle.lnfs_calipso.specs.Same.{same_label, level_of}
 use Rattle.lnfs_calipso.specs.Equality.{same_label-true}
 use Rattle.lnfs_format.specs.Kinds.{reads, writes}
-use Rattle.lnfs_format.specs.Laws.{IsFormat}
+use Rattle.lnfs_format.specs.Laws.{IsFormat, ReadBack}
 use Rattle.lnfs_format.specs.Entries.{entry_of}
 use Rattle.lnfs_format.specs.Site.{IsSite}
 use Rattle.lnfs_format.specs.LevelRead.{or_bad, level_in, read_in, level_read}
@@ -19,10 +19,6 @@ use Rattle.lnfs_format.specs.declared.formats.ReadError.{ReadError}
 use Rattle.lnfs_format.specs.declared.formats.WriteError.{WriteError}
 use Rattle.lnfs_map.specs.Translated.{written, passed_on, into, translated}
 use Rattle.lnfs_map.specs.Kept.{level_by, IsOneLevel, dom_told, dom_by}
-
--- what is written is read again
-abbrev pub ReadBack : Type 0
-ReadBack = (kind : Kind) → IsFormat kind → (label : Label) → IsLabel label → (bytes : List ℕ) → writes kind label ≡ Some bytes → reads kind bytes ≡ Some label
 
 -- the level of a label is that of the label at its place
 abbrev IsHeld : List Label → ℕ → Type 0

@@ -11,7 +11,7 @@ use Rattle.lnfs_calipso.specs.Same.{same_label, level_of}
 use Rattle.lnfs_calipso.specs.Equality.{agree, same_label-refl, same_label-true}
 use Rattle.lnfs_format.specs.Entries.{entry_of}
 use Rattle.lnfs_format.specs.Kinds.{reads, writes}
-use Rattle.lnfs_format.specs.Laws.{IsFormat}
+use Rattle.lnfs_format.specs.Laws.{IsFormat, AreBytes, ReadBack, WrittenBack}
 use Rattle.lnfs_format.specs.LevelRead.{or_bad, level_in, read_in, level_read}
 use Rattle.lnfs_format.specs.Site.{AreFormats}
 use Rattle.lnfs_format.specs.declared.kind.Kind.{Kind}
@@ -19,16 +19,6 @@ use Rattle.lnfs_format.specs.declared.formats.FormatEntry.{FormatEntry}
 use Rattle.lnfs_policy.specs.Policy.{Policy}
 use Rattle.lnfs_site.specs.Site.{told_by, is_limited, carried, reading}
 use Rattle.lnfs_site.specs.Labels.{Spellings, spellings, table_of, is_table, is_spelled, level_or_bad, read_in_table, table_read}
-
--- what a format writes it reads, and the other way round
-abbrev pub ReadBack : Type 0
-ReadBack = (kind : Kind) → IsFormat kind → (label : Label) → IsLabel label → (bytes : List ℕ) → writes kind label ≡ Some bytes → reads kind bytes ≡ Some label
-
-abbrev pub AreBytes : List ℕ → Type 0
-AreBytes bytes = (k : ℕ) → slice_index bytes k < 256
-
-abbrev pub WrittenBack : Type 0
-WrittenBack = (kind : Kind) → IsFormat kind → (bytes : List ℕ) → AreBytes bytes → (label : Label) → reads kind bytes ≡ Some label → writes kind label ≡ Some bytes
 
 -- ---- places in a list that is made of another
 
