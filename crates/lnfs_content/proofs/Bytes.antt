@@ -18,8 +18,6 @@ get_or-bytes_from f i zero k lt = absurd (omega arith)
 get_or-bytes_from f i (suc n) zero lt = ap f (omega arith)
 get_or-bytes_from f i (suc n) (suc k) lt = get_or-bytes_from f (i + 1) n k (omega arith) ∙ ap f (omega arith)
 
--- ---- an empty chunk more
-
 -- ---- a part of one chunk is a part of the content
 both_ways : (a b : Bool) → (a ≡ true → b ≡ true) → (b ≡ true → a ≡ true) → a ≡ b
 both_ways true b f g = sym (f refl)

@@ -1,6 +1,7 @@
 -- Bytes in chunks.
 use Rattle.std.specs.Prelude.{◌≡◌, ◌<◌, ◌≤◌, ℕ, zero, suc, ◌+◌, ◌/◌, ◌%◌, List, [], ◌∷◌, ◌++◌, length, take, drop, slice_index_or}
-use Rattle.lnfs_content.specs.declared.limits.TheConstants.{CHUNK, MOST_BYTES, MOST_CHUNKS}
+use Rattle.lnfs_world.specs.declared.numbers.TheConstants.{MOST_FILE}
+use Rattle.lnfs_content.specs.declared.limits.TheConstants.{CHUNK, MOST_CHUNKS}
 
 -- the byte at a place, where those past the end are zeros
 abbrev pub byte_in : List ℕ → ℕ → ℕ
@@ -32,7 +33,7 @@ content chunks size = bytes_from (byte_at chunks) 0 size
 -- past the size are zeros
 pub record IsContent (chunks : List (List ℕ)) (size : ℕ) : Type 0 where
   pub zeros : (i : ℕ) → size ≤ i → byte_at chunks i ≡ 0
-  pub fits : size ≤ MOST_BYTES
+  pub fits : size ≤ MOST_FILE
   pub few : length chunks ≤ MOST_CHUNKS
 
 -- there is room for the byte

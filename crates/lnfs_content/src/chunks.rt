@@ -4,7 +4,8 @@ ghost use Rattle.std.specs.Prelude.{◌≡◌, ℕ, ◌+◌, ◌-◌, ◌/◌, �
 ghost use Rattle.lnfs_content.specs.Bytes.{byte_in, cell, byte_at, bytes_from, HasPlace};
 
 use crate::chunk::{Chunk, append_zeros};
-use crate::limits::{CHUNK, MOST_BYTES, MOST_CHUNKS};
+use crate::limits::{CHUNK, MOST_CHUNKS};
+use lnfs_world::numbers::MOST_FILE;
 use lnfs_xdr::XdrWriter;
 use std::alloc::{AllocError, Global};
 
@@ -39,7 +40,7 @@ pub(crate) fn make_room(
     from: usize,
     end: usize,
 ) -> Result<(), AllocError>
-    requires { end ≤ MOST_BYTES }
+    requires { end ≤ MOST_FILE }
     ensures same { (c at : ℕ) → cell chunks.new.items c at ≡ cell chunks.old.items c at }
     ensures few { length chunks.old.items ≤ MOST_CHUNKS → length chunks.new.items ≤ MOST_CHUNKS }
     ensures room { OnOk result ((i : ℕ) → from ≤ i → i < end → HasPlace chunks.new.items i) }
@@ -69,7 +70,7 @@ fn put_part(chunks: &mut Vec<Chunk>, index: usize, at: usize, bytes: &[u8])
 /// Writes bytes where there is room for them.
 pub(crate) fn put_bytes(chunks: &mut Vec<Chunk>, offset: usize, bytes: &[u8])
     requires room { (i : ℕ) → offset ≤ i → i < offset + length bytes.now → HasPlace chunks.old.items i }
-    requires fits { offset + length bytes.now ≤ MOST_BYTES }
+    requires fits { offset + length bytes.now ≤ MOST_FILE }
     ensures bytes { (i : ℕ) → byte_at chunks.new.items i ≡ cond (nat_le offset i && nat_lt i (offset + length bytes.now)) (byte_in bytes.now (i - offset)) (byte_at chunks.old.items i) }
     ensures count { length chunks.new.items ≡ length chunks.old.items }
 {

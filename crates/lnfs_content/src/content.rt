@@ -5,7 +5,8 @@ ghost use Rattle.lnfs_world.specs.Effects.{sized, written, size_written, read_at
 
 use crate::chunk::Chunk;
 use crate::chunks::{append_bytes, cut_chunks, make_room, put_bytes};
-use crate::limits::{MOST_BYTES, fits};
+use crate::limits::fits;
+use lnfs_world::numbers::MOST_FILE;
 use lnfs_xdr::XdrWriter;
 use std::alloc::{AllocError, Global};
 use std::marker::Model;
@@ -43,14 +44,14 @@ impl Content {
     /// How many bytes there are.
     pub fn len(&self) -> u64
         ensures value { result ≡ length self.now }
-        ensures limit { result ≤ MOST_BYTES }
+        ensures limit { result ≤ MOST_FILE }
     {
         self.size as u64
     }
 
     /// Whether there may be these bytes at an offset. No bytes may be anywhere.
     pub fn takes(&self, offset: u64, bytes: &[u8]) -> bool
-        ensures { result ≡ nat_le (size_written offset bytes.now self.now) MOST_BYTES }
+        ensures { result ≡ nat_le (size_written offset bytes.now self.now) MOST_FILE }
     {
         // The call says that no more bytes are there than may be.
         let _size = self.len();
@@ -108,7 +109,7 @@ impl Content {
     ///
     /// Where there is no memory. Then nothing has changed.
     pub fn write(&mut self, alloc: Global, offset: u64, bytes: &[u8]) -> Result<(), AllocError>
-        requires { offset + length bytes.now ≤ MOST_BYTES }
+        requires { offset + length bytes.now ≤ MOST_FILE }
         ensures ok { OnOk result (self.new ≡ written offset bytes.now self.old) }
         ensures err { OnErr result (self.new ≡ self.old) }
     {
@@ -124,7 +125,7 @@ impl Content {
 
     /// Cuts the bytes to a size, or fills them up to it with zeros (RFC 8881 section 18.30.3). Takes no memory.
     pub fn set_size(&mut self, size: u64)
-        requires { size ≤ MOST_BYTES }
+        requires { size ≤ MOST_FILE }
         ensures { self.new ≡ sized size self.old }
     {
         let size = size as usize;

@@ -7,4 +7,4 @@ mod content;
 mod limits;
 
 pub use content::Content;
-pub use limits::{MOST_BYTES, fits};
+pub use limits::fits;

@@ -2,7 +2,7 @@
 use Rattle.std.proofs.Common.{◌≡◌, refl, ap, sym, subst, ◌∙◌, ℕ, List, [], ◌∷◌, length, Option, Some, Result, Ok, Err}
 use Rattle.std.specs.Prelude.{◌<◌, ◌≤◌, nat_le}
 use Rattle.lnfs_outside.specs.declared.event.Moment.{Moment}
-use Rattle.lnfs_content.specs.declared.limits.TheConstants.{MOST_BYTES}
+use Rattle.lnfs_world.specs.declared.numbers.TheConstants.{MOST_FILE}
 use Rattle.lnfs_world.specs.World.{Id, Kind, File, Inner, Node, World, node_at}
 use Rattle.lnfs_world.specs.Names.{size_of}
 use Rattle.lnfs_world.specs.Change.{Touch, apply}
@@ -27,7 +27,7 @@ module _ (t u : Rows) (i : Id) (n : Node) (moment : Moment) (at : node_at t.node
   -- what a size of 0 tells of a file
   cuts : set_size_of t i 0 moment ≡ Ok (sets_data moment n [])
   cuts =
-      ap (λ (x : Option Node). on_file x (λ n. test (nat_le 0 MOST_BYTES) FBig (Ok (sets_data moment n (sized 0 n.inner.content))))) at
+      ap (λ (x : Option Node). on_file x (λ n. test (nat_le 0 MOST_FILE) FBig (Ok (sets_data moment n (sized 0 n.inner.content))))) at
       ∙ ap (λ (k : Kind). of_file k (Ok (sets_data moment n []))) file
 
   pub is_cut : (r : Unit {0}) → Does {A = Unit {0}} (λ r. r) (set_size_of t i 0 moment) t u (Ok r) → u ≡ ran (Touch n.id empty ∷ []) t

@@ -22,7 +22,6 @@ use Rattle.lnfs_operations.specs.Chain as chain
 use Rattle.lnfs_operations.specs.StateIds.{Writing, where_usable}
 use Rattle.lnfs_operations.specs.Files.{passes_quota, where_fitting}
 use Rattle.lnfs_operations.specs.SetAttr.{where_size, size_set, mode_set, values_written, values_set}
-use Rattle.lnfs_content.specs.declared.limits.TheConstants.{MOST_BYTES}
 use Rattle.lnfs_content.proofs.Bytes.{length-sized}
 use Rattle.lnfs_tree.specs.declared.node.TreeError.{TreeError}
 use Rattle.lnfs_tree.specs.declared.node.TreeError.TheVariants.{FBig, Memory}
@@ -135,13 +134,13 @@ module _ (t u : Rows) (i : Id) (n : Node) (moment : Moment) (at : node_at t.node
   abbrev sizes : ℕ → Doing (Unit {0})
   sizes size = sets_data moment n (sized size n.inner.content)
 
-  sizes_told : (size : ℕ) → n.kind ≡ File → nat_le size MOST_BYTES ≡ true → set_size_of t i size moment ≡ Ok (sizes size)
+  sizes_told : (size : ℕ) → n.kind ≡ File → nat_le size MOST_FILE ≡ true → set_size_of t i size moment ≡ Ok (sizes size)
   sizes_told size kind fit =
-      ap (λ (o : Option Node). on_file o (λ m. test (nat_le size MOST_BYTES) FBig (Ok (sets_data moment m (sized size m.inner.content))))) at
-      ∙ ap (λ (k : Kind). of_file k (test (nat_le size MOST_BYTES) FBig (Ok (sizes size)))) kind
+      ap (λ (o : Option Node). on_file o (λ m. test (nat_le size MOST_FILE) FBig (Ok (sets_data moment m (sized size m.inner.content))))) at
+      ∙ ap (λ (k : Kind). of_file k (test (nat_le size MOST_FILE) FBig (Ok (sizes size)))) kind
       ∙ ap (λ (b : Bool). test b FBig (Ok (sizes size))) fit
 
-  pub sized_so : (size : ℕ) → n.kind ≡ File → nat_le size MOST_BYTES ≡ true → (r : Result (Unit {0}) TreeError) → (r ≡ Err Memory → ⊥) → Does {A = Unit {0}} {B = Unit {0}} (λ r. r) (set_size_of t i size moment) t u r → u ≡ ran (Touch n.id (data_changed moment (sized size n.inner.content) n.inner) ∷ []) t
+  pub sized_so : (size : ℕ) → n.kind ≡ File → nat_le size MOST_FILE ≡ true → (r : Result (Unit {0}) TreeError) → (r ≡ Err Memory → ⊥) → Does {A = Unit {0}} {B = Unit {0}} (λ r. r) (set_size_of t i size moment) t u r → u ≡ ran (Touch n.id (data_changed moment (sized size n.inner.content) n.inner) ∷ []) t
   sized_so size kind fit r calm does =
       sure {A = Unit {0}} {B = Unit {0}} (λ r. r) (sizes size) t u r calm
       (subst (λ (d : Result (Doing (Unit {0})) TreeError). Does {A = Unit {0}} {B = Unit {0}} (λ r. r) d t u r) (sizes_told size kind fit) does)

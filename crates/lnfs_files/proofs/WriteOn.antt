@@ -14,7 +14,6 @@ use Rattle.lnfs_world.specs.declared.numbers.TheConstants.{MOST_FILE}
 use Rattle.lnfs_operations.specs.Chain.{refuse, done, demand}
 use Rattle.lnfs_operations.specs.Files.{passes_quota}
 use Rattle.lnfs_operations.specs.Write.{Arguments, data_written}
-use Rattle.lnfs_content.specs.declared.limits.TheConstants.{MOST_BYTES}
 use Rattle.lnfs_tree.specs.declared.node.TreeError.{TreeError}
 use Rattle.lnfs_tree.specs.declared.node.TreeError.TheVariants.{FBig, Memory}
 use Rattle.lnfs_tree.specs.Rows.{Rows, id_of, kind_of, of_file, on_file, file_found}
@@ -109,10 +108,10 @@ module _ (site : Site) (args : Arguments) (p : Place) (w : World) (n : Node) whe
 -- ---- what the tree did
 
 module _ (p : Place) (t u : Rows) (n : Node) (h : Held) (args : Arguments) (holds : Holds t n h) where
-  told : n.kind ≡ File → nat_le (size_written args.offset args.content n.inner.content) MOST_BYTES ≡ true → write_of t (id_of h.id) args.offset args.content p.moment ≡ Ok (writes p.moment n args.offset args.content)
+  told : n.kind ≡ File → nat_le (size_written args.offset args.content n.inner.content) MOST_FILE ≡ true → write_of t (id_of h.id) args.offset args.content p.moment ≡ Ok (writes p.moment n args.offset args.content)
   told kind fit =
-      ap (λ (o : Option Node). on_file o (λ m. test (nat_le (size_written args.offset args.content m.inner.content) MOST_BYTES) FBig (Ok (writes p.moment m args.offset args.content)))) (found t n h holds)
-      ∙ ap (λ (k : Kind). of_file k (test (nat_le (size_written args.offset args.content n.inner.content) MOST_BYTES) FBig (Ok (writes p.moment n args.offset args.content)))) kind
+      ap (λ (o : Option Node). on_file o (λ m. test (nat_le (size_written args.offset args.content m.inner.content) MOST_FILE) FBig (Ok (writes p.moment m args.offset args.content)))) (found t n h holds)
+      ∙ ap (λ (k : Kind). of_file k (test (nat_le (size_written args.offset args.content n.inner.content) MOST_FILE) FBig (Ok (writes p.moment n args.offset args.content)))) kind
       ∙ ap (λ (b : Bool). test b FBig (Ok (writes p.moment n args.offset args.content))) fit
 
   abbrev doing : Bool → Inner → Doing (Unit {0})
@@ -122,13 +121,13 @@ module _ (p : Place) (t u : Rows) (n : Node) (h : Held) (args : Arguments) (hold
   changes_same true inner = refl
   changes_same false inner = refl
 
-  pub written_so : (a : Unit {0}) → n.kind ≡ File → nat_le (size_written args.offset args.content n.inner.content) MOST_BYTES ≡ true → Does {A = Unit {0}} {B = Unit {0}} (λ x. x) (write_of t (id_of h.id) args.offset args.content p.moment) t u (Ok a) → u ≡ ran (data_written p n args) t
+  pub written_so : (a : Unit {0}) → n.kind ≡ File → nat_le (size_written args.offset args.content n.inner.content) MOST_FILE ≡ true → Does {A = Unit {0}} {B = Unit {0}} (λ x. x) (write_of t (id_of h.id) args.offset args.content p.moment) t u (Ok a) → u ≡ ran (data_written p n args) t
   written_so a kind fit does =
       (subst (λ (d : Result (Doing (Unit {0})) TreeError). Does {A = Unit {0}} {B = Unit {0}} (λ x. x) d t u (Ok a)) (told kind fit) does).1
       ∙ ap (λ (cs : List Change). ran cs t) (changes_same (is_empty args.content) (data_changed p.moment (written args.offset args.content n.inner.content) n.inner))
 
   -- only memory can be wanting
-  pub only_memory : (e : TreeError) → n.kind ≡ File → nat_le (size_written args.offset args.content n.inner.content) MOST_BYTES ≡ true → (e ≡ Memory → ⊥) → Does {A = Unit {0}} {B = Unit {0}} (λ x. x) (write_of t (id_of h.id) args.offset args.content p.moment) t u (Err e) → ⊥
+  pub only_memory : (e : TreeError) → n.kind ≡ File → nat_le (size_written args.offset args.content n.inner.content) MOST_FILE ≡ true → (e ≡ Memory → ⊥) → Does {A = Unit {0}} {B = Unit {0}} (λ x. x) (write_of t (id_of h.id) args.offset args.content p.moment) t u (Err e) → ⊥
   only_memory e kind fit not_memory does = at e not_memory (subst (λ (d : Result (Doing (Unit {0})) TreeError). Does {A = Unit {0}} {B = Unit {0}} (λ x. x) d t u (Err e)) (told kind fit) does)
     where
       at : (e : TreeError) → (e ≡ Memory → ⊥) → Does {A = Unit {0}} {B = Unit {0}} (λ x. x) (Ok (writes p.moment n args.offset args.content)) t u (Err e) → ⊥

@@ -12,7 +12,7 @@ ghost use Rattle.lnfs_quota.specs.declared.quota.Row.{Row};
 ghost use Rattle.lnfs_quota.specs.Totals.{AreTotals};
 ghost use Rattle.lnfs_tree.specs.Rows.{id_of, kind_of};
 ghost use Rattle.lnfs_tree.specs.Changed.{ran};
-ghost use Rattle.lnfs_content.specs.declared.limits.TheConstants.{MOST_BYTES};
+ghost use Rattle.lnfs_world.specs.declared.numbers.TheConstants.{MOST_FILE};
 ghost use Rattle.lnfs_open.specs.Lists.{Lists};
 ghost use Rattle.lnfs_nodes.specs.Trees.{Holds, IsHeld, held_in, refusal_of, denial};
 ghost use Rattle.lnfs_nodes.specs.Acts.{failed, placed};
@@ -28,7 +28,6 @@ use crate::writing::past_quota;
 use lnfs_arguments::StateId;
 use lnfs_arguments::statuses::NFS4ERR_FBIG;
 use lnfs_calipso::Level;
-use lnfs_content::MOST_BYTES;
 use lnfs_monitor::Question;
 use lnfs_nodes::{Caller, Held, denied, namespace};
 use lnfs_open::Opens;
@@ -36,6 +35,7 @@ use lnfs_operations::Refusal;
 use lnfs_quota::{Quota, totals};
 use lnfs_site::Site;
 use lnfs_tree::{NodeId, Tree};
+use lnfs_world::numbers::MOST_FILE;
 use std::alloc::AllocError;
 
 // ---- what is tested
@@ -81,7 +81,7 @@ fn check_size(
     ensures refused { IfOk result (λ told. (n : Node) (p : Place) (rest : World) → p.client ≡ client → Holds tree.now n held.now →
         let at = placed p caller.now in
         failed told ≡ refusal_in (where_size (site_of site.now) id.now at (with_files rest tree.now opens.now) n (Some size) (passed at))) }
-    ensures fits { IfOk result (λ told. OnOk told (size ≤ MOST_BYTES)) }
+    ensures fits { IfOk result (λ told. OnOk told (size ≤ MOST_FILE)) }
     ensures resizes { IfOk result (λ told. OnOk told (MayResize quota.now held.now.facts.label.0 held.now.facts.size size)) }
 {
     // The call says that the file's bytes are counted in its label.
@@ -89,7 +89,7 @@ fn check_size(
     if let Err(why) = check_usable(site, opens, caller, client, held.id, id, Way::Writing) {
         return Ok(Err(why));
     }
-    if size > MOST_BYTES {
+    if size > MOST_FILE {
         return Ok(Err(namespace(NFS4ERR_FBIG)));
     }
     if !byte_room(site, quota, held.facts.label, held.facts.size, size)? {
@@ -120,7 +120,7 @@ fn check_given(
     ensures refused { IfOk result (λ told. (n : Node) (p : Place) (rest : World) → p.client ≡ client → Holds tree.now n held.now →
         let at = placed p caller.now in
         failed told ≡ refusal_in (where_size (site_of site.now) id.now at (with_files rest tree.now opens.now) n size (passed at))) }
-    ensures fits { IfOk result (λ told. OnOk told (IfSome size (λ size. size ≤ MOST_BYTES))) }
+    ensures fits { IfOk result (λ told. OnOk told (IfSome size (λ size. size ≤ MOST_FILE))) }
     ensures resizes { IfOk result (λ told. OnOk told (IfSome size (λ size. MayResize quota.now held.now.facts.label.0 held.now.facts.size size))) }
 {
     match size {
@@ -136,7 +136,7 @@ fn put_size(tree: &mut Tree, quota: &mut Quota, caller: &Caller, held: &Held, si
     requires counts { AreTotals quota.old tree.old.nodes }
     requires held { IsHeld tree.old (held_in tree.old.nodes (option_map id_of caller.now.current)) (Ok held.now) }
     requires file { kind_of held.now.facts.kind ≡ File }
-    requires fits { size ≤ MOST_BYTES }
+    requires fits { size ≤ MOST_FILE }
     requires resizes { MayResize quota.old held.now.facts.label.0 held.now.facts.size size }
     ensures done { (n : Node) (p : Place) → Holds tree.old n held.now →
         tree.new ≡ ran (Touch n.id (size_set (placed p caller.now) n (Some size)) ∷ []) tree.old }
@@ -175,7 +175,7 @@ fn put_values(
     requires counts { AreTotals quota.old tree.old.nodes }
     requires held { IsHeld tree.old (held_in tree.old.nodes (option_map id_of caller.now.current)) (Ok held.now) }
     requires file { IfSome size (λ size. kind_of held.now.facts.kind ≡ File) }
-    requires fits { IfSome size (λ size. size ≤ MOST_BYTES) }
+    requires fits { IfSome size (λ size. size ≤ MOST_FILE) }
     requires resizes { IfSome size (λ size. MayResize quota.old held.now.facts.label.0 held.now.facts.size size) }
     ensures done { (n : Node) (p : Place) (rest : World) (opens : Lists) → Holds tree.old n held.now →
         apply_all (values_written (placed p caller.now) n (unlabelled size mode)) (with_files rest tree.old opens) ≡ with_files rest tree.new opens }

@@ -26,7 +26,8 @@ use Rattle.lnfs_world.proofs.Sorted.{all_inserted}
 use Rattle.lnfs_world.proofs.Nodes.{told-touched}
 use Rattle.lnfs_world.proofs.Seen.{node_at-id}
 use Rattle.lnfs_operations.specs.declared.Gate.{Gate}
-use Rattle.lnfs_operations.specs.declared.numbers.TheConstants.{MOST_LABEL, MOST_TEXT}
+use Rattle.lnfs_lists.specs.declared.limits.TheConstants.{LABEL_LIMIT}
+use Rattle.lnfs_operations.specs.declared.numbers.TheConstants.{MOST_TEXT}
 use Rattle.lnfs_operations.specs.Chain.{Answer, refuse, done}
 use Rattle.lnfs_operations.specs.Lookup.{is_link}
 use Rattle.lnfs_operations.specs.Shown.{label_shown}
@@ -159,20 +160,20 @@ pub record Changes {A : Type 0} (site : Site) (p : Place) (w : World) (o : Outco
   pub changed : Changed site w (done_to w o)
 
 -- a label that was given, and one that is kept: given, or that of a directory
-given_short : (site : Site) (spells : SpellsShortly site) (value : Option LabelValue) (label : GivenLabel) → site.limited ≡ true → IsGiven site value (Some label) → length label.spelled.bytes ≤ MOST_LABEL
+given_short : (site : Site) (spells : SpellsShortly site) (value : Option LabelValue) (label : GivenLabel) → site.limited ≡ true → IsGiven site value (Some label) → length label.spelled.bytes ≤ LABEL_LIMIT
 given_short site spells None label limited as_given = absurd (grind (arith, as_given))
 given_short site spells (Some v) label limited as_given =
     let same : spelled_by v ≡ label.spelled = let is = as_given.2 in cc in
-    subst (λ (spelled : Stored). length spelled.bytes ≤ MOST_LABEL) same (spells.taken limited (spelled_by v) as_given.0 as_given.1)
+    subst (λ (spelled : Stored). length spelled.bytes ≤ LABEL_LIMIT) same (spells.taken limited (spelled_by v) as_given.0 as_given.1)
 
-kept_short : (site : Site) (spells : SpellsShortly site) (p : Place) (d : Node) (value : Option LabelValue) (label : Option GivenLabel) → NodeFits d → IsGiven site value label → IfSome (kept_label site p d label) (λ stored. length stored.bytes ≤ MOST_LABEL)
+kept_short : (site : Site) (spells : SpellsShortly site) (p : Place) (d : Node) (value : Option LabelValue) (label : Option GivenLabel) → NodeFits d → IsGiven site value label → IfSome (kept_label site p d label) (λ stored. length stored.bytes ≤ LABEL_LIMIT)
 kept_short site spells p d value label fits as_given = at site.limited refl
   where
-    of : (label : Option GivenLabel) → site.limited ≡ true → IsGiven site value label → length (spelled_or (label_shown site p d) label).bytes ≤ MOST_LABEL
+    of : (label : Option GivenLabel) → site.limited ≡ true → IsGiven site value label → length (spelled_or (label_shown site p d) label).bytes ≤ LABEL_LIMIT
     of None limited as_given = label_short site spells p d fits
     of (Some label) limited as_given = given_short site spells value label limited as_given
 
-    at : (b : Bool) → site.limited ≡ b → IfSome (cond b (Some (spelled_or (label_shown site p d) label)) None) (λ stored. length stored.bytes ≤ MOST_LABEL)
+    at : (b : Bool) → site.limited ≡ b → IfSome (cond b (Some (spelled_or (label_shown site p d) label)) None) (λ stored. length stored.bytes ≤ LABEL_LIMIT)
     at true limited = of label limited as_given
     at false limited = tt
 

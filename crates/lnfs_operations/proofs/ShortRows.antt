@@ -25,7 +25,8 @@ use Rattle.lnfs_world.specs.Outcome.{Site, Place, Outcome}
 use Rattle.lnfs_world.proofs.Rows.{all_find}
 use Rattle.lnfs_monitor.specs.Rules.{Read, allows}
 use Rattle.lnfs_operations.specs.declared.Gate.{Gate}
-use Rattle.lnfs_operations.specs.declared.numbers.TheConstants.{EMPTY_LISTING, MOST_LABEL, MOST_TEXT}
+use Rattle.lnfs_lists.specs.declared.limits.TheConstants.{LABEL_LIMIT}
+use Rattle.lnfs_operations.specs.declared.numbers.TheConstants.{EMPTY_LISTING, MOST_TEXT}
 use Rattle.lnfs_operations.specs.Chain.{Refusal, Answer, refuse}
 use Rattle.lnfs_operations.specs.Access.{Granted}
 use Rattle.lnfs_operations.specs.Handles.{handle_of}
@@ -80,13 +81,13 @@ listed_short show (e ∷ entries) room found is = shown_short (show e) room (λ 
 
 -- ---- what is shown
 
-spelled_short : (limited : Bool) (spelled : Stored) (o : Option Stored) → length spelled.bytes ≤ MOST_LABEL → IfSome o (λ stored. length stored.bytes ≤ MOST_LABEL) → length (cond limited (stored_or spelled o) spelled).bytes ≤ MOST_LABEL
+spelled_short : (limited : Bool) (spelled : Stored) (o : Option Stored) → length spelled.bytes ≤ LABEL_LIMIT → IfSome o (λ stored. length stored.bytes ≤ LABEL_LIMIT) → length (cond limited (stored_or spelled o) spelled).bytes ≤ LABEL_LIMIT
 spelled_short true spelled None short stored = short
 spelled_short true spelled (Some own) short stored = stored
 spelled_short false spelled o short stored = short
 
 module _ (site : Site) (spells : SpellsShortly site) where
-  pub label_short : (p : Place) (n : Node) → NodeFits n → length (label_shown site p n).bytes ≤ MOST_LABEL
+  pub label_short : (p : Place) (n : Node) → NodeFits n → length (label_shown site p n).bytes ≤ LABEL_LIMIT
   label_short p n fits = spelled_short (site.limited && allows site.dom p.subject (Read n.label)) (site.spelling n.label) n.inner.stored (spells.spelling n.label) fits.stored
 
   pub shown_fits : (p : Place) (w : World) (n : Node) (error : ℕ) → NodeFits n → ViewFits (shown site p w n error)

@@ -5,7 +5,8 @@ use Rattle.std.specs.List.{AllByRecursion}
 use Rattle.lnfs_arguments.specs.declared.types.Compound.{Compound}
 use Rattle.lnfs_world.specs.World.{Client, Channel, Slot, Session, Stored, Node, World}
 use Rattle.lnfs_world.specs.Outcome.{LevelOf, Site}
-use Rattle.lnfs_operations.specs.declared.numbers.TheConstants.{LEAST_SIZE, MOST_SIZE, MOST_OPERATIONS, MOST_REQUESTS, LARGEST_WRAPPING, MOST_CREATED, MOST_LABEL, MOST_TEXT}
+use Rattle.lnfs_lists.specs.declared.limits.TheConstants.{LABEL_LIMIT}
+use Rattle.lnfs_operations.specs.declared.numbers.TheConstants.{LEAST_SIZE, MOST_SIZE, MOST_OPERATIONS, MOST_REQUESTS, LARGEST_WRAPPING, MOST_CREATED, MOST_TEXT}
 use Rattle.lnfs_operations.specs.Lookup.{is_link}
 
 abbrev pub IsBetween : (least most : ℕ) → ℕ → Type 0
@@ -34,7 +35,7 @@ ClientFits c = IfSome c.kept (λ kept. length kept.reply ≤ MOST_CREATED)
 
 pub record NodeFits (n : Node) : Type 0 where
   -- the label, where it is stored as it was given
-  pub stored : IfSome n.inner.stored (λ stored. length stored.bytes ≤ MOST_LABEL)
+  pub stored : IfSome n.inner.stored (λ stored. length stored.bytes ≤ LABEL_LIMIT)
   -- the text of a symbolic link
   pub text : is_link n.kind ≡ true → length n.inner.content ≤ MOST_TEXT
 
@@ -46,9 +47,9 @@ pub record Sizes (w : World) : Type 0 where
 -- Labels are short.
 pub record SpellsShortly (site : Site) : Type 0 where
   -- the spelling of each level
-  pub spelling : (level : ℕ) → length (site.spelling level).bytes ≤ MOST_LABEL
+  pub spelling : (level : ℕ) → length (site.spelling level).bytes ≤ LABEL_LIMIT
   -- where labels are carried alone, each that is taken
-  pub taken : site.limited ≡ true → (spelled : Stored) (level : ℕ) → site.reading spelled ≡ LevelOf level → length spelled.bytes ≤ MOST_LABEL
+  pub taken : site.limited ≡ true → (spelled : Stored) (level : ℕ) → site.reading spelled ≡ LevelOf level → length spelled.bytes ≤ LABEL_LIMIT
 
 -- A COMPOUND that was read: its tag is short, and it has no more operations than it counts.
 pub record IsRead (c : Compound) : Type 0 where

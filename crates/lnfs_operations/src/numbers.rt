@@ -2,8 +2,6 @@
 //! operations and their statuses stand in `lnfs_arguments`, and the limits of rows that the crates
 //! below share in `lnfs_world`.
 
-use lnfs_lists::LABEL_LIMIT;
-
 /// A flag that asks to update a confirmed record. Not served.
 pub const EXCHGID4_FLAG_UPD_CONFIRMED_REC_A: u32 = 0x4000_0000;
 
@@ -54,9 +52,6 @@ pub const ACCESS_WRITING: u32 = 0x1c;
 
 /// The bytes of a READDIR result without an entry: the verifier, the end of the list, and eof.
 pub const EMPTY_LISTING: u32 = 16;
-
-/// The most bytes of a label in the world, as it was stored or as the site writes it.
-pub const MOST_LABEL: u32 = LABEL_LIMIT;
 
 /// The most bytes of the text of a symbolic link.
 pub const MOST_TEXT: u32 = 1_024;

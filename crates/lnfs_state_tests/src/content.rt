@@ -1,7 +1,8 @@
 //! Bytes at the ends of chunks and of files.
 
 use crate::compare::same;
-use lnfs_content::{Content, MOST_BYTES, fits};
+use lnfs_content::{Content, fits};
+use lnfs_world::numbers::MOST_FILE;
 use lnfs_xdr::XdrWriter;
 use std::alloc::{AllocError, Global};
 use std::process::Abort;
@@ -35,7 +36,7 @@ fn reads(
 }
 
 fn fill(rt: &impl Abort, alloc: Global, content: &mut Content) -> Result<(), AllocError> {
-    content.set_size(MOST_BYTES);
+    content.set_size(MOST_FILE);
     content.write(alloc, 16_777_214, b"yz")?;
     same(rt, content.len(), 16_777_216);
     reads(rt, alloc, content, 16_777_213, ALL, b"\0yz")?;

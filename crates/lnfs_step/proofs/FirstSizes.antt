@@ -18,7 +18,7 @@ use Rattle.lnfs_world.specs.Outcome.{LevelOf, BadLabel}
 use Rattle.lnfs_world.proofs.Rows.{all_find}
 use Rattle.lnfs_world.proofs.Sorted.{all_inserted}
 use Rattle.lnfs_world.proofs.FirstTrees.{first_keeps}
-use Rattle.lnfs_operations.specs.declared.numbers.TheConstants.{MOST_LABEL}
+use Rattle.lnfs_lists.specs.declared.limits.TheConstants.{LABEL_LIMIT}
 use Rattle.lnfs_operations.specs.Sizes.{SessionFits, ClientFits, NodeFits, Sizes, SpellsShortly}
 use Rattle.lnfs_operations.proofs.ReadingRows.{all_found}
 use Rattle.lnfs_site.specs.Site.{is_limited, told_by, carried, unspelled, spelled_as, spelled_in, spelling, site_of, first_label, first_dir, first_world}
@@ -29,27 +29,27 @@ use Rattle.lnfs_site.proofs.FirstWorlds.{first_bare}
 abbrev chosen : FormatEntry → List ℕ → Bool → Stored
 chosen entry bytes b = cond b (record { lfs = entry.lfs; pi = entry.pi; bytes = bytes }) unspelled
 
-chosen_short : (entry : FormatEntry) (bytes : List ℕ) (b : Bool) → nat_le (length bytes) MAX_SPELLING ≡ b → length (chosen entry bytes b).bytes ≤ MOST_LABEL
+chosen_short : (entry : FormatEntry) (bytes : List ℕ) (b : Bool) → nat_le (length bytes) MAX_SPELLING ≡ b → length (chosen entry bytes b).bytes ≤ LABEL_LIMIT
 chosen_short entry bytes true is = grind (arith, nat_tests, is)
 chosen_short entry bytes false is = omega arith
 
-as_short : (entry : FormatEntry) (o : Option (List ℕ)) → length (spelled_as entry o).bytes ≤ MOST_LABEL
+as_short : (entry : FormatEntry) (o : Option (List ℕ)) → length (spelled_as entry o).bytes ≤ LABEL_LIMIT
 as_short entry None = omega arith
 as_short entry (Some bytes) = chosen_short entry bytes (nat_le (length bytes) MAX_SPELLING) refl
 
-in_short : (p : Policy) (level : ℕ) (o : Option FormatEntry) → length (spelled_in p level o).bytes ≤ MOST_LABEL
+in_short : (p : Policy) (level : ℕ) (o : Option FormatEntry) → length (spelled_in p level o).bytes ≤ LABEL_LIMIT
 in_short p level None = omega arith
 in_short p level (Some entry) = as_short entry (writes entry.kind (label_at p.labels level))
 
-spelling_short : (p : Policy) (level : ℕ) → length (spelling p level).bytes ≤ MOST_LABEL
+spelling_short : (p : Policy) (level : ℕ) → length (spelling p level).bytes ≤ LABEL_LIMIT
 unfolding spelling
 spelling_short p level = in_short p level (slice_get p.formats 0)
 
-carried_short : (spelled : Stored) (level : ℕ) (b : Bool) → nat_le (length spelled.bytes) MAX_SPELLING ≡ b → cond b (LevelOf 0) BadLabel ≡ LevelOf level → length spelled.bytes ≤ MOST_LABEL
+carried_short : (spelled : Stored) (level : ℕ) (b : Bool) → nat_le (length spelled.bytes) MAX_SPELLING ≡ b → cond b (LevelOf 0) BadLabel ≡ LevelOf level → length spelled.bytes ≤ LABEL_LIMIT
 carried_short spelled level true short taken = grind (arith, nat_tests, short)
 carried_short spelled level false long taken = absurd cc
 
-taken_short : (p : Policy) (spelled : Stored) (level : ℕ) (limited : Bool) → limited ≡ true → cond limited (carried spelled) (told_by (level_read p.formats p.labels spelled.lfs spelled.pi spelled.bytes)) ≡ LevelOf level → length spelled.bytes ≤ MOST_LABEL
+taken_short : (p : Policy) (spelled : Stored) (level : ℕ) (limited : Bool) → limited ≡ true → cond limited (carried spelled) (told_by (level_read p.formats p.labels spelled.lfs spelled.pi spelled.bytes)) ≡ LevelOf level → length spelled.bytes ≤ LABEL_LIMIT
 taken_short p spelled level true is taken = carried_short spelled level (nat_le (length spelled.bytes) MAX_SPELLING) refl taken
 taken_short p spelled level false is taken = absurd cc
 
@@ -58,7 +58,7 @@ pub spells_shortly : (p : Policy) → SpellsShortly (site_of p)
 spells_shortly p = record { spelling = spelling_short p; taken = λ limited spelled level taken. taken_short p spelled level (is_limited p.mode) limited taken }
 
 abbrev IsShort : Option Stored → Type 0
-IsShort stored = IfSome stored (λ s. length s.bytes ≤ MOST_LABEL)
+IsShort stored = IfSome stored (λ s. length s.bytes ≤ LABEL_LIMIT)
 
 label_short : (p : Policy) (level : ℕ) → IsShort (first_label p level)
 label_short p level = at (is_limited p.mode)

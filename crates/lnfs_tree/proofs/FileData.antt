@@ -9,7 +9,7 @@ use Rattle.lnfs_world.specs.Rows.{updated}
 use Rattle.lnfs_world.specs.World.{Id, Kind, File, Directory, SymbolicLink, Node as NodeRow, same_id}
 use Rattle.lnfs_world.specs.World as world
 use Rattle.lnfs_world.specs.Effects.{sized, written, size_written, read_at, data_changed}
-use Rattle.lnfs_content.specs.declared.limits.TheConstants.{MOST_BYTES}
+use Rattle.lnfs_world.specs.declared.numbers.TheConstants.{MOST_FILE}
 use Rattle.lnfs_tree.specs.declared.node.TreeError.{TreeError}
 use Rattle.lnfs_tree.specs.declared.node.TreeError.TheVariants.{Stale, NotDir, NoEnt, IsDir, Exist, NotEmpty, Inval, MLink, FBig, Spent, Memory}
 use Rattle.lnfs_tree.specs.declared.store.Node.{Node}
@@ -124,13 +124,13 @@ module _ (at : Moment) (i : Id) (ns : List Node) (lasts : List (Level × ℕ)) (
     size_no_file why is = subst (λ (t : Rows). Sets (set_size_of t i size at) t t (Err why)) view (refused (λ u. u) (rows_in ns lasts) why (set_size_of (rows_in ns lasts) i size at) (no_file ns i _ why is))
 
     module _ (n : Node) (file : Ok n ≡ file_in (node_at ns i)) where
-      told : (b : Bool) → nat_le size MOST_BYTES ≡ b → set_size_of (rows_in ns lasts) i size at ≡ test b FBig (Ok (sets_data at (row_of n) (sized size (row_of n).inner.content)))
+      told : (b : Bool) → nat_le size MOST_FILE ≡ b → set_size_of (rows_in ns lasts) i size at ≡ test b FBig (Ok (sets_data at (row_of n) (sized size (row_of n).inner.content)))
       told b is = a_file ns i _ n file ∙ ap (λ (b : Bool). test b FBig (Ok (sets_data at (row_of n) (sized size (row_of n).inner.content)))) is
 
-      pub size_too_big : MOST_BYTES + 1 ≤ size → Sets (set_size_of t i size at) t t (Err FBig)
+      pub size_too_big : MOST_FILE + 1 ≤ size → Sets (set_size_of t i size at) t t (Err FBig)
       size_too_big big = subst (λ (t : Rows). Sets (set_size_of t i size at) t t (Err FBig)) view (refused (λ u. u) (rows_in ns lasts) FBig (set_size_of (rows_in ns lasts) i size at) (told false (grind (arith, nat_tests))))
 
-      pub size_set : (now : List Node) → now ≡ updated (is_node i) (with_size size at) ns → size ≤ MOST_BYTES → Sets (set_size_of t i size at) t (rows_in now lasts) (Ok tt)
+      pub size_set : (now : List Node) → now ≡ updated (is_node i) (with_size size at) ns → size ≤ MOST_FILE → Sets (set_size_of t i size at) t (rows_in now lasts) (Ok tt)
       size_set now set fits = subst (λ (t : Rows). Sets (set_size_of t i size at) t (rows_in now lasts) (Ok tt)) view (done (λ u. u) (rows_in ns lasts) (rows_in now lasts) tt (set_size_of (rows_in ns lasts) i size at) _ (told true (grind (arith, nat_tests))) refl (rows_set (sized size) at i ns now set lasts n file))
 
   -- ---- bytes that are written
@@ -139,13 +139,13 @@ module _ (at : Moment) (i : Id) (ns : List Node) (lasts : List (Level × ℕ)) (
     write_no_file why is = subst (λ (t : Rows). Sets (write_of t i offset bytes at) t t (Err why)) view (refused (λ u. u) (rows_in ns lasts) why (write_of (rows_in ns lasts) i offset bytes at) (no_file ns i _ why is))
 
     module _ (n : Node) (file : Ok n ≡ file_in (node_at ns i)) where
-      written_told : (b : Bool) → b ≡ nat_le (size_written offset bytes n.bytes) MOST_BYTES → write_of (rows_in ns lasts) i offset bytes at ≡ test b FBig (Ok (writes at (row_of n) offset bytes))
-      written_told b is = a_file ns i _ n file ∙ ap (λ (b : Bool). test b FBig (Ok (writes at (row_of n) offset bytes))) (ap (λ (content : List ℕ). nat_le (size_written offset bytes content) MOST_BYTES) (file_content ns i n file) ∙ sym is)
+      written_told : (b : Bool) → b ≡ nat_le (size_written offset bytes n.bytes) MOST_FILE → write_of (rows_in ns lasts) i offset bytes at ≡ test b FBig (Ok (writes at (row_of n) offset bytes))
+      written_told b is = a_file ns i _ n file ∙ ap (λ (b : Bool). test b FBig (Ok (writes at (row_of n) offset bytes))) (ap (λ (content : List ℕ). nat_le (size_written offset bytes content) MOST_FILE) (file_content ns i n file) ∙ sym is)
 
-      pub write_too_big : false ≡ nat_le (size_written offset bytes n.bytes) MOST_BYTES → Sets (write_of t i offset bytes at) t t (Err FBig)
+      pub write_too_big : false ≡ nat_le (size_written offset bytes n.bytes) MOST_FILE → Sets (write_of t i offset bytes at) t t (Err FBig)
       write_too_big is = subst (λ (t : Rows). Sets (write_of t i offset bytes at) t t (Err FBig)) view (refused (λ u. u) (rows_in ns lasts) FBig (write_of (rows_in ns lasts) i offset bytes at) (written_told false is))
 
-      module _ (fits : true ≡ nat_le (size_written offset bytes n.bytes) MOST_BYTES) where
+      module _ (fits : true ≡ nat_le (size_written offset bytes n.bytes) MOST_FILE) where
         pub write_none : length bytes ≡ 0 → Sets (write_of t i offset bytes at) t t (Ok tt)
         write_none none = subst (λ (t : Rows). Sets (write_of t i offset bytes at) t t (Ok tt)) view (done (λ u. u) (rows_in ns lasts) (rows_in ns lasts) tt (write_of (rows_in ns lasts) i offset bytes at) (record { answer = tt; changes = [] }) (written_told true fits ∙ nothing bytes none) refl refl)
           where

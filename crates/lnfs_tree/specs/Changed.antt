@@ -10,7 +10,7 @@ use Rattle.lnfs_world.specs.Tree.{parent_of, holds_names, has_other_name, is_abo
 use Rattle.lnfs_world.specs.Change.{Change, Make, Touch, Relabel, Link, Move, apply_all}
 use Rattle.lnfs_world.specs.Effects.{stepped, attributes_changed, names_changed, name_added, sized, written, size_written, data_changed, next_entry, has_cookie, has_number, next_id, taken_out, may_give_way, directories_changed}
 use Rattle.lnfs_world.specs.Facts.{NodeFacts}
-use Rattle.lnfs_content.specs.declared.limits.TheConstants.{MOST_BYTES}
+use Rattle.lnfs_world.specs.declared.numbers.TheConstants.{MOST_FILE}
 use Rattle.lnfs_tree.specs.declared.store.Node.{Node as StoredNode}
 use Rattle.lnfs_tree.specs.declared.node.Fresh.{Fresh}
 use Rattle.lnfs_tree.specs.declared.node.Info.{Info}
@@ -208,7 +208,7 @@ sets_data at n content = record { answer = tt; changes = Touch n.id (data_change
 abbrev pub set_size_of : Rows → Id → (size : ℕ) → Moment → Result (Doing (Unit {0})) TreeError
 set_size_of t i size at =
     on_file (node_at t.nodes i) (λ n.
-    test (nat_le size MOST_BYTES) FBig (
+    test (nat_le size MOST_FILE) FBig (
     Ok (sets_data at n (sized size n.inner.content))))
 
 -- no bytes change nothing
@@ -218,5 +218,5 @@ writes at n offset bytes = cond (is_empty bytes) (record { answer = tt; changes 
 abbrev pub write_of : Rows → Id → (offset : ℕ) → (bytes : List ℕ) → Moment → Result (Doing (Unit {0})) TreeError
 write_of t i offset bytes at =
     on_file (node_at t.nodes i) (λ n.
-    test (nat_le (size_written offset bytes n.inner.content) MOST_BYTES) FBig (
+    test (nat_le (size_written offset bytes n.inner.content) MOST_FILE) FBig (
     Ok (writes at n offset bytes)))

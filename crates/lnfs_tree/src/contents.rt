@@ -8,8 +8,9 @@ ghost use Rattle.lnfs_tree.specs.Rows.{id_of};
 use crate::node::{NodeId, NodeKind, TreeError};
 use crate::store::{Node, Store};
 use crate::tree::Tree;
-use lnfs_content::{Content, MOST_BYTES};
+use lnfs_content::Content;
 use lnfs_outside::Moment;
+use lnfs_world::numbers::MOST_FILE;
 use std::alloc::{AllocError, Global};
 
 impl Node {
@@ -17,7 +18,7 @@ impl Node {
 
     /// Sets how many bytes there are. The times step as with the names of a directory.
     pub fn set_size(&mut self, size: u64, at: Moment)
-        requires { size ≤ MOST_BYTES }
+        requires { size ≤ MOST_FILE }
         ensures { self.new ≡ with_size size at self.old }
     {
         self.bytes.set_size(size);
@@ -32,7 +33,7 @@ impl Node {
         bytes: &[u8],
         at: Moment,
     ) -> Result<(), AllocError>
-        requires { offset + length bytes.now ≤ MOST_BYTES }
+        requires { offset + length bytes.now ≤ MOST_FILE }
         ensures ok { OnOk result (self.new ≡ with_written offset bytes.now at self.old) }
         ensures err { OnErr result (self.new ≡ self.old) }
     {
@@ -65,7 +66,7 @@ impl Store {
 
     /// Sets how many bytes a node has.
     pub fn set_size(&mut self, id: NodeId, size: u64, at: Moment)
-        requires { size ≤ MOST_BYTES }
+        requires { size ≤ MOST_FILE }
         ensures { self.new ≡ updated (is_node (id_of id)) (with_size size at) self.old }
     {
         // The call says that the identifiers rise.
@@ -89,7 +90,7 @@ impl Store {
         bytes: &[u8],
         at: Moment,
     ) -> Result<(), AllocError>
-        requires { offset + length bytes.now ≤ MOST_BYTES }
+        requires { offset + length bytes.now ≤ MOST_FILE }
         ensures ok { OnOk result (self.new ≡ updated (is_node (id_of id)) (with_written offset bytes.now at) self.old) }
         ensures err { OnErr result (self.new ≡ self.old) }
     {
@@ -154,7 +155,7 @@ impl Tree {
         ensures calm { result ≢ Err Memory }
     {
         let _file = self.store.file(id)?;
-        if size > MOST_BYTES {
+        if size > MOST_FILE {
             return Err(TreeError::FBig);
         }
         self.store.set_size(id, size, at);

@@ -36,14 +36,14 @@ returns-in-Err-clause-refused c = λ n p rest client holds.
     let t = c.args.tree.now in
     not_usable (site_of c.args.site.now) at (with_files rest t c.args.opens.now) n c.args.size c.args.id.now (refusal_of c.in-Err.why) (c.in-Err.ensures p (with_tree rest t) n client holds.id)
 
-pub returns-then-size-gt-MOST_BYTES-clause-refused : goal.returns-then-size-gt-MOST_BYTES-clause-refused
-returns-then-size-gt-MOST_BYTES-clause-refused c = λ n p rest client holds.
+pub returns-then-size-gt-MOST_FILE-clause-refused : goal.returns-then-size-gt-MOST_FILE-clause-refused
+returns-then-size-gt-MOST_FILE-clause-refused c = λ n p rest client holds.
     let site = site_of c.args.site.now in
     let at : Place = placed p c.args.caller.now in
     let t = c.args.tree.now in
     let w : World = with_files rest t c.args.opens.now in
     by_size site at w n c.args.size c.args.id.now (Some (refusal_of c.namespace.result)) (c.in_default.ensures p (with_tree rest t) n client holds.id)
-    (ap (λ (r : Refusal). Some (refusal_of r)) c.namespace.ensures ∙ too_big site at w n c.args.size (too_many c.args.size MOST_FILE c.if-size-gt-MOST_BYTES.true))
+    (ap (λ (r : Refusal). Some (refusal_of r)) c.namespace.ensures ∙ too_big site at w n c.args.size (too_many c.args.size MOST_FILE c.if-size-gt-MOST_FILE.true))
 
 pub returns-then-not-branch-clause-refused : goal.returns-then-not-branch-clause-refused
 returns-then-not-branch-clause-refused c = λ n p rest client holds.
@@ -52,7 +52,7 @@ returns-then-not-branch-clause-refused c = λ n p rest client holds.
     let t = c.args.tree.now in
     let h = c.args.held.now in
     let w : World = with_files rest t c.args.opens.now in
-    let fits : nat_le c.args.size MOST_FILE ≡ true = up_to c.args.size MOST_FILE c.if-size-gt-MOST_BYTES.false in
+    let fits : nat_le c.args.size MOST_FILE ≡ true = up_to c.args.size MOST_FILE c.if-size-gt-MOST_FILE.false in
     let room = c.in_ok-byte_room.ensures.room w n c.requires.counts (sym holds.tells.label) (sym (held_size t n h holds c.requires.file)) in
     let passes : passes_quota site w n c.args.size ≡ true = past _ _ c.if-not-branch.true room in
     by_size site at w n c.args.size c.args.id.now (Some (refusal_of c.past_quota.result)) (c.in_default.ensures p (with_tree rest t) n client holds.id)
@@ -65,7 +65,7 @@ returns-clause-refused c = λ n p rest client holds.
     let t = c.args.tree.now in
     let h = c.args.held.now in
     let w : World = with_files rest t c.args.opens.now in
-    let fits : nat_le c.args.size MOST_FILE ≡ true = up_to c.args.size MOST_FILE c.if-size-gt-MOST_BYTES.false in
+    let fits : nat_le c.args.size MOST_FILE ≡ true = up_to c.args.size MOST_FILE c.if-size-gt-MOST_FILE.false in
     let room = c.in_ok-byte_room.ensures.room w n c.requires.counts (sym holds.tells.label) (sym (held_size t n h holds c.requires.file)) in
     let stays : passes_quota site w n c.args.size ≡ false = within _ _ c.if-not-branch.false room in
     by_size site at w n c.args.size c.args.id.now None (c.in_default.ensures p (with_tree rest t) n client holds.id) (has_room site at w n c.args.size fits stays)

@@ -4,7 +4,7 @@ use Rattle.lnfs_world.specs.World.{Inner}
 use Rattle.lnfs_world.specs.Change.{Touch}
 use Rattle.lnfs_world.specs.Effects.{sized, data_changed}
 use Rattle.lnfs_world.specs.Outcome.{Place}
-use Rattle.lnfs_content.specs.declared.limits.TheConstants.{MOST_BYTES}
+use Rattle.lnfs_world.specs.declared.numbers.TheConstants.{MOST_FILE}
 use Rattle.lnfs_quota.specs.declared.quota.Row.{Row}
 use Rattle.lnfs_quota.specs.Totals.{AreTotals}
 use Rattle.lnfs_tree.specs.Rows.{id_of}
@@ -22,7 +22,7 @@ returns-clause-done c = λ n p holds.
     let at : Place = placed p c.args.caller.now in
     let t = c.args.tree.now in
     let h = c.args.held.now in
-    sized_so t c.set_size-done.new.self (id_of h.id) n at.moment (found t n h holds) c.args.size (held_kind t n h holds c.requires.file) (up_to c.args.size MOST_BYTES c.requires.fits) c.set_size-done.result c.set_size-done.ensures.calm c.set_size-done.ensures.does
+    sized_so t c.set_size-done.new.self (id_of h.id) n at.moment (found t n h holds) c.args.size (held_kind t n h holds c.requires.file) (up_to c.args.size MOST_FILE c.requires.fits) c.set_size-done.result c.set_size-done.ensures.calm c.set_size-done.ensures.does
 
 pub returns-clause-counts : goal.returns-clause-counts
 returns-clause-counts c =
@@ -35,7 +35,7 @@ returns-clause-counts c =
     let n = x.0 in
     let inner : Inner = data_changed at.moment (sized c.args.size n.inner.content) n.inner in
     let done : u ≡ ran (Touch n.id inner ∷ []) t =
-    sized_so t u (id_of h.id) n at.moment (found t n h x.1) c.args.size (held_kind t n h x.1 c.requires.file) (up_to c.args.size MOST_BYTES c.requires.fits) c.set_size-done.result c.set_size-done.ensures.calm c.set_size-done.ensures.does in
+    sized_so t u (id_of h.id) n at.moment (found t n h x.1) c.args.size (held_kind t n h x.1 c.requires.file) (up_to c.args.size MOST_FILE c.requires.fits) c.set_size-done.result c.set_size-done.ensures.calm c.set_size-done.ensures.does in
     subst (λ (rows : List Row). AreTotals rows u.nodes) (sym c.resize.ensures)
     (sized_totals rows t u n h x.1 at.moment c.args.size c.requires.file done (c.totals.ensures.touched rows n.id inner n (world_of t) c.requires.counts x.1.node_is))
 

@@ -6,7 +6,7 @@ use Rattle.lnfs_world.specs.Outcome.{Place, Outcome}
 use Rattle.lnfs_site.specs.Site.{site_of}
 use Rattle.lnfs_operations.specs.declared.Refusal.{Refusal}
 use Rattle.lnfs_operations.specs.Chain.{Answer}
-use Rattle.lnfs_content.specs.declared.limits.TheConstants.{MOST_BYTES}
+use Rattle.lnfs_world.specs.declared.numbers.TheConstants.{MOST_FILE}
 use Rattle.lnfs_nodes.specs.Acts.{failed, placed}
 use Rattle.lnfs_files.specs.Worlds.{with_files}
 use Rattle.lnfs_files.specs.Acts.{Succeeds}
@@ -19,7 +19,7 @@ put_values-requires c = record {
   counts = c.requires.counts;
   held = c.requires.held;
   file = c.requires.file;
-  fits = subst (λ (told : Result (Unit {0}) Refusal). OnOk told (IfSome c.args.size (λ size. size ≤ MOST_BYTES))) c.in_default-2.is c.in_ok-why.ensures.fits;
+  fits = subst (λ (told : Result (Unit {0}) Refusal). OnOk told (IfSome c.args.size (λ size. size ≤ MOST_FILE))) c.in_default-2.is c.in_ok-why.ensures.fits;
   resizes = subst (λ (told : Result (Unit {0}) Refusal). OnOk told (IfSome c.args.size (λ size. MayResize c.args.quota.now c.args.held.now.facts.label.0 c.args.held.now.facts.size size))) c.in_default-2.is c.in_ok-why.ensures.resizes;
 }
 
