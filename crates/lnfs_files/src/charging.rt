@@ -43,7 +43,7 @@ pub fn room_for(site: &Site<'_>, quota: &Quota, level: Level) -> Result<bool, Al
 /// # Errors
 ///
 /// `AllocError` of a level that isn't counted, and of one whose total rises no more.
-pub fn byte_room(
+pub(crate) fn byte_room(
     site: &Site<'_>,
     quota: &Quota,
     level: Level,
@@ -71,7 +71,12 @@ pub fn byte_room(
 /// # Errors
 ///
 /// `AllocError` of levels that aren't counted, and of one whose total rises no more.
-pub fn check_move(quota: &Quota, from: Level, to: Level, bytes: u64) -> Result<(), AllocError>
+pub(crate) fn check_move(
+    quota: &Quota,
+    from: Level,
+    to: Level,
+    bytes: u64,
+) -> Result<(), AllocError>
     requires held { AreBytesHeld quota.now from.0 bytes }
     ensures { OnOk result (MayMove quota.now from.0 to.0 bytes) }
 {

@@ -25,7 +25,7 @@ mod wanted;
 mod writing;
 
 pub use asked::Opening;
-pub use charging::{byte_room, check_move, credit, room_for};
+pub use charging::{credit, room_for};
 pub use closing::close;
 pub use committing::commit;
 pub use opened::Opened;

@@ -27,7 +27,7 @@ use lnfs_xdr::XdrWriter;
 use std::alloc::{AllocError, Global};
 
 /// What refuses attributes that are asked of a node with a label.
-pub fn inner_denied(
+pub(crate) fn inner_denied(
     site: &Site<'_>,
     subject: Level,
     label: Level,

@@ -71,7 +71,7 @@ pub fn check_allowed(
 }
 
 /// The node of a name in a directory.
-pub fn node_named(tree: &Tree, dir: &Held, name: &[u8]) -> Result<Held, Refusal>
+pub(crate) fn node_named(tree: &Tree, dir: &Held, name: &[u8]) -> Result<Held, Refusal>
     ensures { (d : Node) → Holds tree.now d dir.now → is_directory d.kind ≡ true → IsHeld tree.now (named tree.now d.id name.now) result }
 {
     let Ok(id) = tree.lookup(dir.id, name) else {
@@ -109,7 +109,7 @@ pub fn refused_by(error: TreeError) -> Refusal
 /// # Errors
 ///
 /// `AllocError` of want of memory.
-pub fn settled_by(error: TreeError) -> Result<Refusal, AllocError>
+pub(crate) fn settled_by(error: TreeError) -> Result<Refusal, AllocError>
     ensures refusal { IfOk result (λ why. refusal_of why ≡ refusal_by error) }
     ensures memory { IsErr result ↔ (error ≡ Memory) }
 {

@@ -78,7 +78,7 @@ pub fn copied(alloc: Global, label: &Stored) -> Result<Stored, AllocError>
 }
 
 /// The label of a directory once more, as it shows it.
-pub fn copied_of(
+pub(crate) fn copied_of(
     alloc: Global,
     site: &Site<'_>,
     tree: &Tree,
@@ -142,7 +142,7 @@ fn text_of(alloc: Global, what: &What) -> Result<Octets, AllocError>
 }
 
 /// What refuses a new name in a directory, of a node with a label.
-pub fn name_refused(
+pub(crate) fn name_refused(
     site: &Site<'_>,
     tree: &Tree,
     subject: Level,

@@ -23,14 +23,10 @@ mod showing;
 mod told;
 
 pub use accessed::set_accessed;
-pub use attributes::{get_attr, inner_denied};
-pub use calls::{
-    Caller, check_allowed, check_directory, check_name, node_named, refused_by, settled_by,
-};
+pub use attributes::get_attr;
+pub use calls::{Caller, check_allowed, check_directory, check_name, refused_by};
 pub use comparing::{nverify, verify};
-pub use creating::{
-    Created, copied, copied_of, create, kept_label, level_or, name_refused, no_space,
-};
+pub use creating::{Created, copied, create, kept_label, level_or, no_space};
 pub use given::{GivenLabel, Wanted, argument, is_mode, label_of, read_wanted, set_of, values_of};
 pub use handles::{HANDLE_SIZE, get_fh, handle_of, put_fh, put_root_fh, restore_fh, save_fh};
 pub use held::{Held, denied, namespace, node_held};
@@ -38,7 +34,6 @@ pub use linking::link;
 pub use links::read_link;
 pub use listing::{Listing, read_dir};
 pub use lookups::{lookup, lookup_parent};
-pub use naming::name_refusal;
 pub use removing::{gone_bytes, remove};
 pub use renaming::rename;
 pub use rights::{AccessBits, access};

@@ -30,7 +30,7 @@ fn is_utf8(name: &[u8]) -> bool
 /// The status that refuses a name, if one does. In this order: NFS4ERR_INVAL of none, NFS4ERR_NAMETOOLONG above 255
 /// bytes, NFS4ERR_INVAL of bytes that are no UTF-8, NFS4ERR_BADCHAR of a slash or a zero byte, NFS4ERR_BADNAME of `.`
 /// and `..`.
-pub fn name_refusal(name: &[u8]) -> Option<u32>
+pub(crate) fn name_refusal(name: &[u8]) -> Option<u32>
     ensures { result ≡ name_refusal name.now }
 {
     if name.is_empty() {
