@@ -15,8 +15,8 @@ use lnfs_format::{MAX_FORMATS, MAX_SPELLING, Pair, read_comps};
 use lnfs_words::{is_path, parent_of, spells};
 use std::alloc::{AllocError, Global};
 
-/// The highest class of a guest.
-const MAX_CLASS: u32 = 7;
+/// The highest class of a guest, and so of a link.
+pub const MAX_CLASS: u32 = 7;
 
 /// The most directories of a policy.
 const MAX_DIRS: usize = 256;

@@ -13,6 +13,7 @@ mod reading;
 mod rows;
 
 pub use cause::{Cause, PolicyError};
+pub use fits::MAX_CLASS;
 pub use mode::Mode;
 pub use policy::Policy;
 pub use read::{read_policy, write_policy};

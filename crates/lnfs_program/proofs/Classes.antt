@@ -5,6 +5,7 @@ use Rattle.std.specs.declared.option.Option.{Option}
 use Rattle.std.specs.declared.option.Option.TheVariants.{Some, None}
 use Rattle.lnfs_words.specs.Numbers.{number_up_to}
 use Rattle.lnfs_words.specs.Words.{split}
+use Rattle.lnfs_policy.specs.declared.fits.TheConstants.{MAX_CLASS}
 use Rattle.lnfs_program.specs.Words.{before_all, classes_of, few, classes_in}
 
 -- behind some classes
@@ -20,14 +21,14 @@ abbrev pub Listed : (word classes : List ℕ) → List (List ℕ) → Type 0
 Listed word classes parts = classes_of (split 44 word) ≡ behind classes (classes_of parts)
 
 module _ (word classes : List ℕ) {parts : List (List ℕ)} (so_far : Listed word classes parts) where
-  pub listed_more : {part : List ℕ} {others : List (List ℕ)} {class : ℕ} → parts ≡ part ∷ others → number_up_to 7 part ≡ Some class → Listed word (classes ++ class ∷ []) others
+  pub listed_more : {part : List ℕ} {others : List (List ℕ)} {class : ℕ} → parts ≡ part ∷ others → number_up_to MAX_CLASS part ≡ Some class → Listed word (classes ++ class ∷ []) others
   listed_more {part} {others} {class} cut is =
       so_far
       ∙ ap (λ (ps : List (List ℕ)). behind classes (classes_of ps)) cut
       ∙ ap (λ (c : Option ℕ). behind classes (before_all c (classes_of others))) is
       ∙ behind_more classes class (classes_of others)
 
-  pub listed_wrong : {part : List ℕ} {others : List (List ℕ)} → parts ≡ part ∷ others → number_up_to 7 part ≡ None → classes_in word ≡ None
+  pub listed_wrong : {part : List ℕ} {others : List (List ℕ)} → parts ≡ part ∷ others → number_up_to MAX_CLASS part ≡ None → classes_in word ≡ None
   listed_wrong {part} {others} cut is =
       ap few (so_far
       ∙ ap (λ (ps : List (List ℕ)). behind classes (classes_of ps)) cut

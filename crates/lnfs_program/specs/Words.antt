@@ -8,6 +8,7 @@ use Rattle.lnfs_words.specs.Numbers.{number, number_up_to}
 use Rattle.lnfs_words.specs.Hex.{hex_of}
 use Rattle.lnfs_words.specs.Words.{split}
 use Rattle.lnfs_format.specs.declared.formats.Pair.{Pair}
+use Rattle.lnfs_policy.specs.declared.fits.TheConstants.{MAX_CLASS}
 use Rattle.lnfs_program.specs.declared.words.Command.{Command}
 use Rattle.lnfs_program.specs.declared.words.Command.TheVariants.{Help, Version, Under, Serve}
 use Rattle.lnfs_program.specs.declared.words.Task as code
@@ -67,16 +68,16 @@ generation policy (Some seed) (Some count) = Some (under policy (generate seed c
 generation policy (Some seed) None = None
 generation policy None count = None
 
--- a class, from 0 to 7, before the others
+-- a class before the others
 abbrev pub before_all : Option ℕ → Option (List ℕ) → Option (List ℕ)
 before_all (Some class) (Some classes) = Some (class ∷ classes)
 before_all (Some class) None = None
 before_all None classes = None
 
--- the classes that some parts spell, one each
+-- the classes that some parts spell, one each, up to the highest of a guest
 abbrev pub classes_of : List (List ℕ) → Option (List ℕ)
 classes_of [] = Some []
-classes_of (part ∷ parts) = before_all (number_up_to 7 part) (classes_of parts)
+classes_of (part ∷ parts) = before_all (number_up_to MAX_CLASS part) (classes_of parts)
 
 abbrev pub few : Option (List ℕ) → Option (List ℕ)
 few (Some classes) = cond (nat_le (length classes) 64) (Some classes) None

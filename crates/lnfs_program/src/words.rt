@@ -6,6 +6,7 @@ ghost use Rattle.lnfs_program.specs.Words.{form_of, texts, named, pair_in, bytes
 
 use crate::team::Team;
 use lnfs_map::Pair;
+use lnfs_policy::MAX_CLASS;
 use lnfs_words::{Parts, number, number_up_to};
 use std::alloc::{AllocError, Global};
 
@@ -14,9 +15,6 @@ const MAX_HEX: usize = 2048;
 
 /// The most events that are generated.
 const MOST_EVENTS: u64 = 100_000;
-
-/// The last class of a link.
-const LAST_CLASS: u64 = 7;
 
 /// The most links that are served.
 const MOST_LINKS: usize = 64;
@@ -186,7 +184,7 @@ fn classes_of(alloc: Global, word: &str) -> Result<Option<Vec<u32>>, AllocError>
     let mut parts = Parts::new(word.as_bytes(), b',');
     let mut classes = Vec::new(alloc);
     while let Some(part) = parts.next() {
-        let Some(class) = number_up_to(LAST_CLASS, part) else {
+        let Some(class) = number_up_to(MAX_CLASS as u64, part) else {
             return Ok(None);
         };
         classes.push(class as u32)?;
