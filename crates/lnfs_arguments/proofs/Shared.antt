@@ -1,10 +1,11 @@
--- The canonical text of each shared structure is a spelling of it.
-use Rattle.std.proofs.Common.{ℕ, ◌^◌, ◌<◌, Option, Some, None, refl, append_assoc, arith}
+-- The canonical text of each shared structure is a spelling of it; the row of a number in a table.
+use Rattle.std.proofs.Common.{ℕ, ◌^◌, ◌<◌, Bool, true, false, eqb, List, [], ◌∷◌, Option, Some, None, refl, append_assoc, arith}
 use Rattle.std.specs.Prelude.{IfSome, ◌==◌}
-use Rattle.lnfs_xdr.specs.Format.{Word, optional}
+use Rattle.lnfs_xdr.specs.Format.{Word, If, optional}
 use Rattle.lnfs_xdr.specs.Canon.{word}
 use Rattle.lnfs_xdr.proofs.Spelled.{Spelled, word_spelled, long_spelled, among_spelled, count_spelled, fixed_spelled, opaque_spelled, done_spelled, ◌▸◌, last, grouped, on_true, on_false}
 use Rattle.lnfs_attrs.specs.Bitmaps.{IsWord}
+use Rattle.lnfs_attrs.specs.Parsing.{Args}
 use Rattle.lnfs_attrs.proofs.Words.{bitmap_spelled}
 use Rattle.lnfs_attrs.specs.declared.raw.RawAttrs.{RawAttrs}
 use Rattle.lnfs_arguments.specs.declared.stateid.StateId.{StateId}
@@ -36,3 +37,18 @@ cinfo_spelled c fits = grouped (among_spelled (λ n. n == 1) 1 refl (omega arith
 pub channel_spelled : (c : Channel) → ChannelFits c → Spelled channel c (channel_text c)
 unfolding channel channel_text
 channel_spelled c fits = grouped (word_spelled _ fits.0 ▸ word_spelled _ fits.1 ▸ word_spelled _ fits.2 ▸ word_spelled _ fits.3 ▸ word_spelled _ fits.4 ▸ word_spelled _ fits.5 ▸ last (optional_spelled c.ird fits.6) (done_spelled c)) (simp append_assoc)
+
+-- ---- the row of a number in a table
+
+abbrev pub chosen : {A : Type 0} → Bool → Args A → Args A → Args A
+chosen true f g = f
+chosen false f g = g
+
+-- or another, where it has none
+abbrev pub picked : {A : Type 0} → List (ℕ × Args A) → ℕ → Args A → Args A
+picked [] number other = other
+picked ((n, f) ∷ more) number other = chosen (eqb number n) f (picked more number other)
+
+pub on_chosen : {A : Type 0} (b : Bool) (f g h : Args A) (x : A) (bytes : List ℕ) → (Spelled g x bytes → Spelled h x bytes) → Spelled (chosen b f g) x bytes → Spelled (If b f h) x bytes
+on_chosen true f g h x bytes later p = on_true p
+on_chosen false f g h x bytes later p = on_false (later p)

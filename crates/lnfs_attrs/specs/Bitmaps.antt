@@ -27,6 +27,10 @@ bit n i = n / 2 ^ i % 2 == 1
 abbrev pub has_attr : Bitmap → ℕ → Bool
 has_attr b n = bit (slice_index b.words (n / 32)) (n % 32)
 
+-- none
+abbrev pub no_attributes : Bitmap
+no_attributes = record { words = 0 ∷ 0 ∷ 0 ∷ 0 ∷ 0 ∷ 0 ∷ 0 ∷ 0 ∷ [] }
+
 -- ---- bytes
 
 unfoldable pub so_many_words : ℕ → Args Bitmap

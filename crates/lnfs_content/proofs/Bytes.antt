@@ -5,6 +5,7 @@ use Rattle.std.proofs.lemmas.Bool.Decides.{nat_tests}
 use Rattle.std.proofs.lemmas.List.{get_or_past, get_or_default, get_or_append_left, get_or-set_same, get_or-set_other, length-set, get_or-take, get_or-drop, get_or-replicate, get_or-append_right, length-take, length-replicate}
 use Rattle.std.proofs.lemmas.Grind.{same_number_lists}
 use Rattle.lnfs_world.specs.Effects.{sized, written, read_at}
+use Rattle.lnfs_world.proofs.Keys.{same_truth}
 use Rattle.lnfs_content.specs.declared.limits.TheConstants.{CHUNK}
 use Rattle.lnfs_content.specs.Bytes.{bytes_from, byte_at, cell, HasPlace}
 
@@ -19,13 +20,8 @@ get_or-bytes_from f i (suc n) zero lt = ap f (omega arith)
 get_or-bytes_from f i (suc n) (suc k) lt = get_or-bytes_from f (i + 1) n k (omega arith) ∙ ap f (omega arith)
 
 -- ---- a part of one chunk is a part of the content
-both_ways : (a b : Bool) → (a ≡ true → b ≡ true) → (b ≡ true → a ≡ true) → a ≡ b
-both_ways true b f g = sym (f refl)
-both_ways false true f g = g refl
-both_ways false false f g = refl
-
 part_of : (q r p a part : ℕ) → r < CHUNK → a < CHUNK → a + part ≤ CHUNK → (q == p && (nat_le a r && nat_lt r (a + part))) ≡ (nat_le (CHUNK * p + a) (CHUNK * q + r) && nat_lt (CHUNK * q + r) (CHUNK * p + a + part))
-part_of q r p a part lr la lp = both_ways _ _ (λ e. grind (arith, nat_tests)) (λ e. grind (arith, nat_tests))
+part_of q r p a part lr la lp = same_truth _ _ (λ e. grind (arith, nat_tests)) (λ e. grind (arith, nat_tests))
 
 pub part_is : (place part i : ℕ) → place % CHUNK + part ≤ CHUNK → (i / CHUNK == place / CHUNK && (nat_le (place % CHUNK) (i % CHUNK) && nat_lt (i % CHUNK) (place % CHUNK + part))) ≡ (nat_le place i && nat_lt i (place + part))
 part_is place part i lp = part_of (i / CHUNK) (i % CHUNK) (place / CHUNK) (place % CHUNK) part (omega arith) (omega arith) lp ∙ same

@@ -1,7 +1,7 @@
 -- How many nodes and bytes each level has after an operation that changes the tree.
 use Rattle.std.proofs.Common.{◌≡◌, ◌==◌, ℕ, Bool, true, false, cond, not, List, [], ◌∷◌, Option, Some, None, refl, sym, ap, ◌∙◌, subst, arith}
 use Rattle.std.specs.Prelude.{◌++◌, if◌then◌else◌}
-use Rattle.std.specs.Option.{option_map, option_and_then}
+use Rattle.std.specs.Option.{option_and_then}
 use Rattle.std.proofs.lemmas.Bool.Decides.{nat_tests}
 use Rattle.std.proofs.lemmas.List.{append-nil}
 use Rattle.lnfs_outside.specs.declared.event.Moment.{Moment}
@@ -9,15 +9,16 @@ use Rattle.lnfs_attrs.specs.declared.raw.RawAttrs.{RawAttrs}
 use Rattle.lnfs_arguments.specs.declared.stateid.Cinfo.{Cinfo}
 use Rattle.lnfs_arguments.specs.declared.types.What.{What}
 use Rattle.lnfs_arguments.specs.declared.types.What.TheVariants.{Dir, Symlink}
-use Rattle.lnfs_world.specs.World.{Id, Node, Entry, World, same_id, node_at, is_directory, is_given}
+use Rattle.lnfs_world.specs.World.{Id, Node, Entry, World, same_id, node_at, is_directory}
 use Rattle.lnfs_world.specs.Names.{entry_at, size_of}
 use Rattle.lnfs_world.specs.Tree.{has_other_name, holds_names, goes_under}
 use Rattle.lnfs_world.specs.Usage.{bytes_of}
 use Rattle.lnfs_world.specs.Change.{Change, Touch, Unlink, Drop, Move, apply, apply_all, touched}
-use Rattle.lnfs_world.specs.Effects.{attributes_changed, names_changed, name_added, next_id, next_entry, has_cookie, taken_out, may_give_way, directories_changed}
+use Rattle.lnfs_world.specs.Effects.{attributes_changed, names_changed, name_added, next_entry, has_cookie, taken_out, may_give_way, directories_changed}
 use Rattle.lnfs_world.specs.Facts.{NodeFacts}
 use Rattle.lnfs_world.specs.Outcome.{Site, Place, Outcome, done_to}
 use Rattle.lnfs_world.proofs.Seen.{node_at-id}
+use Rattle.lnfs_world.proofs.NewNames.{next_absent}
 use Rattle.lnfs_operations.specs.declared.Gate.{Gate}
 use Rattle.lnfs_operations.specs.Chain.{Answer, Done, refuse, done, demand}
 use Rattle.lnfs_operations.specs.Create.{Made, kind_of, new_node, create, made as made_at}
@@ -88,15 +89,6 @@ module _ (site : Site) (p : Place) (rest : World) (t : Rows) (facts : NodeFacts 
 
   -- ---- a new node
 
-  absent : (level : ℕ) → node_at t.nodes (next_id t.lasts level) ≡ None
-  absent level = at (node_at t.nodes (next_id t.lasts level)) refl
-    where
-      at : (o : Option Node) → node_at t.nodes (next_id t.lasts level) ≡ o → node_at t.nodes (next_id t.lasts level) ≡ None
-      at None found = found
-      at (Some n) found =
-          let given : is_given t.lasts (next_id t.lasts level) ≡ true = facts.given (next_id t.lasts level) n.label (ap (option_map (λ (m : Node). m.label)) found) in
-          absurd (grind (arith, nat_tests, given))
-
   no_file : (n : Node) (what : What) → bytes_of n (kind_of what) ≡ 0
   no_file n Dir = refl
   no_file n (Symlink text) = refl
@@ -110,7 +102,7 @@ module _ (site : Site) (p : Place) (rest : World) (t : Rows) (facts : NodeFacts 
       let own : d.label ≡ p.subject = let same = may.own in grind (arith, nat_tests, same) in
       let touched_one = touch t.nodes t.nodes d (name_added p.moment d.inner) may.found refl none in
       subst (λ home. IsMore home t.nodes (done_to w (made_at p d name (set_of given) n)).nodes) own
-      (made t.nodes (touched d.id (name_added p.moment d.inner) t.nodes) n (absent d.label) (no_file n what) touched_one))
+      (made t.nodes (touched d.id (name_added p.moment d.inner) t.nodes) n (next_absent site.dom t.nodes t.entries t.lasts facts d.label) (no_file n what) touched_one))
 
   -- ---- a name that is taken out
 

@@ -1,13 +1,14 @@
 -- The operations of a COMPOUND in order: what ran, and what is ahead.
 use Rattle.std.proofs.Common.{◌≡◌, ◌≤◌, ◌<◌, ◌+◌, ◌-◌, ℕ, zero, suc, List, [], ◌∷◌, ◌++◌, length, take, drop, get_or, Some, None, refl, sym, ap, ◌∙◌, subst, append_assoc, append-nil, length-append, arith}
-use Rattle.std.specs.List.{flat_map, slice_get}
+use Rattle.std.specs.List.{flat_map}
 use Rattle.std.proofs.lemmas.List.{take-append-le}
 use Rattle.std.proofs.lemmas.List.Concat.{flat_map-cons, flat_map-append}
 use Rattle.lnfs_arguments.specs.declared.types.Op.{Op}
 use Rattle.lnfs_arguments.specs.declared.types.Compound.{Compound}
 use Rattle.lnfs_arguments.specs.Numbered.{number_of}
 use Rattle.lnfs_results.specs.declared.types.OpResult.{OpResult}
-use Rattle.lnfs_results.specs.Numbered.{status_of, status_or_none, status_of_all}
+use Rattle.lnfs_results.specs.Numbered.{status_of, status_of_all}
+use Rattle.lnfs_results.proofs.Numbered.{last_status}
 use Rattle.lnfs_results.specs.Texts.{head_text, result_text, results_text}
 use Rattle.lnfs_xdr.specs.Canon.{word, opaque}
 use Rattle.lnfs_xdr.proofs.Sizes.{length-word}
@@ -47,16 +48,6 @@ none-left (x ∷ xs) zero all = absurd (omega arith)
 none-left (x ∷ xs) (suc i) all = none-left xs i (omega arith)
 
 -- ---- results
-
--- the last result's status is that of all
-last_of : (rs : List OpResult) (r : OpResult) → slice_get (rs ++ r ∷ []) (length rs) ≡ Some r
-last_of [] r = refl
-last_of (x ∷ rs) r = last_of rs r
-
-pub last_status : (rs : List OpResult) (r : OpResult) → status_of_all (rs ++ r ∷ []) ≡ status_of r
-last_status rs r =
-    let at : length (rs ++ r ∷ []) - 1 ≡ length rs = omega (arith, length-append rs (r ∷ [])) in
-    ap (λ n. status_or_none (slice_get (rs ++ r ∷ []) n)) at ∙ ap status_or_none (last_of rs r)
 
 pub text_more : (out : List ℕ) (rs : List OpResult) (r : OpResult) → out ++ flat_map result_text rs ++ result_text r ≡ out ++ flat_map result_text (rs ++ r ∷ [])
 text_more out rs r = append_assoc out _ _ ∙ ap (λ x. out ++ x) (ap (λ x. flat_map result_text rs ++ x) (sym (append-nil (result_text r)) ∙ sym (flat_map-cons result_text r [])) ∙ sym (flat_map-append result_text rs (r ∷ [])))

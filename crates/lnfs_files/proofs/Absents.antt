@@ -34,7 +34,8 @@ use Rattle.lnfs_quota.specs.Totals.{AreTotals}
 use Rattle.lnfs_nodes.proofs.Refusing.{refused_as}
 use Rattle.lnfs_files.specs.Worlds.{with_files}
 use Rattle.lnfs_files.specs.Openings.{where_makable, IsAbsentIn}
-use Rattle.lnfs_files.proofs.Makes.{no_room, no_number, all_room, not_there, Alike, Made, counts_made}
+use Rattle.lnfs_world.proofs.NewNames.{next_absent}
+use Rattle.lnfs_files.proofs.Makes.{no_room, no_number, all_room, Alike, Made, counts_made}
 
 -- ---- what is made
 
@@ -128,4 +129,4 @@ pub made_counts : (rows : List Row) (dom : ℕ → ℕ → Bool) (t u : Rows) (d
 made_counts rows dom t u d name fresh moment home alike law totals facts at directory same e =
     let i : Id = next_id t.lasts fresh.home.0 in
     subst (λ (l : ℕ). AreTotals (node_charged rows l) u.nodes) same
-    (counts_made rows t u d (new_node moment fresh i) (name_added moment d.inner) (next_entry d name i) alike law totals at directory (not_there dom t facts fresh.home.0) (no_bytes moment fresh i) e)
+    (counts_made rows t u d (new_node moment fresh i) (name_added moment d.inner) (next_entry d name i) alike law totals at directory (next_absent dom t.nodes t.entries t.lasts facts fresh.home.0) (no_bytes moment fresh i) e)

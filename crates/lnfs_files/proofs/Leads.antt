@@ -1,5 +1,5 @@
 -- The node of the current file handle, and what a name of a directory leads to.
-use Rattle.std.proofs.Common.{◌≡◌, refl, ap, sym, ◌∙◌, ℕ, true, List, Option, Some, None, Result, Ok, Err, option_map, arith}
+use Rattle.std.proofs.Common.{◌≡◌, refl, ap, sym, ◌∙◌, ℕ, true, List, Option, Some, None, Result, Ok, Err, option_map}
 use Rattle.lnfs_arguments.specs.declared.statuses.TheConstants.{NFS4ERR_STALE, NFS4ERR_NOENT}
 use Rattle.lnfs_world.specs.World.{Id, Node, Entry, World, node_at, is_directory}
 use Rattle.lnfs_world.specs.Names.{entry_at}
@@ -17,14 +17,11 @@ use Rattle.lnfs_open.specs.Lists.{Lists}
 use Rattle.lnfs_nodes.specs.Trees.{there, held_in, Holds, IsHeld}
 use Rattle.lnfs_nodes.specs.declared.held.Held.{Held}
 use Rattle.lnfs_nodes.specs.GivenValues.{followed}
+use Rattle.lnfs_nodes.proofs.NamedHeld.{looks_up}
 use Rattle.lnfs_files.specs.Worlds.{with_files}
-use Rattle.lnfs_files.specs.Openings.{IsThere, where_named_in, Finds}
+use Rattle.lnfs_files.specs.Openings.{where_named_in, Finds}
 
 -- ---- the node of the current file handle
-
-pub is_there : (t : Rows) (r : Result Node chain.Refusal) (h : Held) → IsHeld t r (Ok h) → IsThere t h
-is_there t (Ok n) h holds = (n, holds)
-is_there t (Err why) h holds = absurd holds
 
 module _ (p : Place) (rest : World) (t : Rows) (s : Lists) where
   current_by : (found : Node → Outcome (Answer Opened)) → with_current p (with_files rest t s) found ≡ followed p (held_in t.nodes p.current) found
@@ -51,9 +48,6 @@ module _ (p : Place) (rest : World) (t : Rows) (s : Lists) where
 -- ---- what a name of a directory leads to
 
 module _ (p : Place) (t : Rows) (d : Node) (h : Held) (holds : Holds t d h) (dir : is_directory d.kind ≡ true) (name : List ℕ) where
-  looks_up : looked_up t (id_of h.id) name ≡ or_absent (option_map (λ e. e.node) (entry_at t.entries d.id name))
-  looks_up = grind (arith, holds.id, holds.node_is, dir)
-
   abbrev entered : (Node → Outcome (Answer Opened)) → Entry → Outcome (Answer Opened)
   entered found e = where_there (node_at t.nodes e.node) found (refuse p Namespace NFS4ERR_NOENT)
 
@@ -61,7 +55,7 @@ module _ (p : Place) (t : Rows) (d : Node) (h : Held) (holds : Holds t d h) (dir
   by_entry x e found absent = ap (λ (x : Option Entry). where_there x (entered found) absent) e
 
   pub named : (i : NodeId) (f : Facts) → Ok (id_of i) ≡ looked_up t (id_of h.id) name → IsTold t.entries (node_at t.nodes (id_of i)) (Some f) → Finds p t d name (Ok (Some (record { id = i; facts = f })))
-  named i f found told = at (entry_at t.entries d.id name) refl (found ∙ looks_up)
+  named i f found told = at (entry_at t.entries d.id name) refl (found ∙ looks_up t d h holds dir name)
     where
       held : Held
       held = record { id = i; facts = f }

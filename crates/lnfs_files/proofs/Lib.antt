@@ -13,7 +13,6 @@ mod Writes
 pub mod Ends
 pub mod FileReads
 pub mod Opens
-pub mod Cuts
 pub mod Openable
 pub mod Makes
 pub mod Givens

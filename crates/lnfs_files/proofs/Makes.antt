@@ -1,17 +1,15 @@
 -- A file that is made and opened.
 use Rattle.std.proofs.Common.{◌≡◌, refl, ap, sym, subst, ◌∙◌, ℕ, Bool, true, false, cond, List, [], ◌∷◌, Option, Some, None, Ok, Err, arith}
 use Rattle.std.specs.Prelude.{◌&&◌, if◌then◌else◌}
-use Rattle.std.specs.Option.{option_map}
 use Rattle.std.specs.List.{AllByRecursion, find}
-use Rattle.std.proofs.lemmas.Bool.Decides.{nat_tests}
 use Rattle.lnfs_arguments.specs.declared.stateid.StateId.{StateId}
 use Rattle.lnfs_arguments.specs.declared.stateid.Cinfo.{Cinfo}
 use Rattle.lnfs_arguments.specs.declared.statuses.TheConstants.{NFS4ERR_NOSPC}
 use Rattle.lnfs_attrs.specs.declared.bitmap.Bitmap.{Bitmap}
-use Rattle.lnfs_world.specs.World.{Id, Kind, Inner, Node, Entry, Open, World, same_id, node_at, is_directory, is_given}
-use Rattle.lnfs_world.specs.Change.{Change, Touch, Make, AddOpen, apply, touched}
-use Rattle.lnfs_world.specs.Effects.{name_added, next_entry, next_id}
-use Rattle.lnfs_world.specs.Facts.{NodeFacts, is_good_open, same_opening}
+use Rattle.lnfs_world.specs.World.{Id, Kind, Inner, Node, Entry, Open, World, same_id, node_at, is_directory}
+use Rattle.lnfs_world.specs.Change.{Change, Touch, Make, apply, touched}
+use Rattle.lnfs_world.specs.Effects.{name_added, next_entry}
+use Rattle.lnfs_world.specs.Facts.{is_good_open, same_opening}
 use Rattle.lnfs_world.specs.Usage.{bytes_of}
 use Rattle.lnfs_world.specs.Outcome.{Place, Outcome}
 use Rattle.lnfs_world.proofs.Keys.{id_same}
@@ -39,7 +37,7 @@ use Rattle.lnfs_files.specs.Worlds.{with_files}
 use Rattle.lnfs_files.specs.Acts.{Succeeds}
 use Rattle.lnfs_files.specs.declared.opened.Opened as code_opened
 use Rattle.lnfs_files.specs.Openings as files
-use Rattle.lnfs_files.proofs.Opens.{Answered, answered}
+use Rattle.lnfs_files.proofs.Opens.{wished, added, Answered, answered}
 
 -- ---- room
 
@@ -63,17 +61,6 @@ module _ {R : Type 0} (p : Place) (next : Outcome (Answer R)) where
   all_room true true false e same = cc
   all_room true false opens e same = cc
   all_room false numbers opens e same = cc
-
--- ---- a number that isn't given
-
-pub not_there : (dom : ℕ → ℕ → Bool) (t : Rows) → NodeFacts dom t.nodes t.entries t.lasts → (level : ℕ) → node_at t.nodes (next_id t.lasts level) ≡ None
-not_there dom t facts level = at (node_at t.nodes (next_id t.lasts level)) refl
-  where
-    at : (o : Option Node) → node_at t.nodes (next_id t.lasts level) ≡ o → node_at t.nodes (next_id t.lasts level) ≡ None
-    at None found = found
-    at (Some n) found =
-        let given : is_given t.lasts (next_id t.lasts level) ≡ true = facts.given (next_id t.lasts level) n.label (ap (option_map (λ (m : Node). m.label)) found) in
-        absurd (grind (arith, nat_tests, given))
 
 -- no open is of a node that isn't there
 pub none_of : (dom : ℕ → ℕ → Bool) (label : Id → Option ℕ) (o : Open) (opens : List Open) → label o.node ≡ None → AllByRecursion (λ x. is_good_open dom label x ≡ true) opens → find (same_opening o) opens ≡ None
@@ -118,10 +105,10 @@ module _ (args : Arguments) (p : Place) (rest : World) (t u : Rows) (s v : Lists
   w = with_files rest t s
 
   abbrev pub wish : Wish
-  wish = record { client = record { level = p.subject; number = client }; owner = args.owner; node = n.id; access = access_of args; deny = args.deny }
+  wish = wished p.subject client args n.id (access_of args)
 
   abbrev new : Opened
-  new = record { row = new_open s wish; change = AddOpen (new_open s wish) }
+  new = added s wish
 
   -- a new open is added, and no other joined
   pub is_added : (o : Opened) → own_open s wish ≡ None → opened_of s wish ≡ Ok o → new ≡ o
@@ -139,8 +126,8 @@ module _ (args : Arguments) (p : Place) (rest : World) (t u : Rows) (s v : Lists
       → Succeeds (files.opened_of r) (record p { current = Some (id_of r.node) }) rest t u s v (made args p w client d name set n)
   makes id r info none does after state node told is same_set =
       let a : Answered s v (opened_of s wish) id = answered s v (opened_of s wish) id does in
-      let added : new ≡ a.opened = is_added a.opened none a.is in
-      let row : a.opened.row ≡ new_open s wish = ap (λ (o : Opened). o.row) (sym added) in
+      let one : new ≡ a.opened = is_added a.opened none a.is in
+      let row : a.opened.row ≡ new_open s wish = ap (λ (o : Opened). o.row) (sym one) in
       let cinfo : r.info ≡ changed d = told ∙ ap cinfo_of is in
       let result : operation.Opened = record { id = state_of (new_open s wish); info = changed d; set = set } in
       let same : files.opened_of r ≡ result =
@@ -152,5 +139,5 @@ module _ (args : Arguments) (p : Place) (rest : World) (t u : Rows) (s v : Lists
         place = ap (λ (i : Id). record p { current = Some i }) (sym node);
         world =
             ap (λ (x : Rows). with_files rest x (lists.ran new.change s)) (sym after)
-            ∙ ap (λ (x : Lists). with_files rest u x) (ap (λ (o : Opened). lists.ran o.change s) added ∙ sym a.after);
+            ∙ ap (λ (x : Lists). with_files rest u x) (ap (λ (o : Opened). lists.ran o.change s) one ∙ sym a.after);
       }

@@ -15,6 +15,7 @@ use Rattle.lnfs_open.specs.Opening.{found_of, at_sequence}
 use Rattle.lnfs_open.specs.Listed.{client_id, open_id}
 use Rattle.lnfs_open.specs.declared.keys.OpenError.{OpenError}
 use Rattle.lnfs_open.specs.declared.keys.OpenError.TheVariants.{Bad, Old}
+use Rattle.lnfs_operations.proofs.ShownLaws.{and_false}
 use Rattle.lnfs_files.specs.declared.references.Reference.{Reference}
 use Rattle.lnfs_files.specs.Uses.{Refers, refusal_by}
 
@@ -23,10 +24,6 @@ use Rattle.lnfs_files.specs.Uses.{Refers, refusal_by}
 find_never : (test : Open → Bool) → ((o : Open) → test o ≡ false) → (opens : List Open) → find test opens ≡ None
 find_never test never [] = refl
 find_never test never (o ∷ opens) = ap (λ (b : Bool). if b then Some o else find test opens) (never o) ∙ find_never test never opens
-
-and_false : (b : Bool) → (b && false) ≡ false
-and_false true = refl
-and_false false = refl
 
 -- a further condition finds no more
 find_fewer : (first also : Open → Bool) → (opens : List Open) → find first opens ≡ None → find (λ o. first o && also o) opens ≡ None

@@ -21,7 +21,8 @@ use Rattle.lnfs_tree.specs.Changed.{ran}
 use Rattle.lnfs_open.specs.Lists.{Lists}
 use Rattle.lnfs_open.specs.Lists as lists
 use Rattle.lnfs_open.specs.Opening as opening
-use Rattle.lnfs_open.specs.Opening.{Wish, Opened, Does, Names, opened_by, opened_of, new_open, joined, has_open_left}
+use Rattle.lnfs_world.specs.Opens.{joined}
+use Rattle.lnfs_open.specs.Opening.{Wish, Opened, Does, Names, opened_by, opened_of, new_open, has_open_left}
 use Rattle.lnfs_open.specs.declared.keys.OpenRef.{OpenRef}
 use Rattle.lnfs_open.specs.declared.keys.OpenError.{OpenError}
 use Rattle.lnfs_open.specs.declared.keys.OpenError.TheVariants.{Full, Bad, Old, Memory}
@@ -29,6 +30,21 @@ use Rattle.lnfs_files.specs.Worlds.{with_files}
 use Rattle.lnfs_files.specs.Acts.{Succeeds}
 use Rattle.lnfs_files.specs.declared.opened.Opened as code_opened
 use Rattle.lnfs_files.specs.Openings as files
+
+-- ---- what is asked of the opens
+
+abbrev pub wished : (level number : ℕ) (args : Arguments) (node : Id) (access : ℕ) → Wish
+wished level number args node access = record { client = record { level = level; number = number }; owner = args.owner; node = node; access = access; deny = args.deny }
+
+pub same_wish : (level level' number : ℕ) (args : Arguments) (node node' : Id) (access access' : ℕ) → level ≡ level' → node ≡ node' → access ≡ access' → wished level number args node access ≡ wished level' number args node' access'
+same_wish level level' number args node node' access access' a b d =
+    ap (λ (x : ℕ). wished x number args node access) a
+    ∙ ap (λ (x : Id). wished level' number args x access) b
+    ∙ ap (λ (x : ℕ). wished level' number args node' x) d
+
+-- one that is new
+abbrev pub added : Lists → Wish → Opened
+added s wish = record { row = new_open s wish; change = AddOpen (new_open s wish) }
 
 -- ---- what the opens tell
 
@@ -52,14 +68,11 @@ refused_so s v (Ok opened) Memory calm does = absurd (calm refl)
 refused_so s v (Err why) e calm does = (ap (λ (e : OpenError). let r : Result Opened OpenError = Err e in r) (sym does.0), does.1)
 
 module _ (s v : Lists) (wish : Wish) (e : OpenError) (not_memory : e ≡ Memory → ⊥) (does : Does (opened_of s wish) s v (Err e)) where
-  abbrev added : Opened
-  added = record { row = new_open s wish; change = AddOpen (new_open s wish) }
-
   -- no other error is told
   pub only_full : (e ≡ Full → ⊥) → ⊥
   only_full not_full = at (opening.own_open s wish) (refused_so s v (opened_of s wish) e not_memory does).0
     where
-      by : (b : Bool) → (if b then Ok added else Err Full) ≡ Err e → ⊥
+      by : (b : Bool) → (if b then Ok (added s wish) else Err Full) ≡ Err e → ⊥
       by true is = cc
       by false is = not_full cc
 
@@ -71,7 +84,7 @@ module _ (s v : Lists) (wish : Wish) (e : OpenError) (not_memory : e ≡ Memory 
   pub only_memory : has_open_left s wish.client.level ≡ true → ⊥
   only_memory room = at (opening.own_open s wish) (refused_so s v (opened_of s wish) e not_memory does).0
     where
-      by : (b : Bool) → b ≡ true → (if b then Ok added else Err Full) ≡ Err e → ⊥
+      by : (b : Bool) → b ≡ true → (if b then Ok (added s wish) else Err Full) ≡ Err e → ⊥
       by true left is = cc
       by false left is = cc
 
@@ -97,10 +110,10 @@ module _ (args : Arguments) (p : Place) (rest : World) (t : Rows) (s : Lists) (c
 
   -- what the client and the owner want
   abbrev pub wish : Wish
-  wish = record { client = record { level = p.subject; number = client }; owner = args.owner; node = n.id; access = access_of args; deny = args.deny }
+  wish = wished p.subject client args n.id (access_of args)
 
   abbrev pub new : Opened
-  new = record { row = new_open s wish; change = AddOpen (new_open s wish) }
+  new = added s wish
 
   abbrev pub with_own : Wanted → Cinfo → Outcome (Answer operation.Opened)
   with_own wanted info = opened args p w client wanted info n (own_open args p w client n.id)

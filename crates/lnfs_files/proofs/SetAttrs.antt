@@ -23,13 +23,14 @@ use Rattle.lnfs_tree.specs.Rows.{Rows, kind_of}
 use Rattle.lnfs_open.specs.Lists.{Lists}
 use Rattle.lnfs_nodes.specs.Trees.{held_in, Holds, IsHeld, refusal_of}
 use Rattle.lnfs_nodes.specs.declared.held.Held.{Held}
+use Rattle.lnfs_nodes.specs.Creating.{namespace}
 use Rattle.lnfs_nodes.specs.GivenValues.{Wanted, followed, and_then, tested, values_in, label_in, wanted_in}
 use Rattle.lnfs_nodes.proofs.Found.{about_held}
 use Rattle.lnfs_nodes.proofs.Refusing.{refused_as, on_held}
 use Rattle.lnfs_nodes.proofs.Stages.{values, labelled, test_stage, value_stage}
 use Rattle.lnfs_files.specs.Worlds.{with_opens, with_files}
 use Rattle.lnfs_files.specs.Acts.{Acts}
-use Rattle.lnfs_files.specs.Setting.{size_refusal, unlabelled, label_or_values, wanted_done}
+use Rattle.lnfs_files.specs.Setting.{size_refusal, unlabelled, wanted_done}
 
 module _ (site : Site) (id : StateId) (given : RawAttrs) (p : Place) (w : World) where
   abbrev pub on_node : Wanted → Node → Outcome (Answer Bitmap)
@@ -70,9 +71,6 @@ module _ (site : Site) (id : StateId) (given : RawAttrs) (p : Place) (w : World)
   taken x e = wanted_told ∙ ap (λ (r : Result Wanted chain.Refusal). followed p r behind) (sym e)
 
 -- ---- a size
-
-abbrev namespace : ℕ → chain.Refusal
-namespace status = record { gate = Namespace; status = status }
 
 module _ (p : Place) (sized : Bool) (n : Node) (next : Outcome (Answer Bitmap)) where
   pub size_taken : None ≡ size_refusal sized n.kind → where_sized p sized n next ≡ next
@@ -130,7 +128,7 @@ is_file (Some size) SymbolicLink e = cc
 
 module _ (site : Site) (id : StateId) (p : Place) (w : World) (n : Node) (x : Wanted) (set : Bitmap) where
   pub values_wanted : None ≡ x.label → wanted_done site id p w n x set ≡ values_set site id p w n (unlabelled x.size x.mode) set
-  values_wanted e = ap (λ (l : Option GivenLabel). label_or_values site id p w n (unlabelled x.size x.mode) l set) (sym e)
+  values_wanted e = ap (λ (l : Option GivenLabel). set_on site id p w n (unlabelled x.size x.mode) l set) (sym e)
 
   module _ (given : GivenLabel) (is : Some given ≡ x.label) where
     abbrev spelled : Outcome (Answer Bitmap)
@@ -140,7 +138,7 @@ module _ (site : Site) (id : StateId) (p : Place) (w : World) (n : Node) (x : Wa
     levelled = where_allowed site p (Raise n.label (parent_labels w.nodes w.entries n.id) given.level) (raised p w n given.level set)
 
     by_label : wanted_done site id p w n x set ≡ cond site.limited spelled levelled
-    by_label = ap (λ (l : Option GivenLabel). label_or_values site id p w n (unlabelled x.size x.mode) l set) (sym is)
+    by_label = ap (λ (l : Option GivenLabel). set_on site id p w n (unlabelled x.size x.mode) l set) (sym is)
 
     pub spelling_wanted : site.limited ≡ true → wanted_done site id p w n x set ≡ spelled
     spelling_wanted e = by_label ∙ ap (λ (b : Bool). cond b spelled levelled) e

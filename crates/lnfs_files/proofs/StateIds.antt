@@ -9,7 +9,8 @@ use Rattle.lnfs_operations.specs.declared.Gate.TheVariants as gates
 use Rattle.lnfs_monitor.specs.declared.rule.Rule.TheVariants.{M9}
 use Rattle.lnfs_operations.specs.Handles.{handle_named}
 use Rattle.lnfs_operations.specs.Chain.{Answer, refuse, demand, where_there}
-use Rattle.lnfs_operations.specs.StateIds.{Special, Anonymous, Bypass, Current, Way, Reading, Writing, special, bit_of, has_any, open_at, is_denied, where_open, where_undenied, where_usable, where_usable_by}
+use Rattle.lnfs_world.specs.Opens.{has_any}
+use Rattle.lnfs_operations.specs.StateIds.{Special, Anonymous, Bypass, Current, Way, Reading, Writing, special, bit_of, open_at, is_denied, where_open, where_undenied, where_usable, where_usable_by}
 use Rattle.lnfs_files.specs.Tests.{passed, refusal_in, tested}
 use Rattle.lnfs_files.proofs.Stages.{demand_stage}
 

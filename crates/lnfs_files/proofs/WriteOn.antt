@@ -1,5 +1,5 @@
 -- WRITE of a file that may be written: what the tree did of it, and what becomes of the totals.
-use Rattle.std.proofs.Common.{◌≡◌, ◌<◌, ◌≤◌, ◌-◌, ◌+◌, ℕ, Bool, true, false, cond, not, List, [], ◌∷◌, length, Option, Some, None, Result, Ok, Err, refl, sym, ap, ◌∙◌, subst, arith}
+use Rattle.std.proofs.Common.{◌≡◌, ◌≤◌, ◌-◌, ◌+◌, ℕ, Bool, true, false, cond, not, List, [], ◌∷◌, length, Option, Some, None, Result, Ok, Err, refl, sym, ap, ◌∙◌, subst, arith}
 use Rattle.std.specs.Prelude.{nat_le, if◌then◌else◌}
 use Rattle.lnfs_words.specs.Words.{is_empty}
 use Rattle.lnfs_arguments.specs.declared.statuses.TheConstants.{NFS4ERR_FBIG, NFS4ERR_DQUOT}
@@ -12,6 +12,7 @@ use Rattle.lnfs_arguments.specs.declared.stateid.StateId.{StateId}
 use Rattle.lnfs_operations.specs.declared.Gate.TheVariants.{Namespace, Quota}
 use Rattle.lnfs_world.specs.declared.numbers.TheConstants.{MOST_FILE}
 use Rattle.lnfs_operations.specs.Chain.{refuse, done, demand}
+use Rattle.lnfs_operations.specs.Chain as chain
 use Rattle.lnfs_operations.specs.Files.{passes_quota}
 use Rattle.lnfs_operations.specs.Write.{Arguments, data_written}
 use Rattle.lnfs_tree.specs.declared.node.TreeError.{TreeError}
@@ -20,16 +21,18 @@ use Rattle.lnfs_tree.specs.Rows.{Rows, id_of, kind_of, of_file, on_file, file_fo
 use Rattle.lnfs_tree.specs.Changed.{Doing, Does, ran, test, writes, write_of}
 use Rattle.lnfs_tree.specs.Places.{world_of}
 use Rattle.lnfs_quota.specs.declared.quota.Row.{Row}
-use Rattle.lnfs_quota.specs.Quota.{row_at, resized}
+use Rattle.lnfs_quota.specs.Quota.{resized}
 use Rattle.lnfs_quota.specs.Totals.{AreTotals, label_share}
 use Rattle.lnfs_quota.proofs.Kept.{label_own, sums_of, totals_of, sums-resized}
 use Rattle.lnfs_quota.proofs.Counting.{sum-held}
 use Rattle.lnfs_content.proofs.Bytes.{length-written}
 use Rattle.lnfs_open.specs.Lists.{Lists}
 use Rattle.lnfs_nodes.specs.declared.held.Held.{Held}
-use Rattle.lnfs_nodes.specs.Trees.{there, held_in, Holds, IsHeld}
+use Rattle.lnfs_nodes.specs.Trees.{there, Holds, IsHeld}
 use Rattle.lnfs_files.specs.Worlds.{with_files}
 use Rattle.lnfs_files.specs.Acts.{Succeeds}
+use Rattle.lnfs_files.specs.Charges.{AreBytesHeld}
+use Rattle.lnfs_files.specs.Openings.{IsThere}
 use Rattle.lnfs_files.specs.Writing.{write_on, fitting_size}
 
 -- ---- any place and any state id, where neither matters
@@ -42,13 +45,9 @@ some_id = record { seqid = 0; other = [] }
 
 -- ---- the node that is held
 
-pub held_node : (t : Rows) (i : Option Id) (h : Held) → IsHeld t (held_in t.nodes i) (Ok h) → (n : Node) × Holds t n h
-held_node t None h held = absurd held
-held_node t (Some i) h held = at (node_at t.nodes i) held
-  where
-    at : (o : Option Node) → IsHeld t (there o) (Ok h) → (n : Node) × Holds t n h
-    at (Some n) held = (n, held)
-    at None held = absurd held
+pub is_there : (t : Rows) (r : Result Node chain.Refusal) (h : Held) → IsHeld t r (Ok h) → IsThere t h
+is_there t (Ok n) h holds = (n, holds)
+is_there t (Err why) h holds = absurd holds
 
 pub found : (t : Rows) (n : Node) (h : Held) → Holds t n h → node_at t.nodes (id_of h.id) ≡ Some n
 found t n h holds = ap (λ (i : Id). node_at t.nodes i) holds.id ∙ holds.node_is
@@ -146,10 +145,11 @@ module _ (p : Place) (t u : Rows) (n : Node) (h : Held) (args : Arguments) (hold
 
 -- ---- the totals
 
-pub held_room : (rows : List Row) (t : Rows) (n : Node) (h : Held) (content : List ℕ) → Holds t n h → IsFile n content → (n.label < length rows → bytes_of n n.kind ≤ (row_at rows n.label).bytes) → h.facts.label.0 < length rows → length content ≤ (row_at rows h.facts.label.0).bytes
-held_room rows t n h content holds is law known =
-    subst (λ (l : ℕ). l < length rows → length content ≤ (row_at rows l).bytes) (sym holds.tells.label)
-    (λ below. let same : bytes_of n n.kind ≡ length content = file_bytes n content is in let enough : bytes_of n n.kind ≤ (row_at rows n.label).bytes = law below in omega arith) known
+-- what is told of the label and of the bytes of a node that is held is counted
+pub is_counted : (rows : List Row) (t : Rows) (n : Node) (h : Held) (bytes : ℕ) → Holds t n h → bytes_of n n.kind ≡ bytes → AreBytesHeld rows n.label (bytes_of n n.kind) → AreBytesHeld rows h.facts.label.0 bytes
+is_counted rows t n h bytes holds same law =
+    subst (λ (x : ℕ). AreBytesHeld rows h.facts.label.0 x) same
+    (subst (λ (l : ℕ). AreBytesHeld rows l (bytes_of n n.kind)) (sym holds.tells.label) law)
 
 -- the size, by the data as it is told
 pub fits_so : (offset : ℕ) (bytes content inner : List ℕ) (x : ℕ) → content ≡ inner → Some x ≡ fitting_size (size_written offset bytes content) → (nat_le (size_written offset bytes inner) MOST_FILE ≡ true) × (x ≡ size_written offset bytes inner)

@@ -17,7 +17,7 @@ use Rattle.lnfs_operations.specs.Handles.{with_current}
 use Rattle.lnfs_operations.specs.NewNames.{where_directory}
 use Rattle.lnfs_operations.specs.Files.{where_file}
 use Rattle.lnfs_operations.specs.Given.{where_values, where_mode, where_label, set_of}
-use Rattle.lnfs_operations.specs.StateIds.{has_any}
+use Rattle.lnfs_world.specs.Opens.{has_any}
 use Rattle.lnfs_operations.specs.Open.{Arguments, Opened, Wanted, access_of, is_of_handle, gives_size, is_no_size, where_shared, may_be_there, conflicts}
 use Rattle.lnfs_tree.specs.Rows.{Rows}
 use Rattle.lnfs_tree.specs.Changed.{ran}

@@ -9,9 +9,8 @@ use Rattle.lnfs_world.specs.Outcome.{Site, Place, Outcome}
 use Rattle.lnfs_operations.specs.declared.Gate.TheVariants.{Namespace}
 use Rattle.lnfs_operations.specs.Chain.{Answer}
 use Rattle.lnfs_operations.specs.Chain as chain
-use Rattle.lnfs_operations.specs.Given.{GivenLabel}
 use Rattle.lnfs_operations.specs.Lookup.{is_link}
-use Rattle.lnfs_operations.specs.SetAttr.{label_set, values_set}
+use Rattle.lnfs_operations.specs.SetAttr.{set_on}
 use Rattle.lnfs_nodes.specs.GivenValues.{Wanted}
 
 -- a size is that of a file
@@ -25,9 +24,5 @@ size_refusal sized kind =
 abbrev pub unlabelled : (size mode : Option ℕ) → AttrSet
 unlabelled size mode = record { size = size; mode = mode; label = None }
 
-abbrev pub label_or_values : Site → StateId → Place → World → Node → AttrSet → Option GivenLabel → (set : Bitmap) → Outcome (Answer Bitmap)
-label_or_values site id p w n values None set = values_set site id p w n values set
-label_or_values site id p w n values (Some given) set = label_set site p w n given set
-
 abbrev pub wanted_done : Site → StateId → Place → World → Node → Wanted → (set : Bitmap) → Outcome (Answer Bitmap)
-wanted_done site id p w n x set = label_or_values site id p w n (unlabelled x.size x.mode) x.label set
+wanted_done site id p w n x set = set_on site id p w n (unlabelled x.size x.mode) x.label set

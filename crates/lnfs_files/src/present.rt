@@ -1,32 +1,28 @@
 //! OPEN of a file that is there.
-ghost use Rattle.std.specs.Prelude.{◌≡◌, [], ◌∷◌, Some, IfOk, OnErr};
-ghost use Rattle.lnfs_world.specs.World.{File, Node, World};
-ghost use Rattle.lnfs_world.specs.Change.{Touch};
-ghost use Rattle.lnfs_world.specs.Effects.{data_changed};
+ghost use Rattle.std.specs.Prelude.{◌≡◌, Some, IfOk, OnErr};
+ghost use Rattle.lnfs_world.specs.World.{Node, World};
 ghost use Rattle.lnfs_world.specs.Outcome.{Place};
 ghost use Rattle.lnfs_site.specs.Site.{site_of};
 ghost use Rattle.lnfs_operations.specs.Open as operation;
-ghost use Rattle.lnfs_tree.specs.Rows.{id_of, kind_of};
-ghost use Rattle.lnfs_tree.specs.Changed.{ran};
+ghost use Rattle.lnfs_tree.specs.Rows.{id_of};
 ghost use Rattle.lnfs_nodes.specs.Trees.{Holds};
 ghost use Rattle.lnfs_nodes.specs.Acts.{placed};
 ghost use Rattle.lnfs_quota.specs.Totals.{AreTotals};
 ghost use Rattle.lnfs_files.specs.Worlds.{with_files};
 ghost use Rattle.lnfs_files.specs.Acts.{ActsTo};
 ghost use Rattle.lnfs_files.specs.Openings.{args_of, wanted_of, opened_of, IsThere};
-ghost use Rattle.lnfs_files.specs.Charges.{MayResize};
 
 use crate::asked::Opening;
 use crate::charging::byte_room;
 use crate::opened::{Opened, cut_set, state_id_of};
 use crate::references::node_key;
 use crate::sharing::check_openable;
+use crate::values::put_size;
 use crate::wanted::Wanted;
 use lnfs_arguments::Cinfo;
 use lnfs_nodes::{Caller, Held, no_space};
 use lnfs_open::{ClientKey, OpenError, Opens};
 use lnfs_operations::Refusal;
-use lnfs_outside::Moment;
 use lnfs_quota::{Quota, totals};
 use lnfs_site::Site;
 use lnfs_tree::Tree;
@@ -41,23 +37,6 @@ pub struct Opener<'a> {
     /// Of the subject's level.
     pub client: ClientKey,
     pub args: &'a Opening<'a>,
-}
-
-/// Cuts a file, and takes its bytes from the total of its level.
-fn cut(tree: &mut Tree, quota: &mut Quota, held: &Held, moment: Moment)
-    requires there { IsThere tree.old held.now }
-    requires file { kind_of held.now.facts.kind ≡ File }
-    requires may { MayResize quota.old held.now.facts.label.0 held.now.facts.size 0 }
-    requires counts { AreTotals quota.old tree.old.nodes }
-    ensures cut { (n : Node) → Holds tree.old n held.now → tree.new ≡ ran (Touch n.id (data_changed moment [] n.inner) ∷ []) tree.old }
-    ensures counts { AreTotals quota.new tree.new.nodes }
-{
-    totals();
-    // The file is there, so that it can be cut.
-    let Ok(()) = tree.set_size(held.id, 0, moment) else {
-        return;
-    };
-    quota.resize(held.facts.label, held.facts.size, 0);
 }
 
 /// Opens a file that is there. It is cut where a size was given. `info` is what is told of the directory of its name.
@@ -110,7 +89,7 @@ pub fn open_present(
         },
     };
     if sized {
-        cut(tree, quota, held, caller.moment);
+        put_size(tree, quota, held, 0, caller.moment);
     }
     Ok(Ok(Opened {
         id: state_id_of(id),

@@ -5,9 +5,10 @@ ghost use Rattle.lnfs_attrs.specs.declared.bitmap.Bitmap as bitmap;
 ghost use Rattle.lnfs_monitor.specs.Rules.{Write};
 ghost use Rattle.lnfs_world.specs.World.{File, Node, World, node_at};
 ghost use Rattle.lnfs_world.specs.Change.{Touch, apply_all};
+ghost use Rattle.lnfs_world.specs.Effects.{sized, data_changed};
 ghost use Rattle.lnfs_world.specs.Outcome.{Place};
 ghost use Rattle.lnfs_site.specs.Site.{site_of};
-ghost use Rattle.lnfs_operations.specs.SetAttr.{where_size, size_set, mode_set, values_written, values_set};
+ghost use Rattle.lnfs_operations.specs.SetAttr.{where_size, mode_set, values_written, values_set};
 ghost use Rattle.lnfs_quota.specs.declared.quota.Row.{Row};
 ghost use Rattle.lnfs_quota.specs.Totals.{AreTotals};
 ghost use Rattle.lnfs_tree.specs.Rows.{id_of, kind_of};
@@ -20,6 +21,7 @@ ghost use Rattle.lnfs_files.specs.Worlds.{with_files};
 ghost use Rattle.lnfs_files.specs.Acts.{Acts};
 ghost use Rattle.lnfs_files.specs.Tests.{passed, refusal_in};
 ghost use Rattle.lnfs_files.specs.Charges.{MayResize};
+ghost use Rattle.lnfs_files.specs.Openings.{IsThere};
 ghost use Rattle.lnfs_files.specs.Setting.{unlabelled};
 
 use crate::charging::byte_room;
@@ -32,6 +34,7 @@ use lnfs_monitor::Question;
 use lnfs_nodes::{Caller, Held, denied, namespace};
 use lnfs_open::Opens;
 use lnfs_operations::Refusal;
+use lnfs_outside::Moment;
 use lnfs_quota::{Quota, totals};
 use lnfs_site::Site;
 use lnfs_tree::{NodeId, Tree};
@@ -132,21 +135,21 @@ fn check_given(
 // ---- what is done
 
 /// Sets the size of a file, which may have so many bytes.
-fn put_size(tree: &mut Tree, quota: &mut Quota, caller: &Caller, held: &Held, size: u64)
+pub(crate) fn put_size(tree: &mut Tree, quota: &mut Quota, held: &Held, size: u64, moment: Moment)
     requires counts { AreTotals quota.old tree.old.nodes }
-    requires held { IsHeld tree.old (held_in tree.old.nodes (option_map id_of caller.now.current)) (Ok held.now) }
+    requires there { IsThere tree.old held.now }
     requires file { kind_of held.now.facts.kind ≡ File }
     requires fits { size ≤ MOST_FILE }
     requires resizes { MayResize quota.old held.now.facts.label.0 held.now.facts.size size }
-    ensures done { (n : Node) (p : Place) → Holds tree.old n held.now →
-        tree.new ≡ ran (Touch n.id (size_set (placed p caller.now) n (Some size)) ∷ []) tree.old }
+    ensures done { (n : Node) → Holds tree.old n held.now →
+        tree.new ≡ ran (Touch n.id (data_changed moment (sized size n.inner.content) n.inner) ∷ []) tree.old }
     ensures counts { AreTotals quota.new tree.new.nodes }
     ensures levels { length quota.new ≡ length quota.old }
 {
     // The call says what a change of a file's bytes does to the totals.
     totals();
     // The file is there and may have so many bytes, so that there is no error.
-    let _done = tree.set_size(held.id, size, caller.moment);
+    let _done = tree.set_size(held.id, size, moment);
     quota.resize(held.facts.label, held.facts.size, size);
 }
 
@@ -183,7 +186,7 @@ fn put_values(
     ensures levels { length quota.new ≡ length quota.old }
 {
     if let Some(size) = size {
-        put_size(tree, quota, caller, held, size);
+        put_size(tree, quota, held, size, caller.moment);
     }
     if let Some(mode) = mode {
         put_mode(tree, caller, held.id, mode);

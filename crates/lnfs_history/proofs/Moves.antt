@@ -158,6 +158,20 @@ parts id log made link es s h at =
       none = h.none;
     }
 
+-- a seat has another view, which fits the history as it is
+in_place : (id : ℕ) (w : View) (s now : Table) (h : Kept s) → now.views ≡ set s.views id w → Fits h.seat h.log h.made h.seat_of id w → Kept now
+in_place id w s now h is fits = record {
+  seat = h.seat;
+  log = h.log;
+  made = h.made;
+  seat_of = h.seat_of;
+  fits = λ by u there. ⊎_elim
+      (λ (x : (by ≡ id) × (w ≡ u)). fits_as h.seat h.log h.made h.seat_of by id u w x.0 x.1 fits)
+      (λ (x : (by ≢ id) × (get_elem? s.views by ≡ some u)). h.fits by u x.1)
+      (at_set s.views id by w u (subst (λ (vs : List View). get_elem? vs by ≡ some u) is there));
+  none = h.none;
+}
+
 pub learns : (slots id : ℕ) (log : List Entry) (made link : ℕ) (es : List Entry)
     → Allows Kept slots id (view_of true log made true link es, []) 0 (λ n. n) (Learned (step slots 0 0 0 none) (view_of true log made true link es, []))
 learns slots id log made link es s h long at small =
@@ -168,17 +182,7 @@ learns slots id log made link es s h long at small =
       w,
       keeps,
       tt,
-      record {
-        seat = h.seat;
-        log = h.log;
-        made = h.made;
-        seat_of = h.seat_of;
-        fits = λ by u there. ⊎_elim
-            (λ (x : (by ≡ id) × (w ≡ u)). fits_as h.seat h.log h.made h.seat_of by id u w x.0 x.1 (record { keeps = λ _. m; has = λ k. absurd (off k) }))
-            (λ (x : (by ≢ id) × (get_elem? s.views by ≡ some u)). h.fits by u x.1)
-            (at_set s.views id by w u there);
-        none = h.none;
-      },
+      in_place id w s _ h refl (record { keeps = λ _. m; has = λ k. absurd (off k) }),
       (
         refl,
         λ _. (had.1 ∙ ap (of link) (sym m.1), subst (λ (k : ℕ). link < k) (sym m.2) had.2),
@@ -194,17 +198,7 @@ looks slots id log made s h long at small =
       w,
       keeps,
       tt,
-      record {
-        seat = h.seat;
-        log = h.log;
-        made = h.made;
-        seat_of = h.seat_of;
-        fits = λ by u there. ⊎_elim
-            (λ (x : (by ≡ id) × (w ≡ u)). fits_as h.seat h.log h.made h.seat_of by id u w x.0 x.1 (record { keeps = λ _. m; has = λ k. absurd (off k) }))
-            (λ (x : (by ≢ id) × (get_elem? s.views by ≡ some u)). h.fits by u x.1)
-            (at_set s.views id by w u there);
-        none = h.none;
-      },
+      in_place id w s _ h refl (record { keeps = λ _. m; has = λ k. absurd (off k) }),
       (
         refl,
         λ k. absurd (off k),

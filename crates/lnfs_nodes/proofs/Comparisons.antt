@@ -12,26 +12,23 @@ use Rattle.lnfs_world.specs.Outcome.{Site, Place, Outcome}
 use Rattle.lnfs_operations.specs.declared.Gate.TheVariants.{Argument, Namespace}
 use Rattle.lnfs_operations.specs.declared.Refusal.{Refusal}
 use Rattle.lnfs_operations.specs.Chain.{Answer, Done, Refused, refuse, demand, done}
-use Rattle.lnfs_operations.specs.Chain as chain
 use Rattle.lnfs_operations.specs.Judged.{where_asked}
 use Rattle.lnfs_operations.specs.Handles.{with_current}
 use Rattle.lnfs_operations.specs.Shown.{shown, asks_inner}
 use Rattle.lnfs_operations.specs.GetAttr.{is_supported, compared, verify, nverify}
 use Rattle.lnfs_nodes.specs.Trees.{refusal_of, stays}
+use Rattle.lnfs_nodes.specs.GivenValues.{argument}
 use Rattle.lnfs_nodes.specs.Comparing.{given_refusal, where_compared}
 use Rattle.lnfs_nodes.proofs.Refusing.{refused_as}
 
-abbrev refusal : ℕ → chain.Refusal
-refusal status = record { gate = Argument; status = status }
-
 -- two tests of which the first that fails decides
-by_tests : {R : Type 0} (p : Place) (a b : Bool) (s t : ℕ) (next : Outcome (Answer R)) (why : Refusal) → Some (refusal_of why) ≡ cond a (cond b (Some (refusal t)) None) (Some (refusal s))
+by_tests : {R : Type 0} (p : Place) (a b : Bool) (s t : ℕ) (next : Outcome (Answer R)) (why : Refusal) → Some (refusal_of why) ≡ cond a (cond b (Some (argument t)) None) (Some (argument s))
     → demand a (refuse p Argument s) (demand (not b) (refuse p Argument t) next) ≡ refuse p why.gate why.status
-by_tests p true true s t next why e = refused_as p why (refusal t) cc
+by_tests p true true s t next why e = refused_as p why (argument t) cc
 by_tests p true false s t next why e = cc
-by_tests p false b s t next why e = refused_as p why (refusal s) cc
+by_tests p false b s t next why e = refused_as p why (argument s) cc
 
-no_tests : {R : Type 0} (p : Place) (a b : Bool) (s t : ℕ) (next : Outcome (Answer R)) → None ≡ cond a (cond b (Some (refusal t)) None) (Some (refusal s)) → demand a (refuse p Argument s) (demand (not b) (refuse p Argument t) next) ≡ next
+no_tests : {R : Type 0} (p : Place) (a b : Bool) (s t : ℕ) (next : Outcome (Answer R)) → None ≡ cond a (cond b (Some (argument t)) None) (Some (argument s)) → demand a (refuse p Argument s) (demand (not b) (refuse p Argument t) next) ≡ next
 no_tests p true true s t next e = cc
 no_tests p true false s t next e = refl
 no_tests p false b s t next e = cc

@@ -1,5 +1,5 @@
 -- The node of a file handle, by what the code holds of it.
-use Rattle.std.proofs.Common.{◌≡◌, refl, ap, sym, ◌∙◌, ℕ, Bool, true, false, cond, List, [], Option, Some, None, Ok}
+use Rattle.std.proofs.Common.{◌≡◌, refl, ap, sym, ◌∙◌, ℕ, Bool, true, false, cond, List, [], Option, Some, None, Ok, subst}
 use Rattle.lnfs_world.specs.World.{Id, Node, World, node_at}
 use Rattle.lnfs_world.specs.Outcome.{Site, Place, Outcome}
 use Rattle.lnfs_world.proofs.Seen.{node_at-id}
@@ -16,15 +16,19 @@ use Rattle.lnfs_tree.specs.declared.node.Facts.{Facts}
 use Rattle.lnfs_nodes.specs.Trees.{with_tree, there, held_in, Holds, IsHeld}
 use Rattle.lnfs_nodes.specs.declared.held.Held.{Held}
 
--- what a tree tells of a node is held of it
-pub told_held : (t : Rows) (i : NodeId) (f : Facts) → IsTold t.entries (node_at t.nodes (id_of i)) (Some f) → IsHeld t (there (node_at t.nodes (id_of i))) (Ok (record { id = i; facts = f }))
-told_held t i f told = at (node_at t.nodes (id_of i)) refl told
+-- the node that a tree tells of
+pub told_node : (t : Rows) (i : NodeId) (f : Facts) → IsTold t.entries (node_at t.nodes (id_of i)) (Some f) → (n : Node) × (node_at t.nodes (id_of i) ≡ Some n) × Holds t n (record { id = i; facts = f })
+told_node t i f told = at (node_at t.nodes (id_of i)) refl told
   where
-    at : (x : Option Node) → node_at t.nodes (id_of i) ≡ x → IsTold t.entries x (Some f) → IsHeld t (there x) (Ok (record { id = i; facts = f }))
+    at : (x : Option Node) → node_at t.nodes (id_of i) ≡ x → IsTold t.entries x (Some f) → (n : Node) × (x ≡ Some n) × Holds t n (record { id = i; facts = f })
     at (Some n) e told =
         let same : n.id ≡ id_of i = node_at-id (id_of i) t.nodes n e in
-        record { id = sym same; node_is = ap (node_at t.nodes) same ∙ e; tells = told }
+        (n, refl, record { id = sym same; node_is = ap (node_at t.nodes) same ∙ e; tells = told })
     at None e told = absurd told
+
+-- what is told of it is held
+pub told_held : (t : Rows) (i : NodeId) (f : Facts) → IsTold t.entries (node_at t.nodes (id_of i)) (Some f) → IsHeld t (there (node_at t.nodes (id_of i))) (Ok (record { id = i; facts = f }))
+told_held t i f told = let x = told_node t i f told in subst (λ (o : Option Node). IsHeld t (there o) (Ok (record { id = i; facts = f }))) (sym x.1) x.2
 
 -- a node that is told of becomes the current one
 pub told_there : (p : Place) (absent : Outcome (Answer (Unit {0}))) (t : Rows) (i : Id) (f : Facts) → IsTold t.entries (node_at t.nodes i) (Some f) → where_there (node_at t.nodes i) (λ n. done (record p { current = Some n.id }) tt []) absent ≡ done (record p { current = Some i }) tt []

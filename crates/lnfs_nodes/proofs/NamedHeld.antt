@@ -1,24 +1,18 @@
 -- The node of a name in a directory, by what the code finds of it.
-use Rattle.std.proofs.Common.{◌≡◌, refl, ap, sym, ◌∙◌, ℕ, true, List, Option, Some, None, Ok, subst, option_map, arith}
+use Rattle.std.proofs.Common.{◌≡◌, sym, ◌∙◌, ℕ, true, List, Option, Some, None, Ok, subst, option_map, arith}
 use Rattle.lnfs_world.specs.World.{Id, Node, Entry, node_at, is_directory}
 use Rattle.lnfs_world.specs.Names.{entry_at}
-use Rattle.lnfs_world.proofs.Seen.{node_at-id}
 use Rattle.lnfs_tree.specs.declared.node.NodeId.{NodeId}
 use Rattle.lnfs_tree.specs.declared.node.Facts.{Facts}
 use Rattle.lnfs_tree.specs.Rows.{Rows, id_of, IsTold, or_absent, looked_up}
 use Rattle.lnfs_nodes.specs.Trees.{Holds, IsHeld}
+use Rattle.lnfs_nodes.proofs.Found.{told_node}
 use Rattle.lnfs_nodes.specs.Told.{found_at, entered_at, named}
 use Rattle.lnfs_nodes.specs.declared.held.Held.{Held}
 
 -- what a tree tells of the node of an entry
 found_held : (t : Rows) (i : NodeId) (f : Facts) → IsTold t.entries (node_at t.nodes (id_of i)) (Some f) → IsHeld t (found_at (node_at t.nodes (id_of i))) (Ok (record { id = i; facts = f }))
-found_held t i f told = at (node_at t.nodes (id_of i)) refl told
-  where
-    at : (x : Option Node) → node_at t.nodes (id_of i) ≡ x → IsTold t.entries x (Some f) → IsHeld t (found_at x) (Ok (record { id = i; facts = f }))
-    at (Some n) e told =
-        let same : n.id ≡ id_of i = node_at-id (id_of i) t.nodes n e in
-        record { id = sym same; node_is = ap (node_at t.nodes) same ∙ e; tells = told }
-    at None e told = absurd told
+found_held t i f told = let x = told_node t i f told in subst (λ (o : Option Node). IsHeld t (found_at o) (Ok (record { id = i; facts = f }))) (sym x.1) x.2
 
 module _ (t : Rows) (d : Node) (h : Held) (holds : Holds t d h) (dir : is_directory d.kind ≡ true) (name : List ℕ) where
   -- a look-up in a directory that is held

@@ -18,7 +18,7 @@ use Rattle.lnfs_tree.specs.Rows.{Rows, kind_of}
 use Rattle.lnfs_tree.specs.Changed.{Doing, Gone, gone}
 use Rattle.lnfs_nodes.specs.Refusals.{name_refusal}
 
-abbrev refusal : Gate → ℕ → chain.Refusal
+abbrev pub refusal : Gate → ℕ → chain.Refusal
 refusal gate status = record { gate = gate; status = status }
 
 -- What a tree's error refuses. Want of memory is told otherwise.

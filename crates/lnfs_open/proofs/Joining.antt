@@ -8,7 +8,8 @@ use Rattle.lnfs_counts.proofs.Rows.{each_at}
 use Rattle.lnfs_open.specs.declared.keys.OpenRef.{OpenRef}
 use Rattle.lnfs_open.specs.Lists.{Lists}
 use Rattle.lnfs_open.specs.Listed.{open_id}
-use Rattle.lnfs_open.specs.Opening.{Wish, own_open, sequence_after, joined, rows_set, IsJoined, new_open}
+use Rattle.lnfs_world.specs.Opens.{joined, sequence_after}
+use Rattle.lnfs_open.specs.Opening.{Wish, own_open, rows_set, IsJoined, new_open}
 use Rattle.lnfs_world.specs.Facts.{same_opening}
 use Rattle.lnfs_open.specs.Indexed.{own_id, open_at, Index, IsIndexed}
 use Rattle.lnfs_open.proofs.Indexing.{set}

@@ -9,14 +9,15 @@ use Rattle.std.proofs.lemmas.Nat.{and_comm}
 use Rattle.lnfs_world.specs.Rows.{Rising}
 use Rattle.lnfs_world.specs.World.{Id, Open, open_order, same_id}
 use Rattle.lnfs_world.proofs.Rows.{all_weaker, any_row, any_found}
-use Rattle.lnfs_world.proofs.Keys.{id_same, id_itself}
+use Rattle.lnfs_world.proofs.Keys.{same_truth, id_same, id_itself}
 use Rattle.lnfs_counts.proofs.Rows.{each_at}
 use Rattle.lnfs_open.specs.declared.groups.Groups.{Groups}
 use Rattle.lnfs_open.specs.declared.groups.Place.{Place}
 use Rattle.lnfs_open.specs.Listed.{id_of}
 use Rattle.lnfs_open.specs.Groups.{place_cmp, place_of, holds}
 use Rattle.lnfs_open.specs.Indexed.{own_id, open_at, passes}
-use Rattle.lnfs_open.specs.Sharing.{has_any, conflicts, is_denied}
+use Rattle.lnfs_world.specs.Opens.{has_any}
+use Rattle.lnfs_open.specs.Sharing.{conflicts, is_denied}
 use Rattle.lnfs_open.proofs.Places.{place_same}
 use Rattle.lnfs_open.proofs.Runs.{Places}
 
@@ -51,11 +52,6 @@ among t p passes (e ∷ es) there = by (is_eq (place_cmp p e.0)) refl there (amo
         let here : t e.0 ≡ true = (λ i. t (place_of (sym group i) (sym own i))) ∙ passes in
         grind (arith, here)
     by false is there rest = grind (arith, rest there)
-
-same_truth : (a b : Bool) → (a ≡ true → b ≡ true) → (b ≡ true → a ≡ true) → a ≡ b
-same_truth true b f g = sym (f refl)
-same_truth false true f g = g refl
-same_truth false false f g = refl
 
 module _ (opens : List Open) (rise : Rising open_order opens) (nodes : Groups) (told : (n i : Id) → holds nodes n i ≡ passes (λ o. same_id n o.node) (open_at opens i)) (node : Id) (t : Open → Bool) where
   from_places : list_any (λ e. same_id node (id_of e.0.group) && passes t (open_at opens (id_of e.0.id))) nodes.places.entries ≡ true → list_any (λ o. same_id node o.node && t o) opens ≡ true

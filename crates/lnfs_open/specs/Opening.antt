@@ -1,12 +1,13 @@
 -- An open of a file is made, joined, found and ended (RFC 8881 sections 8.2.2, 9.1, 18.2 and 18.16).
-use Rattle.std.specs.Prelude.{◌≡◌, ℕ, ◌+◌, ◌==◌, ◌&&◌, ◌||◌, Bool, cond, List, Option, Some, None, Result, Ok, Err, count_by, nat_le, nat_lt, bit_or, if◌then◌else◌}
+use Rattle.std.specs.Prelude.{◌≡◌, ℕ, ◌==◌, ◌&&◌, ◌||◌, Bool, cond, List, Option, Some, None, Result, Ok, Err, count_by, nat_le, nat_lt, if◌then◌else◌}
 use Rattle.std.specs.List.{find}
 use Rattle.lnfs_world.specs.Rows.{inserted}
 use Rattle.lnfs_world.specs.World.{Id, Open, open_order, same_id}
 use Rattle.lnfs_world.specs.Change.{Change, AddOpen, SetOpen, EndOpen}
 use Rattle.lnfs_world.specs.Facts.{same_opening}
 use Rattle.lnfs_world.specs.Effects.{has_number, next_id}
-use Rattle.lnfs_world.specs.declared.numbers.TheConstants.{OPENS_OF_A_LEVEL, LAST_SEQUENCE}
+use Rattle.lnfs_world.specs.Opens.{joined}
+use Rattle.lnfs_world.specs.declared.numbers.TheConstants.{OPENS_OF_A_LEVEL}
 use Rattle.lnfs_open.specs.declared.keys.OpenRef.{OpenRef}
 use Rattle.lnfs_open.specs.declared.keys.OpenError.{OpenError}
 use Rattle.lnfs_open.specs.declared.keys.OpenError.TheVariants.{Full, Bad, Old, Memory}
@@ -39,14 +40,6 @@ new_open s wish = record {
 -- what the client and the owner have open of the node already
 abbrev pub own_open : Lists → Wish → Option Open
 own_open s wish = find (same_opening (new_open s wish)) s.opens
-
--- A sequence of a state id doesn't come to 0 again (RFC 8881 section 8.2.2).
-abbrev pub sequence_after : ℕ → ℕ
-sequence_after sequence = cond (sequence == LAST_SEQUENCE) 1 (sequence + 1)
-
--- with what is asked in addition
-abbrev pub joined : (access deny : ℕ) → Open → Open
-joined access deny o = record o { access = bit_or o.access access; deny = bit_or o.deny deny; sequence = sequence_after o.sequence }
 
 -- the opens after one of them, where it is there, has another state
 abbrev pub rows_set : (Open → Open) → Option Open → List Open → List Open

@@ -1,13 +1,11 @@
 -- Share reservations (RFC 8881 section 9.7).
-use Rattle.std.specs.Prelude.{ℕ, ◌==◌, ◌&&◌, ◌||◌, Bool, false, not, List, Option, Some, None, bit_and}
+use Rattle.std.specs.Prelude.{ℕ, ◌&&◌, ◌||◌, Bool, false, not, List, Option, Some, None}
 use Rattle.std.specs.List.{list_any}
 use Rattle.lnfs_world.specs.World.{Id, Open, same_id}
 use Rattle.lnfs_world.specs.Facts.{same_opening}
+use Rattle.lnfs_world.specs.Opens.{has_any}
 use Rattle.lnfs_open.specs.Lists.{no_lists}
 use Rattle.lnfs_open.specs.Opening.{new_open}
-
-abbrev pub has_any : (bits others : ℕ) → Bool
-has_any bits others = not (bit_and bits others == 0)
 
 -- whether an open of a node is that of a client and an owner
 abbrev pub is_own : Option (Id × List ℕ) → (node : Id) → Open → Bool

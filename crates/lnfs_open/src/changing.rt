@@ -6,7 +6,8 @@ ghost use Rattle.lnfs_world.specs.Effects.{next_id};
 ghost use Rattle.lnfs_world.specs.Facts.{same_opening};
 ghost use Rattle.lnfs_open.specs.Lists.{ran};
 ghost use Rattle.lnfs_open.specs.Listed.{id_of, client_id, node_id, open_id, row_of};
-ghost use Rattle.lnfs_open.specs.Opening.{own_open, has_open_left, opened_of, opened_by, rows_set, joined, IsJoined, Does, found_of, ended_of, Ends};
+ghost use Rattle.lnfs_world.specs.Opens.{joined};
+ghost use Rattle.lnfs_open.specs.Opening.{own_open, has_open_left, opened_of, opened_by, rows_set, IsJoined, Does, found_of, ended_of, Ends};
 
 use crate::finder::Filing;
 use crate::keys::{ClientKey, Key, NodeKey, OpenError, OpenRef, OpenRow};

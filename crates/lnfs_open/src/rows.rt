@@ -3,7 +3,8 @@ ghost use Rattle.std.specs.Prelude.{◌≡◌, ◌&&◌, true, not, OnOk, OnErr,
 ghost use Rattle.lnfs_world.specs.Rows.{inserted};
 ghost use Rattle.lnfs_world.specs.World.{open_order, same_id};
 ghost use Rattle.lnfs_open.specs.Listed.{id_of, client_id, node_id, row_of, open_of, AreOwn};
-ghost use Rattle.lnfs_open.specs.Opening.{sequence_after, joined, rows_set};
+ghost use Rattle.lnfs_world.specs.Opens.{joined, sequence_after};
+ghost use Rattle.lnfs_open.specs.Opening.{rows_set};
 ghost use Rattle.lnfs_open.specs.Indexed.{open_at};
 
 use crate::keys::{ClientKey, Key, NodeKey, OpenRow};

@@ -4,7 +4,8 @@ ghost use Rattle.std.specs.List.{list_any};
 ghost use Rattle.lnfs_world.specs.World.{same_id};
 ghost use Rattle.lnfs_calipso.specs.Label.{dom_of};
 ghost use Rattle.lnfs_open.specs.Listed.{id_of, client_id, node_id, row_of, open_of, owner_of, AreOwn};
-ghost use Rattle.lnfs_open.specs.Sharing.{has_any, is_own, stands_in_way};
+ghost use Rattle.lnfs_world.specs.Opens.{has_any};
+ghost use Rattle.lnfs_open.specs.Sharing.{is_own, stands_in_way};
 ghost use Rattle.lnfs_open.specs.Indexed.{open_at, passes};
 
 use crate::groups::{Groups, front};

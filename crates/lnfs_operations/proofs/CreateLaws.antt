@@ -1,7 +1,6 @@
 -- What CREATE looks at, and what it changes: a directory whose label is the subject's, and a new node in it.
-use Rattle.std.proofs.Common.{◌≡◌, ◌+◌, ℕ, Bool, true, not, ◌&&◌, List, [], ◌∷◌, length, Option, Some, None, refl, sym, ap, ◌∙◌, arith}
+use Rattle.std.proofs.Common.{◌≡◌, ◌+◌, ℕ, true, not, ◌&&◌, List, length, Option, Some, None, refl, sym, ap, ◌∙◌, arith}
 use Rattle.std.specs.Prelude.{◌==◌, is_some, nat_le, nat_lt}
-use Rattle.std.specs.Option.{option_map}
 use Rattle.std.proofs.lemmas.Bool.Decides.{nat_tests}
 use Rattle.lnfs_words.specs.Words.{is_empty}
 use Rattle.lnfs_calipso.specs.Label.{IsPreorderWithBottom}
@@ -14,17 +13,12 @@ use Rattle.lnfs_world.specs.declared.numbers.TheConstants.{LAST_NUMBER}
 use Rattle.lnfs_world.specs.World.{Node, Entry, World, node_at, is_directory}
 use Rattle.lnfs_world.specs.Names.{entry_at}
 use Rattle.lnfs_world.specs.Erased.{erased}
-use Rattle.lnfs_world.specs.Change.{Touch, Make}
-use Rattle.lnfs_outside.specs.declared.event.Moment.{Moment}
-use Rattle.lnfs_world.specs.Effects.{name_added, next_entry, has_cookie, next_id}
-use Rattle.lnfs_world.specs.Facts.{Facts, cookies_at}
-use Rattle.lnfs_world.specs.Within.{is_new, is_within, all_within}
+use Rattle.lnfs_world.specs.Effects.{has_cookie, next_id}
 use Rattle.lnfs_world.specs.Outcome.{Site, Place, Outcome, Stands, View, Footprint, IsFootprint, done_to, is_place}
-use Rattle.lnfs_world.proofs.Keys.{id_itself}
-use Rattle.lnfs_world.proofs.Seen.{node_at-id, shrunk_whole, label_of-found, sees_node, entry_at-seen}
+use Rattle.lnfs_world.proofs.Seen.{node_at-id, shrunk_whole, sees_node, entry_at-seen}
 use Rattle.lnfs_world.proofs.Views.{last_of-seen}
 use Rattle.lnfs_world.proofs.Usage.{nodes_used-seen}
-use Rattle.lnfs_world.proofs.NewNames.{next_added}
+use Rattle.lnfs_world.proofs.NewNames.{made_within}
 use Rattle.lnfs_world.proofs.Places.{place_stays}
 use Rattle.lnfs_operations.specs.declared.Gate.{Gate}
 use Rattle.lnfs_operations.specs.declared.Gate.TheVariants.{Namespace, Quota}
@@ -102,16 +96,6 @@ create_any P site what name given p w refused told =
     told values label d read as_given (record { found = ap (node_at w.nodes) (node_at-id i w.nodes d found) ∙ found; text = short; directory = directory; own = own; rises = rises; new = new; room = room }))))))))))))))
 
 -- ---- what is changed
-
-pub made_within : (dom : ℕ → ℕ → Bool) (s : ℕ) (w : World) (facts : Facts dom w) (d n : Node) (name : List ℕ) (moment : Moment) → node_at w.nodes d.id ≡ Some d → is_directory d.kind ≡ true → d.label ≡ s → n.id ≡ next_id w.lasts.nodes s → dom n.label s ≡ true → entry_at w.entries d.id name ≡ None →
-    all_within dom s w (Touch d.id (name_added moment d.inner) ∷ Make n (next_entry d name n.id) ∷ []) ≡ true
-made_within dom s w facts d n name moment found directory own id rises new =
-    let label = label_of-found d.id w.nodes d found in
-    let cookies : cookies_at w.nodes d.id ≡ Some d.inner.cookies = ap (option_map (λ m. m.inner.cookies)) found in
-    let adds = next_added dom s w facts d found own (name_added moment d.inner) refl name n.id directory new in
-    let next : is_new s w.lasts.nodes n.id ≡ true = grind (arith, nat_tests, id) in
-    let touch : is_within dom s w (Touch d.id (name_added moment d.inner)) ≡ true = grind (arith, nat_tests, own, label, cookies) in
-    λ k. touch k && ((next k && (rises k && (id_itself n.id k && adds k))) && true)
 
 pub create_footprint : (site : Site) → IsPreorderWithBottom site.dom → (what : What) (name : List ℕ) (given : RawAttrs) → Footprint site.dom (create site what name given)
 create_footprint site lattice what name given p w stands = create_any (IsFootprint site.dom p w) site what name given p w (λ gate status. unchanged_footprint site.dom p w stands _) (λ values label d read as_given may.

@@ -2,13 +2,12 @@
 use Rattle.std.proofs.Common.{◌≡◌, ℕ, ◌+◌, Bool, true, false, cond, ◌&&◌, List, [], ◌∷◌, ◌++◌, Option, Some, None, refl, sym, ap, ◌∙◌, subst, arith}
 use Rattle.std.specs.Prelude.{◌==◌, nat_lt}
 use Rattle.std.specs.List.{find}
-use Rattle.std.specs.Str.{bytes_eq}
 use Rattle.std.proofs.lemmas.Bool.Decides.{nat_tests}
 use Rattle.lnfs_outside.specs.declared.event.Moment.{Moment}
 use Rattle.lnfs_arguments.specs.declared.types.Op.TheVariants as ops
 use Rattle.lnfs_arguments.specs.declared.types.Compound.{Compound}
 use Rattle.lnfs_arguments.specs.declared.types.CreateSession.{CreateSession}
-use Rattle.lnfs_arguments.specs.declared.statuses.TheConstants.{NFS4ERR_NOT_ONLY_OP, NFS4ERR_STALE_CLIENTID, NFS4ERR_SEQ_FALSE_RETRY, NFS4ERR_SEQ_MISORDERED, NFS4ERR_TOOSMALL, NFS4ERR_NOSPC}
+use Rattle.lnfs_arguments.specs.declared.statuses.TheConstants.{NFS4ERR_NOT_ONLY_OP, NFS4ERR_STALE_CLIENTID, NFS4ERR_TOOSMALL, NFS4ERR_NOSPC}
 use Rattle.lnfs_monitor.specs.declared.rule.Rule.TheVariants.{M9}
 use Rattle.lnfs_world.specs.Rows.{inserted}
 use Rattle.lnfs_world.specs.World.{Id, Kept as Stored, Client, World, client_order, same_id, client_at, last_of}
@@ -21,10 +20,10 @@ use Rattle.lnfs_world.proofs.Keys.{id_itself}
 use Rattle.lnfs_world.proofs.KeptClients.{client_at-inserted}
 use Rattle.lnfs_operations.specs.declared.Gate.TheVariants as gates
 use Rattle.lnfs_operations.specs.declared.numbers.TheConstants.{SESSIONS_OF_A_LEVEL}
-use Rattle.lnfs_operations.specs.Chain.{Answer as Answered, refuse, done, demand, where_there}
+use Rattle.lnfs_operations.specs.Chain.{Answer as Answered, refuse, done, where_there}
 use Rattle.lnfs_operations.specs.ExchangeId.{dropped}
 use Rattle.lnfs_operations.specs.Identifiers.{client_named}
-use Rattle.lnfs_operations.specs.InOrder.{sequence_before, in_order}
+use Rattle.lnfs_operations.specs.InOrder.{sequence_before}
 use Rattle.lnfs_operations.specs.Keeping.{next_sequence, kept_of}
 use Rattle.lnfs_operations.specs.CreateSession.{Created, Again, granted_of, new_session, is_large_enough, is_replaced, sessions_of, made, created, create_session, is_next_of}
 use Rattle.lnfs_operations.specs.Sequence.{Sent}
@@ -34,11 +33,7 @@ use Rattle.lnfs_operations.specs.Served.{Keeper, Nowhere, Record, reply_of, unde
 use Rattle.lnfs_operations.specs.SlotRule.{Answer, Ran, followed, run_behind, run_all, kept_after, served}
 use Rattle.lnfs_operations.proofs.Chains.{demand_any}
 use Rattle.lnfs_operations.proofs.SessionLaws.{client_level}
-use Rattle.lnfs_operations.proofs.Retries.{created_again}
-
-chosen_true : {A : Type 0} (b : Bool) (x y : A) → b ≡ true → cond b x y ≡ x
-chosen_true true x y e = refl
-chosen_true false x y e = absurd (grind arith)
+use Rattle.lnfs_operations.proofs.Retries.{chosen_true, in_order_new, created_again}
 
 -- ---- sequences
 
@@ -47,13 +42,6 @@ before_next n = grind (arith, nat_tests)
 
 before_apart : (n : ℕ) → (n == sequence_before n) ≡ false
 before_apart n = grind (arith, nat_tests)
-
-in_order_new : {R : Type 0} (p : Place) (last next : ℕ) (o : Option Stored) (sequence : ℕ) (arguments : List ℕ) (again : List ℕ → Outcome (Answered R)) (new : Outcome (Answered R)) → (sequence == last) ≡ false → (sequence == next) ≡ true → in_order p last next o sequence arguments again new ≡ new
-in_order_new {R} p last next o sequence arguments again new apart is = at (sequence == last) apart
-  where
-    at : (b : Bool) → b ≡ false → where_there {X = Stored} (cond b o None) (λ j. demand (bytes_eq j.arguments arguments) (refuse p gates.Session NFS4ERR_SEQ_FALSE_RETRY) (again j.reply)) (demand (sequence == next) (refuse p gates.Session NFS4ERR_SEQ_MISORDERED) new) ≡ new
-    at false e = chosen_true (sequence == next) new (refuse p gates.Session NFS4ERR_SEQ_MISORDERED) is
-    at true e = absurd (grind arith)
 
 module _ (X : Extra) (site : Site) (sent : Sent) (c : Compound) (args : CreateSession) (level : ℕ) (moment : Moment) (b : Both X.Row) (client : Client) (own : (client_named args.client).level ≡ level) (found : client_at b.world.clients (client_named args.client) ≡ Some client) (next : args.sequence ≡ client.sequence) where
   abbrev i : Id

@@ -5,7 +5,7 @@ use Rattle.std.proofs.lemmas.Grind.{flat_map-append}
 use Rattle.std.proofs.lemmas.List.{length-append}
 use Rattle.std.proofs.lemmas.List.Concat.{flat_map-cons}
 use Rattle.lnfs_xdr.specs.Canon.{word, opaque}
-use Rattle.lnfs_attrs.specs.Bitmaps.{bitmap_text, trimmed, words_text}
+use Rattle.lnfs_attrs.specs.Bitmaps.{no_attributes, bitmap_text, trimmed, words_text}
 use Rattle.lnfs_arguments.specs.declared.types.Op.{Op}
 use Rattle.lnfs_arguments.specs.declared.types.Op.TheVariants as ops
 use Rattle.lnfs_arguments.specs.declared.types.Compound.{Compound}
@@ -16,7 +16,7 @@ use Rattle.lnfs_results.specs.Texts.{result_text, fields_text, results_text}
 use Rattle.lnfs_arguments.specs.declared.channel.Channel.{Channel}
 use Rattle.lnfs_operations.specs.declared.numbers.TheConstants.{MOST_CREATED}
 use Rattle.lnfs_arguments.specs.Identifiers.{session_id}
-use Rattle.lnfs_operations.specs.Results.{failed, no_attributes, told_result, server_name}
+use Rattle.lnfs_operations.specs.Results.{failed, told_result, server_name}
 use Rattle.lnfs_operations.specs.Admission.{used}
 use Rattle.lnfs_operations.specs.ExchangeId.{Told}
 use Rattle.lnfs_arguments.specs.SharedTexts.{channel_text}

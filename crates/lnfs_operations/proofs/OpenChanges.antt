@@ -17,6 +17,7 @@ use Rattle.lnfs_world.proofs.Alone.{alone}
 use Rattle.lnfs_world.proofs.Determined.{new_absent}
 use Rattle.lnfs_world.proofs.Keys.{id_same, id_itself, bytes_itself}
 use Rattle.lnfs_world.proofs.KeptOpens.{openings_turn}
+use Rattle.lnfs_world.proofs.NewNames.{made_within}
 use Rattle.lnfs_world.proofs.Nodes.{label_at-made, label_at-touched}
 use Rattle.lnfs_world.proofs.Rows.{all_anyway, all_find, all_none, all_weaker, any_found}
 use Rattle.lnfs_world.proofs.Seen.{label_of-found, sees_node, entry_at-home}
@@ -25,7 +26,6 @@ use Rattle.lnfs_operations.specs.Open.{Arguments, Opened, Wanted, new_open, own_
 use Rattle.lnfs_operations.proofs.Chains.{unchanged_footprint}
 use Rattle.lnfs_operations.proofs.CurrentLaws.{current_held}
 use Rattle.lnfs_operations.proofs.ChangedNames.{Beside, within_joined, place_left}
-use Rattle.lnfs_operations.proofs.CreateLaws.{made_within}
 use Rattle.lnfs_operations.proofs.FileLaws.{data_within}
 use Rattle.lnfs_operations.proofs.Openings.{MayMake, IsReached, Handed, Named, MayOpen, open_any}
 use Rattle.lnfs_operations.proofs.Owners.{none_found}

@@ -31,7 +31,8 @@ use Rattle.lnfs_operations.specs.Chain.{Answer, refuse, done, demand, where_ther
 use Rattle.lnfs_operations.specs.NewNames.{changed, unchanged}
 use Rattle.lnfs_operations.specs.Shown.{bitmap_of}
 use Rattle.lnfs_operations.specs.Given.{is_mode, level_or}
-use Rattle.lnfs_operations.specs.StateIds.{state_of, has_any}
+use Rattle.lnfs_world.specs.Opens.{has_any}
+use Rattle.lnfs_operations.specs.StateIds.{state_of}
 use Rattle.lnfs_operations.specs.Open.{Arguments, Opened, access_of, Wanted, attrs_of, nothing_wanted, is_no_size, where_wanted, gives_size, is_of_handle, where_claim, new_open, own_open, joined, conflicts, has_open_left, where_shared, new_file, open_absent, may_be_there, opened, open_present, no_change, open_claimed, open_file}
 use Rattle.lnfs_operations.proofs.Chains.{demand_alike, asked_alike, demand_agrees, where_alike, standing_view}
 use Rattle.lnfs_operations.proofs.CurrentLaws.{shown_alike, with_current-seen}

@@ -20,7 +20,7 @@ use Rattle.lnfs_operations.specs.Chain.{Answer, refuse, where_there}
 use Rattle.lnfs_operations.specs.NewNames.{unchanged}
 use Rattle.lnfs_operations.specs.Given.{level_or, set_of}
 use Rattle.lnfs_operations.specs.Create.{has_room}
-use Rattle.lnfs_operations.specs.StateIds.{has_any}
+use Rattle.lnfs_world.specs.Opens.{has_any}
 use Rattle.lnfs_operations.specs.Open.{Arguments, Opened, access_of, Wanted, attrs_of, nothing_wanted, is_no_size, where_wanted, gives_size, is_of_handle, where_claim, new_open, own_open, joined, conflicts, has_open_left, where_shared, new_file, made, open_absent, may_be_there, opened_with, opened, open_present, open_name, no_change, open_claimed, open_file}
 use Rattle.lnfs_operations.proofs.Chains.{demand_any, where_any}
 use Rattle.lnfs_operations.proofs.Ends.{current_any, allowed_any, asked_any, named_any}

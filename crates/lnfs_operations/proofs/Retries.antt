@@ -37,7 +37,7 @@ use Rattle.lnfs_operations.specs.Served.{Reply, under, created_keeper, created_r
 
 -- ---- SEQUENCE
 
-chosen_true : {A : Type 0} (b : Bool) (x y : A) → b ≡ true → cond b x y ≡ x
+pub chosen_true : {A : Type 0} (b : Bool) (x y : A) → b ≡ true → cond b x y ≡ x
 chosen_true true x y e = refl
 chosen_true false x y e = absurd (grind arith)
 
@@ -61,7 +61,7 @@ in_order_again {R} p last next k sequence arguments again new same bytes = at (s
     at true e = chosen_true (bytes_eq k.arguments arguments) (again k.reply) (refuse p gates.Session NFS4ERR_SEQ_FALSE_RETRY) bytes
     at false e = absurd (grind arith)
 
-in_order_new : {R : Type 0} (p : Place) (last next : ℕ) (o : Option Stored) (sequence : ℕ) (arguments : List ℕ) (again : List ℕ → Outcome (Answered R)) (new : Outcome (Answered R)) → (sequence == last) ≡ false → (sequence == next) ≡ true → in_order p last next o sequence arguments again new ≡ new
+pub in_order_new : {R : Type 0} (p : Place) (last next : ℕ) (o : Option Stored) (sequence : ℕ) (arguments : List ℕ) (again : List ℕ → Outcome (Answered R)) (new : Outcome (Answered R)) → (sequence == last) ≡ false → (sequence == next) ≡ true → in_order p last next o sequence arguments again new ≡ new
 in_order_new {R} p last next o sequence arguments again new apart is = at (sequence == last) apart
   where
     at : (b : Bool) → b ≡ false → where_there {X = Stored} (cond b o None) (λ j. demand (bytes_eq j.arguments arguments) (refuse p gates.Session NFS4ERR_SEQ_FALSE_RETRY) (again j.reply)) (demand (sequence == next) (refuse p gates.Session NFS4ERR_SEQ_MISORDERED) new) ≡ new

@@ -39,7 +39,7 @@ flat_map_alike f g (x ∷ xs) all = flat_map-cons f x xs ∙ (λ i. all.0 i ++ f
 abbrev pub NoneInner : Bitmap → Bool → Type 0
 NoneInner asked allowed = AllByRecursion (λ n. is_answered asked allowed n ≡ false) (inner_in table)
 
-and_false : (b : Bool) → (b && false) ≡ false
+pub and_false : (b : Bool) → (b && false) ≡ false
 and_false true = refl
 and_false false = refl
 

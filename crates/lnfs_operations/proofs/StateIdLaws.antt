@@ -16,7 +16,8 @@ use Rattle.lnfs_operations.specs.declared.Gate.{Gate}
 use Rattle.lnfs_operations.specs.declared.Gate.TheVariants as gates
 use Rattle.lnfs_operations.specs.Chain.{Answer, refuse, demand, where_there}
 use Rattle.lnfs_operations.specs.Handles.{handle_named}
-use Rattle.lnfs_operations.specs.StateIds.{Special, Anonymous, Bypass, Current, special, is_client, open_at, where_open, Way, Reading, Writing, bit_of, has_any, is_denied, where_undenied, where_usable_by, where_usable}
+use Rattle.lnfs_world.specs.Opens.{has_any}
+use Rattle.lnfs_operations.specs.StateIds.{Special, Anonymous, Bypass, Current, special, is_client, open_at, where_open, Way, Reading, Writing, bit_of, is_denied, where_undenied, where_usable_by, where_usable}
 use Rattle.lnfs_operations.proofs.Chains.{demand_alike, where_alike, demand_any, where_any}
 
 -- ---- what is looked at

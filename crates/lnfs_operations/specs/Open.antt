@@ -1,5 +1,5 @@
 -- OPEN (RFC 8881 section 18.16): of a name in the current directory, or of the current file.
-use Rattle.std.specs.Prelude.{ℕ, ◌+◌, ◌==◌, ◌%◌, ◌&&◌, ◌||◌, Bool, true, false, not, cond, List, [], ◌∷◌, ◌++◌, Option, Some, None, is_some, count_by, nat_le, nat_lt, bit_or}
+use Rattle.std.specs.Prelude.{ℕ, ◌+◌, ◌==◌, ◌%◌, ◌&&◌, ◌||◌, Bool, true, false, not, cond, List, [], ◌∷◌, ◌++◌, Option, Some, None, is_some, count_by, nat_le, nat_lt}
 use Rattle.std.specs.List.{list_any, find}
 use Rattle.std.specs.Str.{bytes_eq}
 use Rattle.lnfs_attrs.specs.declared.bitmap.Bitmap.{Bitmap}
@@ -13,12 +13,14 @@ use Rattle.lnfs_arguments.specs.declared.types.Making.TheVariants.{Unchecked, Gu
 use Rattle.lnfs_arguments.specs.declared.types.Claim.{Claim}
 use Rattle.lnfs_arguments.specs.declared.types.Claim.TheVariants.{Name, Handle}
 use Rattle.lnfs_arguments.specs.declared.statuses.TheConstants.{NFS4ERR_NOENT, NFS4ERR_EXIST, NFS4ERR_INVAL, NFS4ERR_NOSPC, NFS4ERR_SHARE_DENIED, NFS4ERR_OP_NOT_IN_SESSION}
-use Rattle.lnfs_world.specs.declared.numbers.TheConstants.{OPENS_OF_A_LEVEL, LAST_SEQUENCE}
+use Rattle.lnfs_world.specs.declared.numbers.TheConstants.{OPENS_OF_A_LEVEL}
 use Rattle.lnfs_world.specs.World.{Id, File, Node, Open, World, node_at, same_id}
 use Rattle.lnfs_world.specs.Names.{entry_at}
 use Rattle.lnfs_world.specs.Change.{Change, Touch, Make, AddOpen, SetOpen}
 use Rattle.lnfs_world.specs.Facts.{same_opening}
 use Rattle.lnfs_world.specs.Effects.{name_added, next_entry, has_number, next_id, data_changed}
+use Rattle.lnfs_world.specs.Opens.{has_any}
+use Rattle.lnfs_world.specs.Opens as opens
 use Rattle.lnfs_world.specs.Outcome.{Site, Place, Outcome, Act}
 use Rattle.lnfs_monitor.specs.Rules as rules
 use Rattle.lnfs_operations.specs.declared.Gate.TheVariants as gates
@@ -31,7 +33,7 @@ use Rattle.lnfs_operations.specs.NewNames.{where_directory, changed, unchanged}
 use Rattle.lnfs_operations.specs.Shown.{bitmap_of}
 use Rattle.lnfs_operations.specs.Given.{where_values, where_mode, GivenLabel, where_label, level_or, kept_label, set_of}
 use Rattle.lnfs_operations.specs.Create.{new_inner, has_room}
-use Rattle.lnfs_operations.specs.StateIds.{state_of, has_any}
+use Rattle.lnfs_operations.specs.StateIds.{state_of}
 use Rattle.lnfs_operations.specs.Files.{where_file}
 
 -- what the operation looks at of its arguments: neither the sequence nor the client id
@@ -125,13 +127,9 @@ new_open args p w client node = record {
 abbrev pub own_open : Arguments → Place → World → (client : ℕ) → (node : Id) → Option Open
 own_open args p w client node = find (same_opening (new_open args p w client node)) w.opens
 
--- A sequence of a state id doesn't come to 0 again (RFC 8881 section 8.2.2).
-abbrev pub sequence_after : ℕ → ℕ
-sequence_after sequence = cond (sequence == LAST_SEQUENCE) 1 (sequence + 1)
-
 -- with what is asked in addition
 abbrev pub joined : Arguments → Open → Open
-joined args o = record o { access = bit_or o.access (access_of args); deny = bit_or o.deny args.deny; sequence = sequence_after o.sequence }
+joined args o = opens.joined (access_of args) args.deny o
 
 -- Share reservations (RFC 8881 section 9.7): another's open denies what is asked, or is for what is to be denied. Opens of
 -- levels that the subject doesn't dominate stand in nobody's way.

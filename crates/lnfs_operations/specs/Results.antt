@@ -1,6 +1,6 @@
 -- What operations answer in their COMPOUND: results, and what refused them.
-use Rattle.std.specs.Prelude.{ℕ, ◌+◌, Bool, cond, List, [], ◌∷◌, Option, Some, None, codes}
-use Rattle.lnfs_attrs.specs.declared.bitmap.Bitmap.{Bitmap}
+use Rattle.std.specs.Prelude.{ℕ, ◌+◌, Bool, cond, List, Option, Some, None, codes}
+use Rattle.lnfs_attrs.specs.Bitmaps.{no_attributes}
 use Rattle.lnfs_arguments.specs.declared.types.Op.{Op}
 use Rattle.lnfs_arguments.specs.declared.types.Op.TheVariants as ops
 use Rattle.lnfs_arguments.specs.Identifiers.{client_id}
@@ -25,9 +25,6 @@ pub record Denial : Type 0 where
   pub number : ℕ
   pub gate : Gate
   pub status : ℕ
-
-abbrev pub no_attributes : Bitmap
-no_attributes = record { words = 0 ∷ 0 ∷ 0 ∷ 0 ∷ 0 ∷ 0 ∷ 0 ∷ 0 ∷ [] }
 
 -- The result of an operation that failed: SETATTR's bitmap follows any status (RFC 8881 section 18.30.2).
 abbrev pub failed : Op → ℕ → OpResult

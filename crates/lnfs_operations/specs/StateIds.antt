@@ -1,9 +1,10 @@
 -- State ids (RFC 8881 section 8.2): those with a meaning of their own, and the opens that the others name.
-use Rattle.std.specs.Prelude.{ℕ, ◌==◌, ◌&&◌, ◌||◌, Bool, false, not, List, Option, Some, None, nat_le, bit_and, if◌then◌else◌}
+use Rattle.std.specs.Prelude.{ℕ, ◌==◌, ◌&&◌, ◌||◌, Bool, false, not, List, Option, Some, None, nat_le, if◌then◌else◌}
 use Rattle.std.specs.List.{list_all, list_any, find}
 use Rattle.lnfs_arguments.specs.declared.stateid.StateId.{StateId}
 use Rattle.lnfs_arguments.specs.declared.statuses.TheConstants.{NFS4ERR_LOCKED, NFS4ERR_OLD_STATEID, NFS4ERR_BAD_STATEID, NFS4ERR_OPENMODE}
 use Rattle.lnfs_world.specs.World.{Id, Node, Open, World, same_id}
+use Rattle.lnfs_world.specs.Opens.{has_any}
 use Rattle.lnfs_world.specs.Outcome.{Site, Place, Outcome}
 use Rattle.lnfs_monitor.specs.declared.rule.Rule.TheVariants.{M9}
 use Rattle.lnfs_operations.specs.declared.Gate.TheVariants as gates
@@ -67,9 +68,6 @@ pub data Way : Type 0 where
 abbrev pub bit_of : Way → ℕ
 bit_of Reading = OPEN4_SHARE_ACCESS_READ
 bit_of Writing = OPEN4_SHARE_ACCESS_WRITE
-
-abbrev pub has_any : (bits others : ℕ) → Bool
-has_any bits others = not (bit_and bits others == 0)
 
 -- Whether an open of a node denies a use. Those of levels that the subject doesn't dominate deny it nothing.
 abbrev pub is_denied : Site → Place → World → Node → Way → Bool

@@ -19,7 +19,7 @@ use Rattle.lnfs_traffic.specs.declared.error.TrafficError.TheVariants as error
 use Rattle.lnfs_traffic.proofs.Cutting.{cut}
 use Rattle.lnfs_traffic.proofs.Fronts.{parts_some, parts_none}
 use Rattle.lnfs_traffic.proofs.Whole.{given, whole_again}
-use Rattle.lnfs_traffic.proofs.Fed.{Behind, behind_some, more_fed, nothing_fed}
+use Rattle.lnfs_traffic.proofs.Fed.{Behind, behind_some, more_behind, more_fed, nothing_fed}
 use Rattle.lnfs_program.specs.declared.status.Status.{Status}
 use Rattle.lnfs_program.specs.declared.status.Status.TheVariants as statuses
 use Rattle.lnfs_program.specs.declared.status.Stop.{Stop}
@@ -34,15 +34,6 @@ use Rattle.lnfs_program.proofs.Writing.{takes_none, takes_then, front_then, fron
 
 -- ---- the events that a reader gave
 
--- more bytes stand behind all
-behind_more : (fed : List ℕ) (events : List Event) (place : ℕ) (rest more : List ℕ) → Behind fed events place rest → Behind (fed ++ more) events place (rest ++ more)
-behind_more fed events place rest more b = record {
-  front = b.front;
-  parts = ap (λ (f : List ℕ). f ++ more) b.parts ∙ append_assoc b.front rest more;
-  place_is = b.place_is;
-  recording = b.recording;
-}
-
 -- they are the first that are recorded, whatever follows what was fed
 record Firsts (events : List Event) (bytes : List ℕ) : Type 0 where
   pub others : List Event
@@ -51,7 +42,7 @@ record Firsts (events : List Event) (bytes : List ℕ) : Type 0 where
 firsts : (fed : List ℕ) (events : List Event) (place : ℕ) (rest more : List ℕ) → Reads fed events place rest → Firsts events (fed ++ more)
 firsts fed events zero rest more r = record { others = recorded (fed ++ more); are = ap (λ (es : List Event). es ++ recorded (fed ++ more)) (sym (r.none refl)) }
 firsts fed events (suc n) rest more r =
-    let b : Behind (fed ++ more) events (suc n) (rest ++ more) = behind_more fed events (suc n) rest more (behind_some fed events (suc n) rest (omega arith) r) in
+    let b : Behind (fed ++ more) events (suc n) (rest ++ more) = more_behind fed events (suc n) rest more (behind_some fed events (suc n) rest (omega arith) r) in
     let g = given events b.front (rest ++ more) (fed ++ more) b.recording b.parts in
     record { others = (parts_of (rest ++ more)).events; are = rw g.begun g.events_are }
 

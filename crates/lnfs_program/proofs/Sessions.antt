@@ -99,12 +99,6 @@ module _ {L : Type 0} (tell : L → Back) where
     served_all n (x ∷ links) [] new e = absurd e
     served_all n (x ∷ links) (y ∷ ends) new e = (served_is x y (entries n) (new zero x (omega arith)) e.0, served_all (n + 1) links ends (λ k d less. new (suc k) d (omega arith)) e.1)
 
-pub each_length : {A B : Type 0} (R : ℕ → A → B → Type 0) (n : ℕ) (xs : List A) (ys : List B) → EachAt R n xs ys → length ys ≡ length xs
-each_length R n [] [] e = refl
-each_length R n [] (y ∷ ys) e = absurd e
-each_length R n (x ∷ xs) [] e = absurd e
-each_length R n (x ∷ xs) (y ∷ ys) e = ap suc (each_length R (n + 1) xs ys e.1)
-
 -- ---- the whole service
 
 pub answered_is : (m : Signing) (policy : Policy) → ((journal : List Event) (event : Event) → reply_with no_extra m policy journal event ≡ answer m policy journal event) → (before journal : List Event) → entries_from no_extra m policy before journal ≡ answered_after m policy before journal

@@ -1,6 +1,6 @@
 -- The canonical text of arguments is a spelling of them.
-use Rattle.std.proofs.Common.{ℕ, ◌≤◌, Bool, true, false, eqb, List, [], ◌∷◌, ◌++◌, length, All, Option, Some, None, append_assoc, arith}
-use Rattle.lnfs_xdr.specs.Format.{Word, Opaque, If, Then}
+use Rattle.std.proofs.Common.{ℕ, ◌≤◌, eqb, List, [], ◌∷◌, ◌++◌, length, All, Option, Some, None, append_assoc, arith}
+use Rattle.lnfs_xdr.specs.Format.{Word, Opaque, Then}
 use Rattle.lnfs_xdr.specs.Canon.{word, opaque}
 use Rattle.lnfs_xdr.specs.AuthSys.{AuthSys, auth_sys}
 use Rattle.lnfs_xdr.specs.declared.limits.TheConstants.{MACHINE_LIMIT, GROUP_LIMIT}
@@ -26,7 +26,7 @@ use Rattle.lnfs_arguments.specs.Grammar.{name, access, what, create, getattr, li
 use Rattle.lnfs_arguments.specs.declared.numbers.TheConstants.{DATA_LIMIT}
 use Rattle.lnfs_requests.specs.Texts.{what_text, making_text, claim_text, implementation_text, sys_text, callback_text, create_session_text, sequence_text, op_text}
 use Rattle.lnfs_requests.specs.Fits.{WhatFits, MakingFits, ClaimFits, ImplementationFits, CallbackFits, CreateSessionFits, SequenceFits, OpFits}
-use Rattle.lnfs_arguments.proofs.Shared.{tag, attrs_spelled, state_id_spelled, channel_spelled}
+use Rattle.lnfs_arguments.proofs.Shared.{tag, picked, on_chosen, attrs_spelled, state_id_spelled, channel_spelled}
 
 -- ---- the parts of arguments
 
@@ -81,23 +81,11 @@ sequence_spelled s fits = grouped (fixed_spelled 16 s.session fits.0 ▸ word_sp
 
 -- ---- the entry of a number
 
-abbrev chosen : {A : Type 0} → Bool → Args A → Args A → Args A
-chosen true f g = f
-chosen false f g = g
-
-abbrev picked : List (ℕ × Args Op) → ℕ → Args Op
-picked [] number = unserved number
-picked ((n, f) ∷ more) number = chosen (eqb number n) f (picked more number)
-
-on_chosen : {A : Type 0} (b : Bool) (f g h : Args A) (x : A) (bytes : List ℕ) → (Spelled g x bytes → Spelled h x bytes) → Spelled (chosen b f g) x bytes → Spelled (If b f h) x bytes
-on_chosen true f g h x bytes later p = on_true p
-on_chosen false f g h x bytes later p = on_false (later p)
-
-in_table : (rows : List (ℕ × Args Op)) (number : ℕ) (op : Op) (bytes : List ℕ) → Spelled (picked rows number) op bytes → Spelled (entry rows number) op bytes
+in_table : (rows : List (ℕ × Args Op)) (number : ℕ) (op : Op) (bytes : List ℕ) → Spelled (picked rows number (unserved number)) op bytes → Spelled (entry rows number) op bytes
 in_table [] number op bytes p = p
-in_table ((n, f) ∷ more) number op bytes p = on_chosen (eqb number n) f (picked more number) (entry more number) op bytes (in_table more number op bytes) p
+in_table ((n, f) ∷ more) number op bytes p = on_chosen (eqb number n) f (picked more number (unserved number)) (entry more number) op bytes (in_table more number op bytes) p
 
-row : (number : ℕ) {op : Op} {bytes : List ℕ} → Spelled (picked table number) op bytes → Spelled (arguments number) op bytes
+row : (number : ℕ) {op : Op} {bytes : List ℕ} → Spelled (picked table number (unserved number)) op bytes → Spelled (arguments number) op bytes
 unfolding arguments
 row number {op} {bytes} p = in_table table number op bytes p
 

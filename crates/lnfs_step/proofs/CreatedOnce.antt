@@ -1,5 +1,5 @@
 -- A CREATE_SESSION and one that comes directly behind it act once.
-use Rattle.std.proofs.Common.{◌≡◌, ◌≤◌, ℕ, List, [], ◌∷◌, ◌++◌, length, Some, None, refl, sym, ap, ◌∙◌, subst, arith}
+use Rattle.std.proofs.Common.{◌≡◌, ◌≤◌, ℕ, List, [], ◌∷◌, ◌++◌, length, Some, refl, sym, ap, ◌∙◌, subst, arith}
 use Rattle.lnfs_outside.specs.declared.event.Event.{Event}
 use Rattle.lnfs_arguments.specs.declared.types.Op.{Op}
 use Rattle.lnfs_arguments.specs.declared.types.Op.TheVariants as ops
@@ -7,10 +7,8 @@ use Rattle.lnfs_arguments.specs.declared.types.Compound.{Compound}
 use Rattle.lnfs_arguments.specs.declared.types.CreateSession.{CreateSession}
 use Rattle.lnfs_policy.specs.Policy.{Policy}
 use Rattle.lnfs_world.specs.World.{Client}
-use Rattle.lnfs_world.specs.Outcome.{begins_at}
 use Rattle.lnfs_world.specs.Both.{Both}
 use Rattle.lnfs_operations.specs.Extra.{Extra}
-use Rattle.lnfs_operations.specs.SlotRule.{served}
 use Rattle.lnfs_gss3.specs.Mechanism.{Signing}
 use Rattle.lnfs_site.specs.Site.{site_of}
 use Rattle.lnfs_step.specs.Wrapping.{answer_text}
@@ -19,7 +17,7 @@ use Rattle.lnfs_step.specs.Step.{Step, sent_of}
 use Rattle.lnfs_step.specs.Journal.{state_after, reply_with}
 use Rattle.lnfs_step.specs.Sessions.{Asks, ComesToClient, IsAnswered}
 use Rattle.lnfs_step.proofs.Requests.{asked_read}
-use Rattle.lnfs_step.proofs.Slots.{serving, step_is, state_next, again}
+use Rattle.lnfs_step.proofs.Slots.{serving, step_is, state_next, again, GetsAgain}
 use Rattle.lnfs_operations.proofs.CreatedOnce.{created_once}
 
 alone : (op : Op) (rest : List Op) (os : List Op) → os ≡ op ∷ rest → length os ≤ 1 → os ≡ op ∷ []
@@ -27,9 +25,6 @@ alone op [] os is few = is
 alone op (o ∷ rest) os is few = absurd (omega (arith, few, ap length is))
 
 module _ (X : Extra) (m : Signing) (p : Policy) (journal : List Event) where
-  abbrev GetsAgain : (level : ℕ) → Event → (arguments : List ℕ) → Compound → (result : List ℕ) → Both X.Row → Type 0
-  GetsAgain level later arguments c result v = served X (site_of p) (sent_of later arguments c) c (begins_at level later.moment) v ≡ record { answer = record { result = result; denial = None }; place = begins_at level later.moment; state = v }
-
   pub once_created : (event later : Event) (call other : Call) (arguments : List ℕ) (c : Compound) (args : CreateSession) (client : Client) → ComesToClient X m p journal event call arguments c args client → args.sequence ≡ client.sequence →
       Asks X m p (journal ++ event ∷ []) later other arguments c → other.level ≡ call.level →
       (result : List ℕ) × (reply_with X m p journal event ≡ Some (answer_text m call.wrapping call.xid result)) × IsAnswered X m p (journal ++ event ∷ []) later other result
@@ -45,6 +40,6 @@ module _ (X : Extra) (m : Signing) (p : Policy) (journal : List Event) where
         first.answer.result,
         ap (λ (s : Step (Both X.Row)). s.reply) step,
         again X m p (journal ++ event ∷ []) later other arguments c first.answer.result asks
-            (subst (λ level. GetsAgain level later arguments c first.answer.result (state_after X m p (journal ++ event ∷ []))) (sym own)
-            (subst (GetsAgain call.level later arguments c first.answer.result) (sym after) acts)),
+            (subst (λ level. GetsAgain X p level later arguments c first.answer.result (state_after X m p (journal ++ event ∷ []))) (sym own)
+            (subst (GetsAgain X p call.level later arguments c first.answer.result) (sym after) acts)),
       )

@@ -14,8 +14,9 @@ use Rattle.lnfs_arguments.specs.declared.statuses.TheConstants.{NFS4ERR_MINOR_VE
 use Rattle.lnfs_arguments.specs.Numbered.{number_of}
 use Rattle.lnfs_results.specs.declared.types.OpResult.{OpResult}
 use Rattle.lnfs_results.specs.declared.types.Results.{Results}
-use Rattle.lnfs_results.specs.Numbered.{status_of, status_or_none, status_of_all}
+use Rattle.lnfs_results.specs.Numbered.{status_of, status_of_all}
 use Rattle.lnfs_results.specs.Texts.{results_text}
+use Rattle.lnfs_results.proofs.Numbered.{last_status}
 use Rattle.lnfs_world.specs.World.{Id, Kept as Stored, Client, Slot as SlotRow, Session, World, client_at, session_at, last_of}
 use Rattle.lnfs_world.specs.Change.{apply_all}
 use Rattle.lnfs_world.specs.Outcome.{Site, Place, Outcome}
@@ -204,15 +205,6 @@ module _ (X : Extra) (owed : AreLawful X) (site : Site) (lattice : IsPreorderWit
 
 -- ---- the run
 
-last_result : (rs : List OpResult) (r : OpResult) → slice_get (rs ++ r ∷ []) (length rs) ≡ Some r
-last_result [] r = refl
-last_result (x ∷ rs) r = last_result rs r
-
-status_last : (rs : List OpResult) (r : OpResult) → status_of_all (rs ++ r ∷ []) ≡ status_of r
-status_last rs r =
-    let back : length (rs ++ r ∷ []) - 1 ≡ length rs = omega (arith, length-append rs (r ∷ [])) in
-    ap status_or_none (ap (slice_get (rs ++ r ∷ [])) back ∙ last_result rs r)
-
 -- What is denied of these operations, behind so many results.
 abbrev pub Denied : Extra → List Op → ℕ → List OpResult → Option Denial → Type 0
 Denied X os n results None = status_of_all results ≡ 0
@@ -241,7 +233,7 @@ own_walked X so_far op os p a result None keeper f is rest =
     kept_walked X (op ∷ os) (length so_far) keeper r (record { again = w.again; told = denied_behind X op os (length so_far) r.results r.denial w.told })
 own_walked X so_far op os p a result (Some why) keeper f is rest = record {
   again = refl;
-  told = (sym is.0 ∙ sym (status_last so_far result), omega (arith, length-append so_far (result ∷ [])), (0, op, omega arith, refl, refl), is.1.0, is.1.1);
+  told = (sym is.0 ∙ sym (last_status so_far result), omega (arith, length-append so_far (result ∷ [])), (0, op, omega arith, refl, refl), is.1.0, is.1.1);
 }
 
 followed_walked : {S : Type 0} (X : Extra) (so_far : List OpResult) (op : Op) (os : List Op) (p : Place) (a : S) (x : Reply) (f : List OpResult → Ran S) → StatusIs X op Never x → ((result : OpResult) → status_of result ≡ 0 → Walked X os (length so_far + 1) (f (so_far ++ result ∷ []))) → Walked X (op ∷ os) (length so_far) (followed so_far op p a x f)
@@ -258,7 +250,7 @@ module _ (X : Extra) (owed : AreLawful X) (site : Site) (lattice : IsPreorderWit
       followed_walked X (r ∷ rs) op os t.place t.state t.answer (λ results. run_behind (operation X site sent c) results os t.place t.state) (behind_status X owed site lattice sent c r rs op p b stands outside.0)
       (λ result is.
       let more : length (r ∷ rs ++ result ∷ []) ≡ length (r ∷ rs) + 1 = omega (arith, length-append rs (result ∷ [])) in
-      subst (λ n. Walked X os n (run_behind (operation X site sent c) (r ∷ rs ++ result ∷ []) os t.place t.state)) more (walked os r (rs ++ result ∷ []) t.place t.state stand outside.1 (status_last (r ∷ rs) result ∙ is)))
+      subst (λ n. Walked X os n (run_behind (operation X site sent c) (r ∷ rs ++ result ∷ []) os t.place t.state)) more (walked os r (rs ++ result ∷ []) t.place t.state stand outside.1 (last_status (r ∷ rs) result ∙ is)))
 
 -- ---- what was kept and is given again
 

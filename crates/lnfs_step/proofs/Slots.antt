@@ -74,13 +74,13 @@ created_answered X m p journal event call arguments c args client result comes l
     again X m p journal event call arguments c result comes.asks
     (created_again X (site_of p) (sent_of event arguments c) c call.level event.moment (state_after X m p journal) args comes.begins.rest client result comes.begins.minor comes.alone comes.begins.first comes.own comes.record_of last kept)
 
+-- what the first one left, and what one behind it at the same level gets there
+abbrev pub GetsAgain : (X : Extra) → Policy → (level : ℕ) → Event → (arguments : List ℕ) → Compound → (result : List ℕ) → Both X.Row → Type 0
+GetsAgain X p level later arguments c result v = served X (site_of p) (sent_of later arguments c) c (begins_at level later.moment) v ≡ record { answer = record { result = result; denial = None }; place = begins_at level later.moment; state = v }
+
 module _ (X : Extra) (owed : AreLawful X) (m : Signing) (p : Policy) (lattice : IsPreorderWithBottom (dominance p)) (journal : List Event) where
   abbrev stands : (level : ℕ) (moment : Moment) → BothStand X.Fact (dominance p) (begins_at level moment) (state_after X m p journal)
   stands level moment = begins X owed m p lattice level moment (state_after X m p journal) (holds_after X owed m p lattice journal)
-
-  -- what the first one left, and what one behind it at the same level gets there
-  abbrev GetsAgain : (level : ℕ) → Event → (arguments : List ℕ) → Compound → (result : List ℕ) → Both X.Row → Type 0
-  GetsAgain level later arguments c result v = served X (site_of p) (sent_of later arguments c) c (begins_at level later.moment) v ≡ record { answer = record { result = result; denial = None }; place = begins_at level later.moment; state = v }
 
   pub once_answered : (event later : Event) (call other : Call) (arguments : List ℕ) (c : Compound) (args : Sequence) (x : Session) (slot : SlotRow) → ComesOnSlot X m p journal event call arguments c args x slot → args.sequence ≡ next_sequence slot.sequence →
       Asks X m p (journal ++ event ∷ []) later other arguments c → other.level ≡ call.level → length later.message ≤ x.channel.max_request →
@@ -95,8 +95,8 @@ module _ (X : Extra) (owed : AreLawful X) (m : Signing) (p : Policy) (lattice : 
         first.answer.result,
         ap (λ (s : Step (Both X.Row)). s.reply) step,
         again X m p (journal ++ event ∷ []) later other arguments c first.answer.result asks
-            (subst (λ level. GetsAgain level later arguments c first.answer.result (state_after X m p (journal ++ event ∷ []))) (sym own)
-            (subst (GetsAgain call.level later arguments c first.answer.result) (sym after) acts)),
+            (subst (λ level. GetsAgain X p level later arguments c first.answer.result (state_after X m p (journal ++ event ∷ []))) (sym own)
+            (subst (GetsAgain X p call.level later arguments c first.answer.result) (sym after) acts)),
       )
 
   pub room_left : IsSized m → (event : Event) (call : Call) (arguments : List ℕ) (c : Compound) (args : Sequence) (x : Session) (slot : SlotRow) → ComesOnSlot X m p journal event call arguments c args x slot →

@@ -97,7 +97,8 @@ left_over fed events place rest b none some =
     let place_is : place ≡ length fed - length rest = let p = b.place_is in omega (arith, p, all) in
     (d.0, place_is ∙ d.1)
 
-more_behind : (fed : List ℕ) (events : List Event) (place : ℕ) (rest more : List ℕ) → Behind fed events place rest → Behind (fed ++ more) events place (rest ++ more)
+-- more bytes stand behind all
+pub more_behind : (fed : List ℕ) (events : List Event) (place : ℕ) (rest more : List ℕ) → Behind fed events place rest → Behind (fed ++ more) events place (rest ++ more)
 more_behind fed events place rest more b = record {
   front = b.front;
   parts = ap (λ (f : List ℕ). f ++ more) b.parts ∙ append_assoc b.front rest more;

@@ -7,7 +7,7 @@ use Rattle.std.proofs.lemmas.Fmt.{length-decimal-le}
 use Rattle.lnfs_xdr.specs.Canon.{word, padded, opaque}
 use Rattle.lnfs_xdr.proofs.Sizes.{length-word, length-long, length-flag, length-padded, length-opaque, length-words}
 use Rattle.lnfs_attrs.specs.declared.bitmap.Bitmap.{Bitmap}
-use Rattle.lnfs_attrs.specs.Bitmaps.{bitmap_text, trimmed}
+use Rattle.lnfs_attrs.specs.Bitmaps.{no_attributes, bitmap_text, trimmed}
 use Rattle.lnfs_attrs.proofs.Words.{trimmed_short}
 use Rattle.lnfs_arguments.specs.declared.types.Op.{Op}
 use Rattle.lnfs_arguments.specs.declared.types.Op.TheVariants as ops
@@ -18,7 +18,7 @@ use Rattle.lnfs_rpc.specs.Numbers.{last_procedure}
 use Rattle.lnfs_traffic.specs.declared.guests.Row.{Row}
 use Rattle.lnfs_traffic.specs.declared.turns.Turn.{Turn}
 use Rattle.lnfs_traffic.specs.CallTexts.{auth_text, header_text, call_text}
-use Rattle.lnfs_traffic.specs.Generated.{channel, no_attrs, type_and_size, type_and_label, anonymous, name, open_op, root_ops, ops_of, content, compound_of, credential, no_verifier, message}
+use Rattle.lnfs_traffic.specs.Generated.{channel, type_and_size, type_and_label, anonymous, name, open_op, root_ops, ops_of, content, compound_of, credential, no_verifier, message}
 
 -- ---- names and items
 
@@ -66,7 +66,7 @@ readdir_short = simp (length-append, length-word, length-long) (omega (arith, pa
 
 open_short : (client pick : ℕ) → length (op_text (open_op client pick)) ≤ 120
 unfolding op_text making_text claim_text attrs_text
-open_short client pick = simp (length-append, length-word, length-long) (omega (arith, opaque_short (codes "o") 1 (omega arith), opaque_short [] 0 (omega arith), opaque_short (name pick) 3 (name_short pick), bitmap_short no_attrs refl))
+open_short client pick = simp (length-append, length-word, length-long) (omega (arith, opaque_short (codes "o") 1 (omega arith), opaque_short [] 0 (omega arith), opaque_short (name pick) 3 (name_short pick), bitmap_short no_attributes refl))
 
 lookup_short : (pick : ℕ) → length (op_text (ops.Lookup (name pick))) ≤ 14
 unfolding op_text

@@ -4,6 +4,7 @@ use Rattle.std.specs.Fmt.{decimal}
 use Rattle.std.specs.Option.{unwrap_or}
 use Rattle.lnfs_outside.specs.declared.event.Event.{Event}
 use Rattle.lnfs_attrs.specs.declared.bitmap.Bitmap.{Bitmap}
+use Rattle.lnfs_attrs.specs.Bitmaps.{no_attributes}
 use Rattle.lnfs_rpc.specs.Calls.{OpaqueAuth}
 use Rattle.lnfs_rpc.specs.Numbers.{last_procedure}
 use Rattle.lnfs_arguments.specs.declared.channel.Channel.{Channel}
@@ -98,9 +99,6 @@ past_of level g earlier = record { events = events_of g earlier; client = got le
 abbrev pub channel : Channel
 channel = record { headerpad = 0; maxrequest = 65536; maxresponse = 65536; cached = 65536; operations = 32; requests = 16; ird = None }
 
-abbrev pub no_attrs : Bitmap
-no_attrs = record { words = 0 ∷ 0 ∷ 0 ∷ 0 ∷ 0 ∷ 0 ∷ 0 ∷ 0 ∷ [] }
-
 -- attributes 1 and 4
 abbrev pub type_and_size : Bitmap
 type_and_size = record { words = 18 ∷ 0 ∷ 0 ∷ 0 ∷ 0 ∷ 0 ∷ 0 ∷ 0 ∷ [] }
@@ -128,7 +126,7 @@ name pick = codes "g" ++ decimal (pick / 4 % 100)
 
 -- an OPEN for writing, which makes the file where it isn't there
 abbrev pub open_op : (client pick : ℕ) → Op
-open_op client pick = ops.Open 0 2 0 client (codes "o") (Some (Unchecked (record { mask = no_attrs; list = [] }))) (Name (name pick))
+open_op client pick = ops.Open 0 2 0 client (codes "o") (Some (Unchecked (record { mask = no_attributes; list = [] }))) (Name (name pick))
 
 -- what is asked in the root directory; the content is what a WRITE brings
 abbrev pub root_ops : (client : ℕ) → (content : List ℕ) → (pick : ℕ) → List Op

@@ -21,6 +21,7 @@ pub mod Chains
 pub mod Settings
 pub mod Removed
 pub mod Opened
+pub mod NameTaken
 pub mod Linked
 pub mod Above
 pub mod Inserted

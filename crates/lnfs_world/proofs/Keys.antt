@@ -12,6 +12,12 @@ use Rattle.lnfs_world.specs.Rows.{inserted}
 use Rattle.lnfs_world.specs.World.{Id, Entry, id_order, entry_order, level_order, same_id, number_in, last_of}
 use Rattle.lnfs_world.proofs.Sorted.{find-inserted}
 
+-- tests that pass together are one
+pub same_truth : (a b : Bool) → (a ≡ true → b ≡ true) → (b ≡ true → a ≡ true) → a ≡ b
+same_truth true b f g = sym (f refl)
+same_truth false true f g = g refl
+same_truth false false f g = refl
+
 pub id_same : (a b : Id) → same_id a b ≡ true → a ≡ b
 id_same a b e = grind (arith, nat_tests)
 

@@ -9,7 +9,7 @@ use Rattle.lnfs_world.specs.Rows.{kept, updated, inserted, Rising}
 use Rattle.lnfs_world.proofs.Rows.{kept_within, kept_twice, all_weaker, all_updated, all_filter}
 
 module _ {X : Type 0} (R : X → X → Ordering) where
-  inserted_front : (r : X) (xs : List X) → AllByRecursion (λ x. R r x ≡ Less) xs → inserted R r xs ≡ r ∷ xs
+  pub inserted_front : (r : X) (xs : List X) → AllByRecursion (λ x. R r x ≡ Less) xs → inserted R r xs ≡ r ∷ xs
   inserted_front r [] all = refl
   inserted_front r (x ∷ xs) all = grind (arith, all.0)
 

@@ -25,19 +25,11 @@ use Rattle.lnfs_files.specs.Acts.{Succeeds}
 use Rattle.lnfs_files.specs.Openings.{args_of, wanted_of}
 use Rattle.lnfs_files.specs.Openings as files
 use Rattle.lnfs_files.specs.declared.opened.Opened as code_opened
-use Rattle.lnfs_files.proofs.Makes.{makes, none_of, not_there}
-use Rattle.lnfs_files.proofs.Opens.{only_memory}
+use Rattle.lnfs_world.proofs.NewNames.{next_absent}
+use Rattle.lnfs_files.proofs.Makes.{makes, none_of}
+use Rattle.lnfs_files.proofs.Opens.{wished, same_wish, only_memory}
 use Rattle.lnfs_files.proofs.Absents.{behind, by_label, opens_left, is_full, is_spent, is_made, absent_in, made_counts, same_changes, no_label}
 use Rattle.lnfs_files.proofs.absent.open_absent.Goals as goal
-
-abbrev wished : (level number : ℕ) (args : Arguments) (node : Id) (access : ℕ) → Wish
-wished level number args node access = record { client = record { level = level; number = number }; owner = args.owner; node = node; access = access; deny = args.deny }
-
-same_wish : (level level' number : ℕ) (args : Arguments) (node node' : Id) (access access' : ℕ) → level ≡ level' → node ≡ node' → access ≡ access' → wished level number args node access ≡ wished level' number args node' access'
-same_wish level level' number args node node' access access' a b d =
-    ap (λ (x : ℕ). wished x number args node access) a
-    ∙ ap (λ (x : Id). wished level' number args x access) b
-    ∙ ap (λ (x : ℕ). wished level' number args node' x) d
 
 pub returns-in-Err-clause-acts : goal.returns-in-Err-clause-acts
 returns-in-Err-clause-acts c = λ p rest d holds.
@@ -150,7 +142,7 @@ returns-in-Ok-open-clause-acts c = λ p rest d holds.
     let node : new_node at.moment fresh (next_id t.lasts d.label) ≡ n = c.in_ok-fresh.ensures.node d at w holds label in
     let id : id_of c.in-Ok.made.0 ≡ n.id = ap (λ r. r.0) there.1 ∙ ap (next_id t.lasts) home in
     let none : own_open s (wished at.subject number args n.id (access_of args)) ≡ None =
-    none_of site.dom (label_at t.nodes) (new_open s (wished at.subject number args n.id (access_of args))) s.opens (no_label t.nodes n.id (not_there site.dom t c.requires.facts d.label)) c.requires.opens in
+    none_of site.dom (label_at t.nodes) (new_open s (wished at.subject number args n.id (access_of args))) s.opens (no_label t.nodes n.id (next_absent site.dom t.nodes t.entries t.lasts c.requires.facts d.label)) c.requires.opens in
     let same = same_wish c.args.opener.now.client.level.0 at.subject number args (node_id c.node_key.result) n.id c.share.result (access_of args) level (c.node_key.ensures ∙ id) c.share.ensures in
     let r : code_opened.Opened = record { id = c.state_id_of.result; node = c.in-Ok.made.0; info = c.cinfo.result; set = c.args.wanted.set } in
     subst (λ (o : Outcome _). Succeeds (files.opened_of r) (record at { current = Some (id_of r.node) }) rest t u s v o)

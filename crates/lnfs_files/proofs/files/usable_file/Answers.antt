@@ -1,16 +1,14 @@
 use Rattle.std.proofs.Common.{ap, ◌∙◌, None}
-use Rattle.std.specs.Option.{option_map}
 use Rattle.lnfs_world.specs.Outcome.{Place}
 use Rattle.lnfs_site.specs.Site.{site_of}
 use Rattle.lnfs_monitor.specs.Rules.{Asks}
-use Rattle.lnfs_tree.specs.Rows.{id_of}
 use Rattle.lnfs_nodes.specs.Trees.{with_tree, refusal_of, denial}
 use Rattle.lnfs_nodes.specs.Acts.{placed}
 use Rattle.lnfs_files.specs.Uses.{way_of}
 use Rattle.lnfs_files.proofs.Stages.{err_refused}
 use Rattle.lnfs_files.proofs.Uses.{kind_off, rules_off, by_state_id}
 use Rattle.lnfs_files.proofs.Openable.{is_file}
-use Rattle.lnfs_files.proofs.WriteOn.{some_place, held_node}
+use Rattle.lnfs_files.proofs.WriteOn.{some_place, is_there}
 use Rattle.lnfs_files.proofs.files.usable_file.Goals as goal
 
 pub returns-in_err-check_file-clause-refused : goal.returns-in_err-check_file-clause-refused
@@ -44,5 +42,5 @@ returns-clause-refused c = λ p rest client.
 pub returns-clause-file : goal.returns-clause-file
 returns-clause-file c =
     let at : Place = placed some_place c.args.caller.now in
-    let x = held_node c.args.tree.now (option_map id_of c.args.caller.now.current) c.in_ok-held.held c.in_ok-held.ensures in
+    let x = is_there c.args.tree.now _ c.in_ok-held.held c.in_ok-held.ensures in
     is_file at x.0 _ x.1.tells.kind (c.in_ok-check_file.ensures at x.0 x.1.tells.kind)

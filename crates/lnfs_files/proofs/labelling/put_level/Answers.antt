@@ -1,6 +1,5 @@
 use Rattle.std.proofs.Common.{◌≡◌, ◌∙◌, ap, sym, refl, subst, false, ℕ, List, length, [], ◌∷◌}
 use Rattle.std.specs.Prelude.{◌==◌}
-use Rattle.std.specs.Option.{option_map}
 use Rattle.lnfs_attrs.specs.declared.bitmap.Bitmap.{Bitmap}
 use Rattle.lnfs_world.specs.Change.{Relabel}
 use Rattle.lnfs_world.specs.Effects.{attributes_changed}
@@ -17,7 +16,7 @@ use Rattle.lnfs_nodes.specs.Acts.{placed}
 use Rattle.lnfs_files.specs.Worlds.{with_files}
 use Rattle.lnfs_files.specs.Acts.{Succeeds}
 use Rattle.lnfs_files.proofs.Charged.{moved_levels}
-use Rattle.lnfs_files.proofs.WriteOn.{held_node, found, some_place}
+use Rattle.lnfs_files.proofs.WriteOn.{is_there, found, some_place}
 use Rattle.lnfs_files.proofs.Labels.{raised_full, raised_so, full, was_raised, not_raised, succeeds, same_bytes}
 use Rattle.lnfs_files.proofs.labelling.put_level.Goals as goal
 
@@ -42,7 +41,7 @@ returns-in-Ok-clause-counts c =
     let u = c.raise.new.self in
     let h = c.args.held.now in
     let level = c.args.level.0 in
-    let x = held_node t (option_map id_of c.args.caller.now.current) h c.requires.held in
+    let x = is_there t _ h c.requires.held in
     let n = x.0 in
     let done = was_raised t u (id_of h.id) n at.moment (found t n h x.1) level c.in-Ok.field-0 c.in-Ok.ensures.does in
     subst (λ (rows : List Row). AreTotals rows u.nodes) (sym c.move_up.ensures)
@@ -77,6 +76,6 @@ returns-in-Err-clause-counts c =
     let t = c.args.tree.now in
     let u = c.raise.new.self in
     let h = c.args.held.now in
-    let x = held_node t (option_map id_of c.args.caller.now.current) h c.requires.held in
+    let x = is_there t _ h c.requires.held in
     let not = not_raised t u (id_of h.id) x.0 at.moment (found t x.0 h x.1) c.args.level.0 c.in-Err.field-0 c.in-Err.ensures.calm c.in-Err.ensures.does in
     subst (λ (r : Rows). AreTotals c.args.quota.now r.nodes) (sym not.1) c.requires.counts

@@ -1,23 +1,19 @@
-use Rattle.std.proofs.Common.{◌≡◌, ◌∙◌, ◌<◌, ◌≤◌, ap, sym, refl, subst, true, ℕ, [], length}
+use Rattle.std.proofs.Common.{◌≡◌, ◌∙◌, ap, sym, refl, subst, true, ℕ, []}
 use Rattle.std.specs.Prelude.{◌==◌}
-use Rattle.std.specs.Option.{option_map}
 use Rattle.lnfs_attrs.specs.declared.bitmap.Bitmap.{Bitmap}
 use Rattle.lnfs_world.specs.World.{World}
 use Rattle.lnfs_world.specs.Effects.{parent_labels}
-use Rattle.lnfs_world.specs.Usage.{bytes_of}
 use Rattle.lnfs_world.specs.Outcome.{Place, Outcome}
 use Rattle.lnfs_site.specs.Site.{site_of}
 use Rattle.lnfs_monitor.specs.Rules.{Raise}
 use Rattle.lnfs_operations.specs.Chain.{Answer}
 use Rattle.lnfs_operations.specs.SetAttr.{raised}
-use Rattle.lnfs_quota.specs.Quota.{row_at}
-use Rattle.lnfs_tree.specs.Rows.{id_of}
 use Rattle.lnfs_nodes.specs.Acts.{placed}
 use Rattle.lnfs_nodes.proofs.Tests.{allowed}
 use Rattle.lnfs_nodes.proofs.Refusing.{denied}
 use Rattle.lnfs_files.specs.Worlds.{with_files}
 use Rattle.lnfs_files.specs.Acts.{Succeeds, Acts}
-use Rattle.lnfs_files.proofs.WriteOn.{held_node}
+use Rattle.lnfs_files.proofs.WriteOn.{is_there, is_counted}
 use Rattle.lnfs_files.proofs.Labels.{raised_same, succeeds}
 use Rattle.lnfs_files.proofs.labelling.raise.Goals as goal
 
@@ -26,12 +22,8 @@ check_move-requires c =
     let rows = c.args.quota.now in
     let t = c.args.tree.now in
     let h = c.args.held.now in
-    let x = held_node t (option_map id_of c.args.caller.now.current) h c.requires.held in
-    record {
-      held =
-          subst (λ (bytes : ℕ). h.facts.label.0 < length rows → bytes ≤ (row_at rows h.facts.label.0).bytes) (sym (c.counted_bytes-bytes.ensures t x.0 x.1))
-          (subst (λ (l : ℕ). l < length rows → bytes_of x.0 x.0.kind ≤ (row_at rows l).bytes) (sym x.1.tells.label) (c.totals.ensures.held_bytes rows t.nodes x.0.id x.0 c.requires.counts x.1.node_is));
-    }
+    let x = is_there t _ h c.requires.held in
+    record { held = is_counted rows t x.0 h _ x.1 (sym (c.counted_bytes-bytes.ensures t x.0 x.1)) (c.totals.ensures.held_bytes rows t.nodes x.0.id x.0 c.requires.counts x.1.node_is) }
 
 pub put_level-requires : goal.put_level-requires
 put_level-requires c = record {

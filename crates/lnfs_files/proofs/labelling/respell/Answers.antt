@@ -1,5 +1,4 @@
 use Rattle.std.proofs.Common.{◌≡◌, ◌∙◌, ap, sym, refl, subst, ℕ, [], ◌∷◌, Some}
-use Rattle.std.specs.Option.{option_map}
 use Rattle.lnfs_attrs.specs.declared.bitmap.Bitmap.{Bitmap}
 use Rattle.lnfs_world.specs.World.{Inner}
 use Rattle.lnfs_world.specs.Change.{Touch}
@@ -14,7 +13,7 @@ use Rattle.lnfs_tree.specs.Places.{world_of}
 use Rattle.lnfs_nodes.specs.Trees.{denial}
 use Rattle.lnfs_nodes.specs.Acts.{placed}
 use Rattle.lnfs_files.specs.Acts.{Succeeds}
-use Rattle.lnfs_files.proofs.WriteOn.{held_node, found, some_place}
+use Rattle.lnfs_files.proofs.WriteOn.{is_there, found, some_place}
 use Rattle.lnfs_files.proofs.Labels.{same, other, spelled_so, succeeds, same_bytes}
 use Rattle.lnfs_files.proofs.Sizes.{touched_totals}
 use Rattle.lnfs_files.proofs.labelling.respell.Goals as goal
@@ -47,7 +46,7 @@ returns-clause-counts c =
     let t = c.args.tree.now in
     let u = c.respell-done.new.self in
     let h = c.args.held.now in
-    let x = held_node t (option_map id_of c.args.caller.now.current) h c.requires.held in
+    let x = is_there t _ h c.requires.held in
     let n = x.0 in
     let inner : Inner = attributes_changed at.moment (record n.inner { stored = Some (stored_of c.args.spelled) }) in
     let done : u ≡ ran (Touch n.id inner ∷ []) t = spelled_so t u (id_of h.id) n at.moment (found t n h x.1) (stored_of c.args.spelled) c.respell-done.result c.respell-done.ensures.calm c.respell-done.ensures.does in

@@ -9,7 +9,7 @@ use Rattle.lnfs_operations.specs.Open.{Arguments, Wanted}
 use Rattle.lnfs_nodes.specs.Acts.{placed}
 use Rattle.lnfs_files.specs.Worlds.{with_files}
 use Rattle.lnfs_files.specs.Openings.{args_of, wanted_of}
-use Rattle.lnfs_files.proofs.Leads.{is_there}
+use Rattle.lnfs_files.proofs.WriteOn.{is_there}
 use Rattle.lnfs_files.proofs.OpenFiles.{moved}
 use Rattle.lnfs_files.proofs.opening.open_name.Goals as goal
 

@@ -1,7 +1,7 @@
-use Rattle.std.proofs.Common.{◌≡◌, refl, ap, sym, ◌∙◌, subst, ℕ, Bool, Ok, Err}
+use Rattle.std.proofs.Common.{◌≡◌, refl, ap, sym, ◌∙◌, subst, Bool, Ok, Err}
 use Rattle.lnfs_calipso.specs.declared.Level.{Level}
 use Rattle.lnfs_arguments.specs.declared.statuses.TheConstants.{NFS4ERR_NOSPC}
-use Rattle.lnfs_world.specs.World.{Id, Node}
+use Rattle.lnfs_world.specs.World.{Node}
 use Rattle.lnfs_world.specs.Outcome.{Place}
 use Rattle.lnfs_operations.specs.declared.Gate.TheVariants.{Quota}
 use Rattle.lnfs_operations.specs.Open.{Arguments, Wanted, access_of}
@@ -11,27 +11,20 @@ use Rattle.lnfs_open.specs.declared.keys.OpenError.TheVariants.{Full}
 use Rattle.lnfs_nodes.specs.Acts.{placed}
 use Rattle.lnfs_nodes.proofs.Refusing.{refused_as}
 use Rattle.lnfs_files.specs.Openings.{args_of, wanted_of}
-use Rattle.lnfs_files.proofs.Cuts.{bytes_held}
-use Rattle.lnfs_files.proofs.Opens.{wish, with_own, refused_so, only_full, is_full, after_cut, succeeds}
+use Rattle.lnfs_files.proofs.WriteOn.{is_counted}
+use Rattle.lnfs_files.proofs.Sizes.{held_bytes}
+use Rattle.lnfs_files.proofs.Opens.{wish, wished, same_wish, with_own, refused_so, only_full, is_full, after_cut, succeeds}
 use Rattle.lnfs_files.proofs.present.open_present.Goals.{then-sized-2, else-sized-2}
 use Rattle.lnfs_files.proofs.present.open_present.Goals as goal
 
-abbrev wished : (level number : ℕ) (args : Arguments) (node : Id) (access : ℕ) → Wish
-wished level number args node access = record { client = record { level = level; number = number }; owner = args.owner; node = node; access = access; deny = args.deny }
-
-same_wish : (level level' number : ℕ) (args : Arguments) (node node' : Id) (access access' : ℕ) → level ≡ level' → node ≡ node' → access ≡ access' → wished level number args node access ≡ wished level' number args node' access'
-same_wish level level' number args node node' access access' a b d =
-    ap (λ (x : ℕ). wished x number args node access) a
-    ∙ ap (λ (x : Id). wished level' number args x access) b
-    ∙ ap (λ (x : ℕ). wished level' number args node' x) d
-
 pub byte_room-requires : goal.byte_room-requires
 byte_room-requires c =
+    let rows = c.args.quota.now in
     let t = c.args.tree.now in
     let h = c.args.held.now in
     let n : Node = c.requires.there.0 in
     let holds = c.requires.there.1 in
-    record { held = bytes_held c.args.quota.now t n h (λ i at. c.totals.ensures.held_bytes c.args.quota.now t.nodes i n c.requires.counts at) holds (sym holds.tells.kind ∙ c.in_default.ensures.file) }
+    record { held = is_counted rows t n h h.facts.size holds (held_bytes t n h holds c.in_default.ensures.file) (c.totals.ensures.held_bytes rows t.nodes n.id n c.requires.counts holds.node_is) }
 
 pub returns-in-Full-clause-acts : goal.returns-in-Full-clause-acts
 returns-in-Full-clause-acts c = λ p rest n holds.
@@ -73,7 +66,7 @@ returns-clause-acts c = λ p rest n holds.
     (c.in_default.ensures.checked p rest t n (with_own args at rest t s number n w c.args.info) holds)
     (subst (λ (x : Wish). Does (opened_of s x) s v (Ok c.in-Ok.id)) same c.in-Ok.ensures)
     (elim c.if-sized-2.branch [
-      | then-sized-2 b ↦ b.tree-is ∙ b.cut.ensures.cut n holds ∙ ap (λ (x : Bool). after_cut args at rest t s number n (record w { sized = x })) (sym b.if-sized-2.true)
+      | then-sized-2 b ↦ b.tree-is ∙ b.put_size.ensures.done n holds ∙ ap (λ (x : Bool). after_cut args at rest t s number n (record w { sized = x })) (sym b.if-sized-2.true)
       | else-sized-2 b ↦ b.tree-is ∙ ap (λ (x : Bool). after_cut args at rest t s number n (record w { sized = x })) (sym b.if-sized-2.false)
     ])
     c.state_id_of.ensures holds.id refl c.cut_set.ensures

@@ -1,18 +1,16 @@
 use Rattle.std.proofs.Common.{refl}
-use Rattle.std.specs.Option.{option_map}
 use Rattle.lnfs_results.specs.declared.types.OpResult.TheVariants as results
 use Rattle.lnfs_world.specs.Outcome.{Place}
 use Rattle.lnfs_site.specs.Site.{site_of}
 use Rattle.lnfs_operations.specs.StateIds.{Reading}
 use Rattle.lnfs_operations.specs.Read.{Data}
-use Rattle.lnfs_tree.specs.Rows.{id_of}
 use Rattle.lnfs_nodes.specs.Trees.{refusal_of}
 use Rattle.lnfs_nodes.specs.Acts.{placed}
 use Rattle.lnfs_nodes.proofs.Written.{refused_writes}
 use Rattle.lnfs_files.specs.Worlds.{with_opens, with_files}
 use Rattle.lnfs_files.proofs.Uses.{unused}
 use Rattle.lnfs_files.proofs.FileReads.{file_read}
-use Rattle.lnfs_files.proofs.WriteOn.{held_node, no_data}
+use Rattle.lnfs_files.proofs.WriteOn.{is_there, no_data}
 use Rattle.lnfs_files.proofs.reading.read.Goals as goal
 
 pub returns-in-Err-clause-writes : goal.returns-in-Err-clause-writes
@@ -25,7 +23,7 @@ pub unreachable-requires : goal.unreachable-requires
 unreachable-requires c =
     let t = c.args.tree.now in
     let h = c.in-Ok.held in
-    let x = held_node t (option_map id_of c.args.caller.now.current) h c.in-Ok.ensures.held in
+    let x = is_there t _ h c.in-Ok.ensures.held in
     no_data t x.0 h _ x.1 c.in-Ok.ensures.file c.in_default.ensures
 
 pub returns-clause-writes : goal.returns-clause-writes

@@ -1,19 +1,15 @@
-use Rattle.std.proofs.Common.{◌≡◌, ◌∙◌, ◌<◌, ◌≤◌, ap, sym, subst, true, false, ℕ, length, None, Some}
+use Rattle.std.proofs.Common.{◌≡◌, ◌∙◌, ap, sym, true, false, None, Some}
 use Rattle.std.specs.Prelude.{nat_le}
-use Rattle.std.specs.Option.{option_map}
 use Rattle.lnfs_world.specs.World.{World}
-use Rattle.lnfs_world.specs.Usage.{bytes_of}
 use Rattle.lnfs_world.specs.Outcome.{Place}
 use Rattle.lnfs_site.specs.Site.{site_of}
 use Rattle.lnfs_operations.specs.declared.Refusal.{Refusal}
 use Rattle.lnfs_world.specs.declared.numbers.TheConstants.{MOST_FILE}
 use Rattle.lnfs_operations.specs.Files.{passes_quota}
-use Rattle.lnfs_quota.specs.Quota.{row_at}
-use Rattle.lnfs_tree.specs.Rows.{id_of}
 use Rattle.lnfs_nodes.specs.Trees.{with_tree, refusal_of}
 use Rattle.lnfs_nodes.specs.Acts.{placed}
 use Rattle.lnfs_files.specs.Worlds.{with_files}
-use Rattle.lnfs_files.proofs.WriteOn.{held_node, within, past}
+use Rattle.lnfs_files.proofs.WriteOn.{is_there, is_counted, within, past}
 use Rattle.lnfs_files.proofs.Writes.{up_to}
 use Rattle.lnfs_files.proofs.Sizes.{too_many, too_big, past_limit, has_room, not_usable, by_size, held_bytes, held_size}
 use Rattle.lnfs_files.proofs.values.check_size.Goals as goal
@@ -23,12 +19,8 @@ byte_room-requires c =
     let rows = c.args.quota.now in
     let t = c.args.tree.now in
     let h = c.args.held.now in
-    let x = held_node t (option_map id_of c.args.caller.now.current) h c.requires.held in
-    record {
-      held =
-          subst (λ (bytes : ℕ). h.facts.label.0 < length rows → bytes ≤ (row_at rows h.facts.label.0).bytes) (held_bytes t x.0 h x.1 c.requires.file)
-          (subst (λ (l : ℕ). l < length rows → bytes_of x.0 x.0.kind ≤ (row_at rows l).bytes) (sym x.1.tells.label) (c.totals.ensures.held_bytes rows t.nodes x.0.id x.0 c.requires.counts x.1.node_is));
-    }
+    let x = is_there t _ h c.requires.held in
+    record { held = is_counted rows t x.0 h h.facts.size x.1 (held_bytes t x.0 h x.1 c.requires.file) (c.totals.ensures.held_bytes rows t.nodes x.0.id x.0 c.requires.counts x.1.node_is) }
 
 pub returns-in-Err-clause-refused : goal.returns-in-Err-clause-refused
 returns-in-Err-clause-refused c = λ n p rest client holds.

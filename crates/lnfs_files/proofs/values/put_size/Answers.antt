@@ -1,43 +1,38 @@
 use Rattle.std.proofs.Common.{◌≡◌, ◌∙◌, ap, sym, subst, List, length, [], ◌∷◌}
-use Rattle.std.specs.Option.{option_map}
-use Rattle.lnfs_world.specs.World.{Inner}
+use Rattle.lnfs_world.specs.World.{Node, Inner}
 use Rattle.lnfs_world.specs.Change.{Touch}
 use Rattle.lnfs_world.specs.Effects.{sized, data_changed}
-use Rattle.lnfs_world.specs.Outcome.{Place}
 use Rattle.lnfs_world.specs.declared.numbers.TheConstants.{MOST_FILE}
 use Rattle.lnfs_quota.specs.declared.quota.Row.{Row}
 use Rattle.lnfs_quota.specs.Totals.{AreTotals}
 use Rattle.lnfs_tree.specs.Rows.{id_of}
 use Rattle.lnfs_tree.specs.Changed.{ran}
 use Rattle.lnfs_tree.specs.Places.{world_of}
-use Rattle.lnfs_nodes.specs.Acts.{placed}
 use Rattle.lnfs_files.proofs.Charged.{resized_levels}
-use Rattle.lnfs_files.proofs.WriteOn.{held_node, found, some_place}
+use Rattle.lnfs_files.proofs.WriteOn.{found}
 use Rattle.lnfs_files.proofs.Writes.{up_to}
 use Rattle.lnfs_files.proofs.Sizes.{sized_so, sized_totals, held_kind}
 use Rattle.lnfs_files.proofs.values.put_size.Goals as goal
 
 pub returns-clause-done : goal.returns-clause-done
-returns-clause-done c = λ n p holds.
-    let at : Place = placed p c.args.caller.now in
+returns-clause-done c = λ n holds.
     let t = c.args.tree.now in
     let h = c.args.held.now in
-    sized_so t c.set_size-done.new.self (id_of h.id) n at.moment (found t n h holds) c.args.size (held_kind t n h holds c.requires.file) (up_to c.args.size MOST_FILE c.requires.fits) c.set_size-done.result c.set_size-done.ensures.calm c.set_size-done.ensures.does
+    sized_so t c.set_size-done.new.self (id_of h.id) n c.args.moment (found t n h holds) c.args.size (held_kind t n h holds c.requires.file) (up_to c.args.size MOST_FILE c.requires.fits) c.set_size-done.result c.set_size-done.ensures.calm c.set_size-done.ensures.does
 
 pub returns-clause-counts : goal.returns-clause-counts
 returns-clause-counts c =
-    let at : Place = placed some_place c.args.caller.now in
     let rows = c.args.quota.now in
     let t = c.args.tree.now in
     let u = c.set_size-done.new.self in
     let h = c.args.held.now in
-    let x = held_node t (option_map id_of c.args.caller.now.current) h c.requires.held in
-    let n = x.0 in
-    let inner : Inner = data_changed at.moment (sized c.args.size n.inner.content) n.inner in
+    let n : Node = c.requires.there.0 in
+    let holds = c.requires.there.1 in
+    let inner : Inner = data_changed c.args.moment (sized c.args.size n.inner.content) n.inner in
     let done : u ≡ ran (Touch n.id inner ∷ []) t =
-    sized_so t u (id_of h.id) n at.moment (found t n h x.1) c.args.size (held_kind t n h x.1 c.requires.file) (up_to c.args.size MOST_FILE c.requires.fits) c.set_size-done.result c.set_size-done.ensures.calm c.set_size-done.ensures.does in
+    sized_so t u (id_of h.id) n c.args.moment (found t n h holds) c.args.size (held_kind t n h holds c.requires.file) (up_to c.args.size MOST_FILE c.requires.fits) c.set_size-done.result c.set_size-done.ensures.calm c.set_size-done.ensures.does in
     subst (λ (rows : List Row). AreTotals rows u.nodes) (sym c.resize.ensures)
-    (sized_totals rows t u n h x.1 at.moment c.args.size c.requires.file done (c.totals.ensures.touched rows n.id inner n (world_of t) c.requires.counts x.1.node_is))
+    (sized_totals rows t u n h holds c.args.moment c.args.size c.requires.file done (c.totals.ensures.touched rows n.id inner n (world_of t) c.requires.counts holds.node_is))
 
 pub returns-clause-levels : goal.returns-clause-levels
 returns-clause-levels c = ap (λ (rows : List Row). length rows) c.resize.ensures ∙ resized_levels c.args.quota.now c.args.held.now.facts.label.0 c.args.held.now.facts.size c.args.size

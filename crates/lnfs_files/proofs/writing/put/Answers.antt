@@ -1,6 +1,4 @@
 use Rattle.std.proofs.Common.{◌≡◌, ◌∙◌, sym, subst, ap, ℕ, List, length, refl, true, false}
-use Rattle.std.specs.Prelude.{◌≤◌}
-use Rattle.std.specs.Option.{option_map}
 use Rattle.lnfs_world.specs.World.{World}
 use Rattle.lnfs_world.specs.Effects.{size_written}
 use Rattle.lnfs_world.specs.Outcome.{Place, Outcome}
@@ -9,17 +7,16 @@ use Rattle.lnfs_operations.specs.declared.Refusal.{Refusal}
 use Rattle.lnfs_operations.specs.Chain.{Answer, refuse}
 use Rattle.lnfs_operations.specs.Files.{passes_quota}
 use Rattle.lnfs_operations.specs.Write.{Arguments, data_written}
-use Rattle.lnfs_quota.specs.Quota.{row_at, resized}
+use Rattle.lnfs_quota.specs.Quota.{resized}
 use Rattle.lnfs_quota.specs.declared.quota.Row.{Row}
 use Rattle.lnfs_quota.specs.Totals.{AreTotals}
-use Rattle.lnfs_tree.specs.Rows.{id_of}
 use Rattle.lnfs_tree.specs.Changed.{ran}
 use Rattle.lnfs_tree.specs.Places.{world_of}
 use Rattle.lnfs_nodes.specs.Acts.{placed}
 use Rattle.lnfs_files.specs.Worlds.{with_files}
 use Rattle.lnfs_files.specs.Acts.{Succeeds}
 use Rattle.lnfs_files.proofs.Charged.{resized_levels}
-use Rattle.lnfs_files.proofs.WriteOn.{held_node, file_is, no_data, only_memory, held_room, fits_so, within, past, goes_on, is_past, written_so, succeeds, written_totals}
+use Rattle.lnfs_files.proofs.WriteOn.{is_there, file_is, no_data, only_memory, is_counted, file_bytes, fits_so, within, past, goes_on, is_past, written_so, succeeds, written_totals}
 use Rattle.lnfs_files.proofs.WriteOn.{some_place, some_id}
 use Rattle.lnfs_files.proofs.writing.put.Goals as goal
 
@@ -27,19 +24,17 @@ pub unreachable-requires : goal.unreachable-requires
 unreachable-requires c =
     let t = c.args.tree.now in
     let h = c.args.held.now in
-    let x = held_node t (option_map id_of c.args.caller.now.current) h c.requires.held in
+    let x = is_there t _ h c.requires.held in
     no_data t x.0 h _ x.1 c.requires.file c.in_default.ensures
 
 pub byte_room-requires : goal.byte_room-requires
 byte_room-requires c =
+    let rows = c.args.quota.now in
     let t = c.args.tree.now in
     let h = c.args.held.now in
-    let x = held_node t (option_map id_of c.args.caller.now.current) h c.requires.held in
-    record {
-      held = λ known.
-          subst (λ (old : ℕ). old ≤ (row_at c.args.quota.now h.facts.label.0).bytes) (sym c.len-old.ensures.value)
-          (held_room c.args.quota.now t x.0 h c.in-Ok.file.now x.1 (file_is t x.0 h c.in-Ok.file.now x.1 c.in-Ok.ensures) (c.totals.ensures.held_bytes c.args.quota.now t.nodes x.0.id x.0 c.requires.counts x.1.node_is) known);
-    }
+    let x = is_there t _ h c.requires.held in
+    let is = file_is t x.0 h c.in-Ok.file.now x.1 c.in-Ok.ensures in
+    record { held = is_counted rows t x.0 h _ x.1 (file_bytes x.0 c.in-Ok.file.now is ∙ sym c.len-old.ensures.value) (c.totals.ensures.held_bytes rows t.nodes x.0.id x.0 c.requires.counts x.1.node_is) }
 
 pub returns-then-not-branch-clause-acts : goal.returns-then-not-branch-clause-acts
 returns-then-not-branch-clause-acts c = λ n p rest opens id stable holds.
@@ -84,7 +79,7 @@ returns-in-Ok-write-clause-counts c =
     let t = c.args.tree.now in
     let u = c.write.new.self in
     let h = c.args.held.now in
-    let x = held_node t (option_map id_of c.args.caller.now.current) h c.requires.held in
+    let x = is_there t _ h c.requires.held in
     let n = x.0 in
     let args : Arguments = record { id = some_id; offset = c.args.offset; stable = 0; content = c.args.content.now } in
     let is = file_is t n h c.in-Ok.file.now x.1 c.in-Ok.ensures in
@@ -102,7 +97,7 @@ unreachable-requires-in_default-error c =
     let at : Place = placed some_place c.args.caller.now in
     let t = c.args.tree.now in
     let h = c.args.held.now in
-    let x = held_node t (option_map id_of c.args.caller.now.current) h c.requires.held in
+    let x = is_there t _ h c.requires.held in
     let n = x.0 in
     let args : Arguments = record { id = some_id; offset = c.args.offset; stable = 0; content = c.args.content.now } in
     let is = file_is t n h c.in-Ok.file.now x.1 c.in-Ok.ensures in

@@ -1,14 +1,10 @@
-use Rattle.std.proofs.Common.{ap, ℕ, option_map}
-use Rattle.lnfs_operations.specs.declared.Gate.{Gate}
+use Rattle.std.proofs.Common.{ap, option_map}
 use Rattle.lnfs_operations.specs.declared.Gate.TheVariants.{Argument}
-use Rattle.lnfs_operations.specs.Chain as chain
 use Rattle.lnfs_site.specs.Site.{site_of}
 use Rattle.lnfs_tree.specs.Rows.{id_of, kind_of}
+use Rattle.lnfs_nodes.specs.Told.{refusal}
 use Rattle.lnfs_nodes.proofs.LookedUp.{read_off, found, absent}
 use Rattle.lnfs_nodes.proofs.lookups.lookup.Goals as goal
-
-abbrev refusal : Gate → ℕ → chain.Refusal
-refusal gate status = record { gate = gate; status = status }
 
 pub returns-in-Some-denied : goal.returns-in-Some-denied
 returns-in-Some-denied c = λ p rest.

@@ -5,7 +5,8 @@ use Rattle.lnfs_world.specs.World.{Open, open_order}
 use Rattle.lnfs_counts.proofs.Entries.{find-entries, set-entries}
 use Rattle.lnfs_open.specs.declared.keys.OpenRow.{OpenRow}
 use Rattle.lnfs_open.specs.Listed.{id_of, row_of, open_of, AreOwn}
-use Rattle.lnfs_open.specs.Opening.{sequence_after, joined, rows_set}
+use Rattle.lnfs_world.specs.Opens.{joined, sequence_after}
+use Rattle.lnfs_open.specs.Opening.{rows_set}
 use Rattle.lnfs_open.specs.Indexed.{own_id}
 use Rattle.lnfs_open.proofs.Entries.{key_cmp, keys, at, own_at, own_set}
 use Rattle.lnfs_open.proofs.rows.join_row.Goals as goal

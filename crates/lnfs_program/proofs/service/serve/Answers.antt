@@ -4,7 +4,7 @@ use Rattle.lnfs_workers.specs.Served.{telling}
 use Rattle.lnfs_program.specs.declared.status.Stop.TheVariants as stops
 use Rattle.lnfs_program.proofs.Accepting.{none_for_memory, links_lost, serves_short, serves_stopped, serves_told}
 use Rattle.lnfs_program.proofs.Excusing.{links_only}
-use Rattle.lnfs_program.proofs.Sessions.{each_length}
+use Rattle.lnfs_workers.proofs.Dealt.{each_at_length}
 use Rattle.lnfs_program.proofs.service.serve.Goals as goal
 
 pub returns-in_err-vault-clause-serves : goal.returns-in_err-vault-clause-serves
@@ -20,7 +20,7 @@ pub returns-in_err-ended-clause-serves : goal.returns-in_err-ended-clause-serves
 returns-in_err-ended-clause-serves g c = serves_short _ _ _ _ (search rules) (links_lost (telling g.N.L.Source.left g.N.L.Sink.taken g.N.L.Source.read_faults g.N.L.Sink.write_faults) _ _ (rw c.deref.ensures.value at c.in_ok-links.ensures.came))
 
 pub tell-requires-clause-owes : goal.tell-requires-clause-owes
-tell-requires-clause-owes g c = rw (each_length _ 0 _ _ c.in_ok-ended.ensures.ends) c.in_ok-links.ensures.came.owes
+tell-requires-clause-owes g c = rw (each_at_length _ 0 _ _ c.in_ok-ended.ensures.ends) c.in_ok-links.ensures.came.owes
 
 pub returns-clause-serves : goal.returns-clause-serves
 returns-clause-serves g c =

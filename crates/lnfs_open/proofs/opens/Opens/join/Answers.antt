@@ -5,7 +5,8 @@ use Rattle.lnfs_open.specs.Lists.{Lists}
 use Rattle.lnfs_open.specs.Listed.{id_of, client_id, node_id}
 use Rattle.lnfs_open.specs.Kept.{lists_in}
 use Rattle.lnfs_open.specs.Finding.{index_of}
-use Rattle.lnfs_open.specs.Opening.{Wish, own_open, sequence_after, joined, rows_set, IsJoined}
+use Rattle.lnfs_world.specs.Opens.{joined, sequence_after}
+use Rattle.lnfs_open.specs.Opening.{Wish, own_open, rows_set, IsJoined}
 use Rattle.lnfs_open.specs.Indexed.{open_at}
 use Rattle.lnfs_open.proofs.Indexing.{told_same}
 use Rattle.lnfs_open.proofs.Joining.{id_in, own_at, set_kept, answered, clash}

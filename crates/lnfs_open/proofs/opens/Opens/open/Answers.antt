@@ -2,7 +2,8 @@ use Rattle.std.proofs.Common.{◌≡◌, Option, None, sym, ap, ◌∙◌, subst
 use Rattle.lnfs_world.specs.World.{Open}
 use Rattle.lnfs_open.specs.Lists.{Lists}
 use Rattle.lnfs_open.specs.Listed.{client_id, node_id}
-use Rattle.lnfs_open.specs.Opening.{Wish, own_open, joined, rows_set, opened_by, Does}
+use Rattle.lnfs_world.specs.Opens.{joined}
+use Rattle.lnfs_open.specs.Opening.{Wish, own_open, rows_set, opened_by, Does}
 use Rattle.lnfs_open.proofs.Joining.{none_joined}
 use Rattle.lnfs_open.proofs.opens.Opens.«open».Goals as goal
 
