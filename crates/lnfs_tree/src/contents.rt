@@ -6,7 +6,7 @@ ghost use Rattle.lnfs_world.specs.Rows.{updated};
 ghost use Rattle.lnfs_tree.specs.Rows.{id_of};
 
 use crate::node::{NodeId, NodeKind, TreeError};
-use crate::store::{Node, Store};
+use crate::store::{Node, Store, node_mut};
 use crate::tree::Tree;
 use lnfs_content::Content;
 use lnfs_outside::Moment;
@@ -69,13 +69,7 @@ impl Store {
         requires { size ≤ MOST_FILE }
         ensures { self.new ≡ updated (is_node (id_of id)) (with_size size at) self.old }
     {
-        // The call says that the identifiers rise.
-        let _count = self.by_id.len();
-        let Some(key) = self.by_id.get(&id) else {
-            return;
-        };
-        let key = *key;
-        let Some(node) = self.slots.get_mut(key) else {
+        let Some(node) = node_mut(&mut self.slots, &self.by_id, id) else {
             return;
         };
         node.set_size(size, at);
@@ -94,14 +88,8 @@ impl Store {
         ensures ok { OnOk result (self.new ≡ updated (is_node (id_of id)) (with_written offset bytes.now at) self.old) }
         ensures err { OnErr result (self.new ≡ self.old) }
     {
-        // The call says that the identifiers rise.
-        let _count = self.by_id.len();
-        let Some(key) = self.by_id.get(&id) else {
+        let Some(node) = node_mut(&mut self.slots, &self.by_id, id) else {
             return Ok(());
-        };
-        let key = *key;
-        let Some(node) = self.slots.get_mut(key) else {
-            unreachable!();
         };
         node.write(alloc, offset, bytes, at)?;
         Ok(())
