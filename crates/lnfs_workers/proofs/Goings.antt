@@ -7,13 +7,17 @@ use Rattle.lnfs_outside.specs.Bytes.{AppendsPart}
 use Rattle.lnfs_rpc.specs.Formats.{whole_record}
 use Rattle.lnfs_rpc.specs.CallGrammar.{Begins}
 use Rattle.lnfs_rpc.specs.Records.{Stream, IsPartial}
+use Rattle.lnfs_outside.specs.declared.event.Moment.{Moment}
 use Rattle.lnfs_history.specs.declared.entry.Entry.{Entry}
+use Rattle.lnfs_history.specs.Entries.{Part}
 use Rattle.lnfs_workers.specs.Transcripts.{messages, framed, transcript}
 use Rattle.lnfs_workers.specs.declared.ending.TheConstants.{BUDGET}
 use Rattle.lnfs_workers.specs.declared.ending.Ending.{Ending}
 use Rattle.lnfs_workers.specs.declared.ending.Ending.TheVariants.{Closed, Cut, ReadFault, WriteFault, TooLong, Budget, Memory}
 use Rattle.lnfs_workers.specs.Turns.{IsOfCutting, SaysRead, ReadOn, IsOfWriting}
 use Rattle.lnfs_workers.specs.Served.{Tells, Going, EndsAs, Service}
+use Rattle.lnfs_workers.specs.Links.{IsServed}
+use Rattle.lnfs_workers.specs.declared.line.LinkEnd.{LinkEnd}
 use Rattle.lnfs_workers.proofs.Records.{stream_more, stream_push, messages_push, transcript_push}
 
 -- bytes were read behind what is pending
@@ -159,3 +163,7 @@ ends_writing ending old now new pending after entries e g b is_of w later left r
     by_ending TooLong h = absurd h
     by_ending Budget h = absurd h
     by_ending Memory h = omega arith
+
+-- what is told of a link that is over is what was served
+pub told_over : {L : Type 0} (tell : L → Tells) (may : Moment → Type 0) (class : ℕ) (link : L) (end said : LinkEnd L) (place held : Part) → end ≡ said → place ≡ held → IsServed tell may class link said held.entries → IsServed tell may class link end place.entries
+told_over tell may class link end said place held is same served = subst (λ (p : LinkEnd _ × Part). IsServed tell may class link p.0 p.1.entries) (λ t. (sym is t, sym same t)) served

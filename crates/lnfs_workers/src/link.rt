@@ -31,6 +31,26 @@ pub struct Shared<'a, B: Room, M: Mechanism + Drop, X: Extra, C, G> {
     pub gate: &'a G,
 }
 
+/// What is told of a link that is over, with its place.
+fn over<B: Room, L: Link + Drop>(
+    class: u32,
+    link: L,
+    ending: Ending,
+    records: u32,
+    place: Place<B>,
+) -> Done<B, L>
+    ensures end { result.end ≡ record { class = class; link = link; ending = ending; records = records } }
+    ensures place { result.place ≡ place }
+{
+    let end = LinkEnd {
+        class,
+        link,
+        ending,
+        records,
+    };
+    Done { end, place }
+}
+
 /// Serves a link to its end.
 fn serve_link<B: Room, M: Mechanism + Drop, X: Extra, C: Clock, G: Gate, L: Link + Drop, R: Wait>(
     rt: &R,
@@ -52,34 +72,12 @@ fn serve_link<B: Room, M: Mechanism + Drop, X: Extra, C: Clock, G: Gate, L: Link
             Ok(Some(message)) => message,
             Ok(None) => match read_on(&mut link, &mut deframer) {
                 None => continue,
-                Some(ending) => {
-                    let end = LinkEnd {
-                        class,
-                        link,
-                        ending,
-                        records,
-                    };
-                    return Done { end, place };
-                }
+                Some(ending) => return over(class, link, ending, records, place),
             },
-            Err(ending) => {
-                let end = LinkEnd {
-                    class,
-                    link,
-                    ending,
-                    records,
-                };
-                return Done { end, place };
-            }
+            Err(ending) => return over(class, link, ending, records, place),
         };
         if records == BUDGET {
-            let end = LinkEnd {
-                class,
-                link,
-                ending: Ending::Budget,
-                records,
-            };
-            return Done { end, place };
+            return over(class, link, Ending::Budget, records, place);
         }
         turns.pass(shared.gate);
         let moment = moment_of(shared.clock);
@@ -91,24 +89,13 @@ fn serve_link<B: Room, M: Mechanism + Drop, X: Extra, C: Clock, G: Gate, L: Link
         let (told, reply) = serve_record(rt, codecs, shared.history, shared.desk, place, arrival);
         place = told;
         let Ok(reply) = reply else {
-            let end = LinkEnd {
-                class,
-                link,
-                ending: Ending::Memory,
-                records,
-            };
-            return Done { end, place };
+            return over(class, link, Ending::Memory, records, place);
         };
         records += 1;
-        if let Err(ending) = put_reply(shared.alloc, &mut link, &reply) {
-            let end = LinkEnd {
-                class,
-                link,
-                ending,
-                records,
-            };
-            return Done { end, place };
-        }
+        let Err(ending) = put_reply(shared.alloc, &mut link, &reply) else {
+            continue;
+        };
+        return over(class, link, ending, records, place);
     }
     unreachable!()
 }

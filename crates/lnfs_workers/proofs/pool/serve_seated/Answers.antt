@@ -1,4 +1,4 @@
-use Rattle.std.proofs.Common.{◌≡◌, ◌≤◌, ◌∙◌, [], ℕ, List, ap, refl, sym, subst, arith, length}
+use Rattle.std.proofs.Common.{◌≡◌, ◌∙◌, [], ℕ, List, ap, refl, sym, subst, arith, length}
 use Rattle.std.specs.Prelude.{All}
 use Rattle.lnfs_outside.specs.Moments.{Fits}
 use Rattle.lnfs_outside.specs.declared.event.Event.{Event}
@@ -7,13 +7,12 @@ use Rattle.lnfs_vault.specs.Kept.{Kept}
 use Rattle.lnfs_workers.specs.Transcripts.{entries_of}
 use Rattle.lnfs_workers.specs.Lines.{lines_in, lines_of}
 use Rattle.lnfs_workers.specs.Served.{telling}
-use Rattle.lnfs_workers.specs.Links.{IsServed, IsDone, Comes, Waits}
+use Rattle.lnfs_workers.specs.Links.{IsServed, Waits}
 use Rattle.lnfs_workers.specs.Pairs.{EachAt}
-use Rattle.lnfs_workers.specs.declared.line.Done.{Done}
 use Rattle.lnfs_workers.specs.declared.line.LinkEnd.{LinkEnd}
 use Rattle.lnfs_workers.proofs.Pairs.{if_ok_two, if_ok_three}
-use Rattle.lnfs_workers.proofs.Dealt.{Dealt, dealt_worked, dealt_all, each_of_all}
-use Rattle.lnfs_workers.proofs.Seats.{waits_empty, waits_done}
+use Rattle.lnfs_workers.proofs.Dealt.{dealt_all, each_of_all}
+use Rattle.lnfs_workers.proofs.Seats.{waits_empty, all_served}
 use Rattle.lnfs_workers.proofs.pool.serve_seated.Goals as goal
 
 pub serve_hands-requires-clause-entries : goal.serve_hands-requires-clause-entries
@@ -24,27 +23,14 @@ serve_hands-requires-clause-entries g c κs within =
 
 pub settle-requires-clause-some : goal.settle-requires-clause-some
 settle-requires-clause-some g c =
-    let links = c.args.links.now.value.items in
     let tell = telling g.L.Source.left g.L.Sink.taken g.L.Source.read_faults g.L.Sink.write_faults in
-    let may = g.C.Clock.may c.args.clock.now in
-    let Q = λ (n : ℕ) (one : Done g.row.B.Denot g.row.L.Denot). (one.place.link ≡ n) × Comes tell may links n one.end one.place.entries in
-    let worked = dealt_worked (λ hand. hand.items) (λ hand. hand.items) (Waits {B = g.row.B.Denot} links) (IsDone tell may) Q (length links) (length c.args.hands.items)
-    (waits_done {B = g.row.B.Denot} links tell may)
-    0 c.args.hands.items c.in_ok-done.done.items c.requires.hands c.in_ok-done.ensures in
-    let long : length c.in_ok-done.done.items ≡ length c.args.hands.items = worked.1 in
-    let some = c.requires.some in
-    omega (arith, long, some)
+    let served = all_served {B = g.row.B.Denot} c.args.links.now.value.items tell (g.C.Clock.may c.args.clock.now) (λ hand. hand.items) (λ hand. hand.items) c.args.hands.items c.in_ok-done.done.items c.requires.hands c.in_ok-done.ensures in
+    omega (arith, served.0, c.requires.some)
 
 pub settle-requires-clause-hands : goal.settle-requires-clause-hands
 settle-requires-clause-hands g c =
-    let links = c.args.links.now.value.items in
     let tell = telling g.L.Source.left g.L.Sink.taken g.L.Source.read_faults g.L.Sink.write_faults in
-    let may = g.C.Clock.may c.args.clock.now in
-    let Q = λ (n : ℕ) (one : Done g.row.B.Denot g.row.L.Denot). (one.place.link ≡ n) × Comes tell may links n one.end one.place.entries in
-    let worked = dealt_worked (λ hand. hand.items) (λ hand. hand.items) (Waits {B = g.row.B.Denot} links) (IsDone tell may) Q (length links) (length c.args.hands.items)
-    (waits_done {B = g.row.B.Denot} links tell may)
-    0 c.args.hands.items c.in_ok-done.done.items c.requires.hands c.in_ok-done.ensures in
-    subst (λ (step : ℕ). Dealt (λ hand. hand.items) Q (length links) step 0 c.in_ok-done.done.items) (sym worked.1) worked.0
+    (all_served {B = g.row.B.Denot} c.args.links.now.value.items tell (g.C.Clock.may c.args.clock.now) (λ hand. hand.items) (λ hand. hand.items) c.args.hands.items c.in_ok-done.done.items c.requires.hands c.in_ok-done.ensures).1
 
 pub returns-clause-ends : goal.returns-clause-ends
 returns-clause-ends g c =
