@@ -1,12 +1,11 @@
 -- Opens of a group.
 use Rattle.std.proofs.Common.{◌≡◌, Bool, true, false, not, ◌||◌, List, [], ◌∷◌, Option, Some, None, refl, sym, ap, ◌∙◌, arith}
 use Rattle.std.specs.Prelude.{IfSome, IfNone, is_some}
-use Rattle.std.specs.List.{AllByRecursion, list_any, list_all}
+use Rattle.std.specs.List.{list_any, list_all}
 use Rattle.std.proofs.lemmas.Bool.{false≢true}
 use Rattle.lnfs_world.specs.Rows.{Rising}
 use Rattle.lnfs_world.specs.World.{Id, Open, open_order, same_id}
 use Rattle.lnfs_world.proofs.Rows.{all_weaker, all_none, any_found}
-use Rattle.lnfs_world.proofs.Keys.{id_same}
 use Rattle.lnfs_counts.proofs.Rows as rows
 use Rattle.lnfs_counts.proofs.Rows.{each_at, found_id}
 use Rattle.lnfs_open.specs.declared.keys.Key.{Key}

@@ -18,7 +18,7 @@ abbrev pub id_in : Option Open → Option Id
 id_in x = option_map (λ o. o.id) x
 
 -- what is one's own is found at its identifier
-pub own_at : (s : Lists) (wish : Wish) (i : Id) → Rising open_order s.opens → Some i ≡ id_in (own_open s wish) → own_open s wish ≡ open_at s.opens i
+own_at : (s : Lists) (wish : Wish) (i : Id) → Rising open_order s.opens → Some i ≡ id_in (own_open s wish) → own_open s wish ≡ open_at s.opens i
 own_at s wish i rise known = by (own_open s wish) refl known
   where
     by : (x : Option Open) → own_open s wish ≡ x → Some i ≡ id_in x → x ≡ open_at s.opens i
@@ -44,6 +44,18 @@ answered access deny (Some o) i r sequence known told id seq =
 pub clash : {A B : Type 0} (f : Open → A) (g : Open → B) (x : Option Open) (a : A) → Some a ≡ option_map f x → None ≡ option_map g x → ⊥
 clash f g None a some none = absurd (cc)
 clash f g (Some o) a some none = absurd (cc)
+
+-- one's own that is found is the open of its identifier
+pub own_known : (s v : Lists) (wish : Wish) (i : Id) → s ≡ v → Rising open_order s.opens → Some i ≡ id_in (own_open v wish) → (Some i ≡ id_in (own_open s wish)) × (own_open s wish ≡ open_at s.opens i)
+own_known s v wish i same rise own =
+    let known : Some i ≡ id_in (own_open s wish) = own ∙ sym (ap (λ (lists : Lists). id_in (own_open lists wish)) same) in
+    (known, own_at s wish i rise known)
+
+-- one's own that is joined has a sequence
+pub has_sequence : (s v : Lists) (wish : Wish) (i : Id) → s ≡ v → Rising open_order s.opens → Some i ≡ id_in (own_open v wish) → None ≡ option_map (λ (o : Open). sequence_after o.sequence) (open_at s.opens i) → ⊥
+has_sequence s v wish i same rise own none =
+    let known = own_known s v wish i same rise own in
+    clash (λ (o : Open). o.id) (λ (o : Open). sequence_after o.sequence) (open_at s.opens i) i (known.0 ∙ ap id_in known.1) none
 
 pub none_joined : (access deny : ℕ) (x : Option Open) → IsJoined access deny x None → x ≡ None
 none_joined access deny None h = refl

@@ -1,9 +1,8 @@
 use Rattle.std.proofs.Common.{◌≡◌, refl, ap, sym, subst, ◌∙◌, ℕ, true, false, List, Some, None, Ok}
 use Rattle.lnfs_calipso.specs.declared.Level.{Level}
 use Rattle.lnfs_arguments.specs.declared.types.Making.{Making}
-use Rattle.lnfs_world.specs.World.{Id, Node, World, node_at, label_at, is_directory}
-use Rattle.lnfs_world.specs.Names.{entry_at}
-use Rattle.std.specs.Prelude.{◌&&◌, is_some}
+use Rattle.lnfs_world.specs.World.{Id, Node, World, node_at, label_at}
+use Rattle.std.specs.Prelude.{◌&&◌}
 use Rattle.lnfs_world.specs.Effects.{name_added, next_entry, has_number, has_cookie, next_id}
 use Rattle.lnfs_world.specs.Change.{Change}
 use Rattle.lnfs_world.specs.Outcome.{Place, Outcome}
@@ -28,7 +27,7 @@ use Rattle.lnfs_files.specs.declared.opened.Opened as code_opened
 use Rattle.lnfs_world.proofs.NewNames.{next_absent}
 use Rattle.lnfs_files.proofs.Makes.{makes, none_of}
 use Rattle.lnfs_files.proofs.Opens.{wished, same_wish, only_memory}
-use Rattle.lnfs_files.proofs.Absents.{behind, by_label, opens_left, is_full, is_spent, is_made, absent_in, made_counts, same_changes, no_label}
+use Rattle.lnfs_files.proofs.Absents.{behind, by_label, opens_left, is_full, is_spent, is_made, absent_in, made_in, counts_in, same_changes, no_label}
 use Rattle.lnfs_files.proofs.absent.open_absent.Goals as goal
 
 pub returns-in-Err-clause-acts : goal.returns-in-Err-clause-acts
@@ -159,41 +158,23 @@ returns-in-Ok-open-clause-acts c = λ p rest d holds.
 
 pub returns-in-Ok-open-clause-counts : goal.returns-in-Ok-open-clause-counts
 returns-in-Ok-open-clause-counts c =
-    let t = c.args.tree.now in
-    let u = c.insert.new.self in
-    let d : Node = c.requires.there.0 in
-    let holds = c.requires.there.1.0 in
-    let x : (is_directory d.kind ≡ true) × (is_some (entry_at t.entries d.id c.args.name.now) ≡ false) = (c.requires.there.1.1, c.requires.there.1.2) in
-    let fresh = c.in_ok-fresh.fresh in
-    let moment = c.args.opener.now.caller.now.moment in
-    let there = inserted t u (id_of c.args.dir.now.id) d c.args.name.now fresh moment (ap (λ (i : Id). node_at t.nodes i) holds.id ∙ holds.node_is) x.0 x.1 c.in-Ok.made c.in-Ok.ensures in
-    subst (λ (rows : List Row). AreTotals rows u.nodes) (sym c.charge_node.ensures)
-    (made_counts c.args.quota.now (site_of c.args.opener.now.site.now).dom t u d c.args.name.now fresh moment c.args.dir.now.facts.label.0 (c.totals.ensures.touched_alike c.args.quota.now) (c.totals.ensures.made c.args.quota.now) c.requires.counts c.requires.facts holds.node_is x.0
-    (ap (λ (l : Level). l.0) c.in_ok-fresh.ensures.home) there.2)
+    let rows = c.args.quota.now in
+    subst (λ (rows : List Row). AreTotals rows c.insert.new.self.nodes) (sym c.charge_node.ensures)
+    (counts_in rows (site_of c.args.opener.now.site.now).dom c.args.tree.now c.insert.new.self c.args.dir.now c.args.name.now c.requires.there c.in_ok-fresh.fresh c.args.opener.now.caller.now.moment c.args.dir.now.facts.label.0 c.in-Ok.made
+    (c.totals.ensures.touched_alike rows) (c.totals.ensures.made rows) c.requires.counts c.requires.facts (ap (λ (l : Level). l.0) c.in_ok-fresh.ensures.home) c.in-Ok.ensures)
 
 pub returns-in-Memory-error-clause-tree : goal.returns-in-Memory-error-clause-tree
 returns-in-Memory-error-clause-tree c =
     let t = c.args.tree.now in
-    let u = c.insert.new.self in
     let d : Node = c.requires.there.0 in
-    let holds = c.requires.there.1.0 in
-    let x : (is_directory d.kind ≡ true) × (is_some (entry_at t.entries d.id c.args.name.now) ≡ false) = (c.requires.there.1.1, c.requires.there.1.2) in
     let fresh = c.in_ok-fresh.fresh in
     let moment = c.args.opener.now.caller.now.moment in
-    let there = inserted t u (id_of c.args.dir.now.id) d c.args.name.now fresh moment (ap (λ (i : Id). node_at t.nodes i) holds.id ∙ holds.node_is) x.0 x.1 c.in-Ok.made c.in-Ok.ensures in
     let i : Id = next_id t.lasts fresh.home.0 in
-    (Some (record { directory = d.id; inner = name_added moment d.inner; node = new_node moment fresh i; entry = next_entry d c.args.name.now i }), there.2)
+    (Some (record { directory = d.id; inner = name_added moment d.inner; node = new_node moment fresh i; entry = next_entry d c.args.name.now i }), made_in t c.insert.new.self c.args.dir.now c.args.name.now c.requires.there fresh moment c.in-Ok.made c.in-Ok.ensures)
 
 pub returns-in-Memory-error-clause-counts : goal.returns-in-Memory-error-clause-counts
 returns-in-Memory-error-clause-counts c =
-    let t = c.args.tree.now in
-    let u = c.insert.new.self in
-    let d : Node = c.requires.there.0 in
-    let holds = c.requires.there.1.0 in
-    let x : (is_directory d.kind ≡ true) × (is_some (entry_at t.entries d.id c.args.name.now) ≡ false) = (c.requires.there.1.1, c.requires.there.1.2) in
-    let fresh = c.in_ok-fresh.fresh in
-    let moment = c.args.opener.now.caller.now.moment in
-    let there = inserted t u (id_of c.args.dir.now.id) d c.args.name.now fresh moment (ap (λ (i : Id). node_at t.nodes i) holds.id ∙ holds.node_is) x.0 x.1 c.in-Ok.made c.in-Ok.ensures in
-    subst (λ (rows : List Row). AreTotals rows u.nodes) (sym c.charge_node.ensures)
-    (made_counts c.args.quota.now (site_of c.args.opener.now.site.now).dom t u d c.args.name.now fresh moment c.args.dir.now.facts.label.0 (c.totals.ensures.touched_alike c.args.quota.now) (c.totals.ensures.made c.args.quota.now) c.requires.counts c.requires.facts holds.node_is x.0
-    (ap (λ (l : Level). l.0) c.in_ok-fresh.ensures.home) there.2)
+    let rows = c.args.quota.now in
+    subst (λ (rows : List Row). AreTotals rows c.insert.new.self.nodes) (sym c.charge_node.ensures)
+    (counts_in rows (site_of c.args.opener.now.site.now).dom c.args.tree.now c.insert.new.self c.args.dir.now c.args.name.now c.requires.there c.in_ok-fresh.fresh c.args.opener.now.caller.now.moment c.args.dir.now.facts.label.0 c.in-Ok.made
+    (c.totals.ensures.touched_alike rows) (c.totals.ensures.made rows) c.requires.counts c.requires.facts (ap (λ (l : Level). l.0) c.in_ok-fresh.ensures.home) c.in-Ok.ensures)

@@ -7,28 +7,19 @@ use Rattle.lnfs_open.specs.Kept.{lists_in}
 use Rattle.lnfs_open.specs.Finding.{index_of}
 use Rattle.lnfs_world.specs.Opens.{joined, sequence_after}
 use Rattle.lnfs_open.specs.Opening.{Wish, own_open, rows_set, IsJoined}
-use Rattle.lnfs_open.specs.Indexed.{open_at}
 use Rattle.lnfs_open.proofs.Indexing.{told_same}
-use Rattle.lnfs_open.proofs.Joining.{id_in, own_at, set_kept, answered, clash}
+use Rattle.lnfs_open.proofs.Joining.{own_known, set_kept, answered, has_sequence}
 use Rattle.lnfs_open.proofs.opens.Opens.join.Goals as goal
 
 pub returns-in_err-seq-clause-answer : goal.returns-in_err-seq-clause-answer
 returns-in_err-seq-clause-answer c =
-    let s = lists_in c.self.inside.rows.entries c.self.inside.counters in
     let wish : Wish = record { client = client_id c.args.client; owner = c.args.owner.now; node = node_id c.args.node; access = c.args.access; deny = c.args.deny } in
-    let i = id_of c.in_ok-id.id in
-    let known : Some i ≡ id_in (own_open s wish) = c.in_ok-id.ensures ∙ sym (ap (λ (lists : Lists). id_in (own_open lists wish)) c.self.view_is) in
-    let own : own_open s wish ≡ open_at s.opens i = own_at s wish i c.self.invariant.indexed.counted.rise known in
-    absurd (clash (λ (o : Open). o.id) (λ (o : Open). sequence_after o.sequence) (open_at s.opens i) i (known ∙ ap id_in own) c.in_err-seq.ensures.sequence)
+    absurd (has_sequence _ _ wish (id_of c.in_ok-id.id) c.self.view_is c.self.invariant.indexed.counted.rise c.in_ok-id.ensures c.in_err-seq.ensures.sequence)
 
 pub returns-in_err-seq-clause-lists : goal.returns-in_err-seq-clause-lists
 returns-in_err-seq-clause-lists c =
-    let s = lists_in c.self.inside.rows.entries c.self.inside.counters in
     let wish : Wish = record { client = client_id c.args.client; owner = c.args.owner.now; node = node_id c.args.node; access = c.args.access; deny = c.args.deny } in
-    let i = id_of c.in_ok-id.id in
-    let known : Some i ≡ id_in (own_open s wish) = c.in_ok-id.ensures ∙ sym (ap (λ (lists : Lists). id_in (own_open lists wish)) c.self.view_is) in
-    let own : own_open s wish ≡ open_at s.opens i = own_at s wish i c.self.invariant.indexed.counted.rise known in
-    absurd (clash (λ (o : Open). o.id) (λ (o : Open). sequence_after o.sequence) (open_at s.opens i) i (known ∙ ap id_in own) c.in_err-seq.ensures.sequence)
+    absurd (has_sequence _ _ wish (id_of c.in_ok-id.id) c.self.view_is c.self.invariant.indexed.counted.rise c.in_ok-id.ensures c.in_err-seq.ensures.sequence)
 
 pub invariant_of-self-2 : goal.invariant_of-self-2
 invariant_of-self-2 c =
@@ -45,18 +36,16 @@ returns-clause-answer c =
     let s = lists_in c.self.inside.rows.entries c.self.inside.counters in
     let wish : Wish = record { client = client_id c.args.client; owner = c.args.owner.now; node = node_id c.args.node; access = c.args.access; deny = c.args.deny } in
     let i = id_of c.in_ok-id.id in
-    let known : Some i ≡ id_in (own_open s wish) = c.in_ok-id.ensures ∙ sym (ap (λ (lists : Lists). id_in (own_open lists wish)) c.self.view_is) in
-    let own : own_open s wish ≡ open_at s.opens i = own_at s wish i c.self.invariant.indexed.counted.rise known in
-    let told : Some c.in_ok-seq.seq ≡ option_map (λ (o : Open). sequence_after o.sequence) (own_open s wish) = c.in_ok-seq.ensures.sequence ∙ ap (option_map (λ (o : Open). sequence_after o.sequence)) (sym own) in
+    let known = own_known s c.args.self.now wish i c.self.view_is c.self.invariant.indexed.counted.rise c.in_ok-id.ensures in
+    let told : Some c.in_ok-seq.seq ≡ option_map (λ (o : Open). sequence_after o.sequence) (own_open s wish) = c.in_ok-seq.ensures.sequence ∙ ap (option_map (λ (o : Open). sequence_after o.sequence)) (sym known.1) in
     subst (λ (k : Lists). IsJoined c.args.access c.args.deny (own_open k wish) (Some c.at.result)) c.self.view_is
-    (answered c.args.access c.args.deny (own_open s wish) i c.at.result c.in_ok-seq.seq known told c.at.ensures.id c.at.ensures.seq)
+    (answered c.args.access c.args.deny (own_open s wish) i c.at.result c.in_ok-seq.seq known.0 told c.at.ensures.id c.at.ensures.seq)
 
 pub returns-clause-lists : goal.returns-clause-lists
 returns-clause-lists c =
     let s = lists_in c.self.inside.rows.entries c.self.inside.counters in
     let wish : Wish = record { client = client_id c.args.client; owner = c.args.owner.now; node = node_id c.args.node; access = c.args.access; deny = c.args.deny } in
     let i = id_of c.in_ok-id.id in
-    let known : Some i ≡ id_in (own_open s wish) = c.in_ok-id.ensures ∙ sym (ap (λ (lists : Lists). id_in (own_open lists wish)) c.self.view_is) in
-    let own : own_open s wish ≡ open_at s.opens i = own_at s wish i c.self.invariant.indexed.counted.rise known in
-    let new = c.join_row.ensures.joined ∙ ap (λ x. rows_set (joined c.args.access c.args.deny) x s.opens) (sym own) in
+    let known = own_known s c.args.self.now wish i c.self.view_is c.self.invariant.indexed.counted.rise c.in_ok-id.ensures in
+    let new = c.join_row.ensures.joined ∙ ap (λ x. rows_set (joined c.args.access c.args.deny) x s.opens) (sym known.1) in
     subst (λ (k : Lists). lists_in c.join_row.new.rows.entries c.self.inside.counters ≡ record k { opens = rows_set (joined c.args.access c.args.deny) (own_open k wish) k.opens }) c.self.view_is (λ t. record s { opens = new t })
