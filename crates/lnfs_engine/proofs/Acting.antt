@@ -56,15 +56,21 @@ first_nowhere Nowhere = refl
 first_nowhere (Slot slot sequence) = refl
 first_nowhere (Record client) = refl
 
--- one whose place stays, by another name
-module _ (begin : ℕ) (old new : List ℕ) (here : code.Keeper) (site : Site) (sent : Sent) (op same : Op) (p : Place) (w v : World) (answer : Result OpResult Refusal) (came : Came) (is : op ≡ same) where
-  pub performs_at : Acts (row site sent same p w) (own_of same Nowhere answer) p w v → Says begin old new (own_of op Nowhere answer) came → Performs begin old new here here p v (turn site sent op p w) came
-  performs_at did says =
-      performs begin old new here here p site sent op p p w v (own_of op Nowhere answer) came (subst (λ o. Acts (row site sent o p w) (own_of o Nowhere answer) p w v) (sym is) did) refl (first_nowhere (keeper_of here)) says
+-- by another name of the operation
+pub named : (site : Site) (sent : Sent) (op same : Op) (p q : Place) (w v : World) (r : Op → Reply) → op ≡ same → Acts (row site sent same p w) (r same) q w v → Acts (row site sent op p w) (r op) q w v
+named site sent op same p q w v r is = subst (λ o. Acts (row site sent o p w) (r o) q w v) (sym is)
 
-  -- which is the first of its COMPOUND
-  pub performs_first : Starts p here → Acts (row site sent same (begins_at p.subject p.moment) w) (own_of same Nowhere answer) (begins_at p.subject p.moment) w v → Says begin old new (own_of op Nowhere answer) came → Performs begin old new here here p v (turn site sent op p w) came
-  performs_first starts did = performs_at (subst (λ q. Acts (row site sent same q w) (own_of same Nowhere answer) q w v) (sym starts.place) did)
+-- one whose result is kept nowhere
+module _ (begin : ℕ) (old new : List ℕ) (here : code.Keeper) (site : Site) (sent : Sent) (op same : Op) (p q : Place) (w v : World) (answer : Result OpResult Refusal) (came : Came) (is : op ≡ same) where
+  pub performs_at : Acts (row site sent same p w) (own_of same Nowhere answer) q w v → Says begin old new (own_of op Nowhere answer) came → Performs begin old new here here q v (turn site sent op p w) came
+  performs_at did says =
+      performs begin old new here here q site sent op p q w v (own_of op Nowhere answer) came (named site sent op same p q w v (λ o. own_of o Nowhere answer) is did) refl (first_nowhere (keeper_of here)) says
+
+-- which is the first of its COMPOUND
+pub performs_first : (begin : ℕ) (old new : List ℕ) (here : code.Keeper) (site : Site) (sent : Sent) (op same : Op) (p : Place) (w v : World) (answer : Result OpResult Refusal) (came : Came) → op ≡ same →
+    Starts p here → Acts (row site sent same (begins_at p.subject p.moment) w) (own_of same Nowhere answer) (begins_at p.subject p.moment) w v → Says begin old new (own_of op Nowhere answer) came → Performs begin old new here here p v (turn site sent op p w) came
+performs_first begin old new here site sent op same p w v answer came is starts did =
+    performs_at begin old new here site sent op same p p w v answer came is (subst (λ q. Acts (row site sent same q w) (own_of same Nowhere answer) q w v) (sym starts.place) did)
 
 -- the first operation stands in no session
 pub starts_stands : (p : Place) (sessions : List Session) (keeper : code.Keeper) → Starts p keeper → Stands p sessions keeper

@@ -1,16 +1,15 @@
 -- The opens that stay where a client goes.
-use Rattle.std.proofs.Common.{◌≡◌, ℕ, Bool, true, false, ◌&&◌, List, ◌++◌, Option, Some, None, refl, subst, arith}
-use Rattle.std.specs.Prelude.{◌==◌, find}
+use Rattle.std.proofs.Common.{◌≡◌, ℕ, false, List, ◌++◌, Option, Some, None, refl, arith}
+use Rattle.std.specs.Prelude.{find}
 use Rattle.std.specs.List.{list_any}
 use Rattle.std.specs.Option.{option_map}
 use Rattle.lnfs_world.specs.World.{Client, Open, World, client_at}
 use Rattle.lnfs_world.specs.Change.{Change, DropClient, apply, apply_all, is_open_of}
-use Rattle.lnfs_world.specs.Facts.{is_confirmed, has_confirmed}
-use Rattle.lnfs_world.proofs.Keys.{id_same}
 use Rattle.lnfs_world.proofs.Rows.{all_none, all_weaker, all_find, all_anyway}
 use Rattle.lnfs_world.proofs.Views.{found_by_id}
 use Rattle.lnfs_operations.specs.ExchangeId.{is_pending, dropped}
 use Rattle.lnfs_counts.proofs.Rows.{none_filtered}
+use Rattle.lnfs_operations.proofs.ExchangeIdLaws.{other_client}
 use Rattle.lnfs_engine.specs.Stores.{opens_left}
 use Rattle.lnfs_engine.specs.Behind.{OpensBehind}
 
@@ -19,17 +18,6 @@ pub dropped_opens : (o : Option Client) (cs : List Change) (w : World) → ((v :
 dropped_opens None cs w stay = stay w
 dropped_opens (Some c) cs w stay = stay (apply (DropClient c.id) w)
 
--- a confirmed client isn't one that isn't confirmed
-other : (clients : List Client) (c : Client) (level number : ℕ) → client_at clients c.id ≡ Some c → c.confirmed ≡ false → has_confirmed clients level number ≡ true → (level == c.id.level && number == c.id.number) ≡ false
-other clients c level number found pending there = at (level == c.id.level && number == c.id.number) refl
-  where
-    at : (b : Bool) → (level == c.id.level && number == c.id.number) ≡ b → (level == c.id.level && number == c.id.number) ≡ false
-    at true is =
-        let same : record { level = level; number = number } ≡ c.id = id_same (record { level = level; number = number }) c.id is in
-        let it : is_confirmed (client_at clients c.id) ≡ true = subst (λ i. is_confirmed (client_at clients i) ≡ true) same there in
-        absurd (grind (arith, found, pending, it))
-    at false is = is
-
 module _ (clients : List Client) (opens : List Open) (behind : OpensBehind clients opens) where
   -- no open is of a client that isn't confirmed
   none_pending : (level : ℕ) (owner : List ℕ) (c : Client) → find (is_pending level owner) clients ≡ Some c → list_any (is_open_of c.id) opens ≡ false
@@ -37,7 +25,7 @@ module _ (clients : List Client) (opens : List Open) (behind : OpensBehind clien
       let pending = (all_find (λ c. Unit {0}) (is_pending level owner) clients c (all_anyway _ (λ c. tt) clients) found).1 in
       let unconfirmed : c.confirmed ≡ false = grind (arith, pending) in
       let there : client_at clients c.id ≡ Some c = found_by_id (λ c. c.id) (is_pending level owner) clients c behind.rise found in
-      all_none (is_open_of c.id) opens (all_weaker _ _ (λ o known. other clients c o.id.level o.client there unconfirmed known) opens behind.behind)
+      all_none (is_open_of c.id) opens (all_weaker _ _ (λ o known. other_client clients c there unconfirmed o.id.level o.client known) opens behind.behind)
 
   pub pending_left : (level : ℕ) (owner : List ℕ) (o : Option Client) → find (is_pending level owner) clients ≡ o → opens_left (option_map (λ (c : Client). c.id) o) opens ≡ opens
   pending_left level owner None found = refl

@@ -1,20 +1,15 @@
 -- An operation that changes the tree or the opens, by what is told of it.
 use Rattle.std.proofs.Common.{◌≡◌, ℕ, List, Option, Some, None, Ok, Err, refl, sym, ap, ◌∙◌, subst}
 use Rattle.std.specs.Prelude.{Result, IfOk}
-use Rattle.std.proofs.lemmas.Result.{IfOk-weaker}
-use Rattle.lnfs_arguments.specs.declared.types.Op.{Op}
 use Rattle.lnfs_results.specs.declared.types.OpResult.{OpResult}
 use Rattle.lnfs_world.specs.World.{Node, World}
-use Rattle.lnfs_world.specs.Outcome.{Site, Place, Outcome, done_to}
+use Rattle.lnfs_world.specs.Outcome.{Place, Outcome, done_to}
 use Rattle.lnfs_operations.specs.declared.Refusal.{Refusal}
 use Rattle.lnfs_operations.specs.Chain.{Answer, Done, refuse}
-use Rattle.lnfs_operations.specs.Sequence.{Sent}
-use Rattle.lnfs_operations.specs.Served.{Nowhere, success, reply_of, row}
+use Rattle.lnfs_operations.specs.Served.{Nowhere, success, reply_of}
 use Rattle.lnfs_tree.specs.Rows.{Rows}
 use Rattle.lnfs_nodes.specs.Trees.{with_tree, answered, stays}
 use Rattle.lnfs_nodes.specs.Acts as nodes
-use Rattle.lnfs_engine.specs.declared.place.Keeper as code
-use Rattle.lnfs_engine.specs.declared.reply.Came.{Came}
 use Rattle.lnfs_quota.specs.declared.quota.Row.{Row}
 use Rattle.lnfs_quota.specs.Quota.{node_charged}
 use Rattle.lnfs_quota.specs.Totals.{AreTotals}
@@ -25,13 +20,9 @@ use Rattle.lnfs_tree.specs.Changed.{Gone}
 use Rattle.lnfs_engine.specs.Counts.{AreAsMany, IsMore, WentFrom, TakenFrom, charged}
 use Rattle.lnfs_engine.specs.Stores.{opens_without, opens_past}
 use Rattle.lnfs_engine.proofs.Counting.{more_counts}
-use Rattle.lnfs_engine.specs.Places.{keeper_of, IsMoved}
-use Rattle.lnfs_engine.specs.Replies.{Acts, own_of}
-use Rattle.lnfs_engine.specs.Performs.{turn, Performs}
+use Rattle.lnfs_engine.specs.Places.{IsMoved}
 use Rattle.lnfs_engine.specs.Nodes.{told_as}
 use Rattle.lnfs_engine.specs.Names.{Serves, landed}
-use Rattle.lnfs_engine.proofs.Acting.{first_nowhere, performs}
-use Rattle.lnfs_engine.proofs.Telling.{Said}
 
 -- ---- what is told of an operation on a world
 
@@ -129,16 +120,3 @@ module _ {A R : Type 0} (told : A → R) (lands : A → Place) (p : Place) (old 
 pub lands_moved : {A : Type 0} (lands : A → Place) (p q : Place) (found : Result A Refusal) → ((a : A) → IsMoved p (lands a)) → q ≡ landed lands p found → IsMoved p q
 lands_moved lands p q (Ok a) moved is = subst (IsMoved p) (sym is) (moved a)
 lands_moved lands p q (Err why) moved is = subst (IsMoved p) (sym is) refl
-
--- ---- an operation whose answer is appended
-
-module _ (begin : ℕ) (old new : List ℕ) (site : Site) (sent : Sent) (op same : Op) (p q : Place) (answer : Result OpResult Refusal) (is : op ≡ same) {E : Type 0} (result : Result Came E) (said : IfOk result (Said old new op answer)) where
-  -- from worlds to worlds
-  pub told_names : (before after : World → World) → ((rest : World) → Acts (row site sent same p (before rest)) (own_of same Nowhere answer) q (before rest) (after rest)) →
-      IfOk result (λ came. (keeper : code.Keeper) (rest : World) → Performs begin old new keeper keeper q (after rest) (turn site sent op p (before rest)) came)
-  told_names before after did = IfOk-weaker result (Said old new op answer) (λ came. (keeper : code.Keeper) (rest : World) → Performs begin old new keeper keeper q (after rest) (turn site sent op p (before rest)) came)
-      (λ came says keeper rest.
-      let w = before rest in
-      let v = after rest in
-      performs begin old new keeper keeper q site sent op p q w v (own_of op Nowhere answer) came (subst (λ o. Acts (row site sent o p w) (own_of o Nowhere answer) q w v) (sym is) (did rest)) refl (first_nowhere (keeper_of keeper)) (says begin Nowhere))
-      said

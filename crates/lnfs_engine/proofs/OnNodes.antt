@@ -1,32 +1,28 @@
 -- An operation on nodes, by what is told of it.
 use Rattle.std.proofs.Common.{◌≡◌, ℕ, List, Some, None, Ok, Err, refl, sym, ◌∙◌, subst}
-use Rattle.std.specs.Prelude.{Result, IfOk}
-use Rattle.std.proofs.lemmas.Result.{IfOk-weaker}
+use Rattle.std.specs.Prelude.{Result}
 use Rattle.lnfs_arguments.specs.declared.types.Op.{Op}
 use Rattle.lnfs_results.specs.declared.types.OpResult.{OpResult}
 use Rattle.lnfs_results.specs.Numbered.{status_of}
 use Rattle.lnfs_world.specs.World.{World}
-use Rattle.lnfs_world.specs.Outcome.{Site, Place, Outcome}
+use Rattle.lnfs_world.specs.Outcome.{Place, Outcome}
 use Rattle.lnfs_world.specs.Lawful.{turn_of}
 use Rattle.lnfs_operations.specs.declared.Refusal.{Refusal}
 use Rattle.lnfs_operations.specs.Chain as chain
 use Rattle.lnfs_operations.specs.Chain.{Answer, Done, Refused}
 use Rattle.lnfs_operations.specs.Results.{failed}
-use Rattle.lnfs_operations.specs.Sequence.{Sent}
-use Rattle.lnfs_operations.specs.Served.{Keeper, Nowhere, Reply, success, reply_of, replied, plainly, row}
-use Rattle.lnfs_tree.specs.Rows.{Rows}
+use Rattle.lnfs_operations.specs.Served.{Keeper, Nowhere, Reply, success, reply_of, replied, plainly}
 use Rattle.lnfs_tree.specs.declared.node.NodeId.{NodeId}
-use Rattle.lnfs_nodes.specs.Trees.{with_tree, refusal_of, answered, stays, goes, saves}
+use Rattle.lnfs_nodes.specs.Trees.{refusal_of, answered, stays, goes, saves}
 use Rattle.lnfs_nodes.specs.Writes.{Wrote, Writes}
 use Rattle.lnfs_engine.specs.declared.place.Place as code_place
 use Rattle.lnfs_engine.specs.declared.place.Keeper as code
 use Rattle.lnfs_engine.specs.declared.reply.Came.{Came}
 use Rattle.lnfs_engine.specs.Places.{place_of, keeper_of}
 use Rattle.lnfs_engine.specs.Replies.{Acts, Says, SaysOwn, SaysWritten, own_of}
-use Rattle.lnfs_engine.specs.Performs.{turn, kept_behind, Performs}
+use Rattle.lnfs_engine.specs.Performs.{kept_behind, Performs}
 use Rattle.lnfs_engine.specs.Nodes.{told_as, goes_to, saves_as}
-use Rattle.lnfs_engine.proofs.Acting.{first_nowhere, performs}
-use Rattle.lnfs_engine.proofs.Telling.{Said}
+use Rattle.lnfs_engine.proofs.Acting.{first_nowhere}
 
 -- ---- what an operation comes to
 
@@ -45,18 +41,6 @@ module _ (op : Op) (w : World) where
       Acts (replied op (λ r. success (result r) Nowhere) o) (own_of op Nowhere (told_as (λ a. result (seen a)) found)) p w w
   stays_acts result seen p (Ok a) o is = subst (λ x. Acts (replied op (λ r. success (result r) Nowhere) x) (own_of op Nowhere (Ok (result (seen a)))) p w w) (sym is) (record { answer = refl; place = refl; world = refl })
   stays_acts result seen p (Err why) o is = subst (λ x. Acts (replied op (λ r. success (result r) Nowhere) x) (own_of op Nowhere (Err why)) p w w) (sym is) (record { answer = refl; place = refl; world = refl })
-
--- ---- an operation whose answer is appended
-
-module _ (begin : ℕ) (old new : List ℕ) (site : Site) (sent : Sent) (op same : Op) (p q : Place) (answer : Result OpResult Refusal) (is : op ≡ same) {E : Type 0} (result : Result Came E) (said : IfOk result (Said old new op answer)) where
-  -- it leaves the world
-  pub told_on : (tree : Rows) → ((rest : World) → Acts (row site sent same p (with_tree rest tree)) (own_of same Nowhere answer) q (with_tree rest tree) (with_tree rest tree)) →
-      IfOk result (λ came. (keeper : code.Keeper) (rest : World) → Performs begin old new keeper keeper q (with_tree rest tree) (turn site sent op p (with_tree rest tree)) came)
-  told_on tree did = IfOk-weaker result (Said old new op answer) (λ came. (keeper : code.Keeper) (rest : World) → Performs begin old new keeper keeper q (with_tree rest tree) (turn site sent op p (with_tree rest tree)) came)
-      (λ came says keeper rest.
-      let w = with_tree rest tree in
-      performs begin old new keeper keeper q site sent op p q w w (own_of op Nowhere answer) came (subst (λ o. Acts (row site sent o p w) (own_of o Nowhere answer) q w w) (sym is) (did rest)) refl (first_nowhere (keeper_of keeper)) (says begin Nowhere))
-      said
 
 -- ---- an operation that wrote its result
 

@@ -20,6 +20,7 @@ use Rattle.lnfs_operations.specs.SlotRule.{Ran, kept_by, own_reply, followed, ru
 use Rattle.lnfs_engine.specs.declared.place.Keeper as code
 use Rattle.lnfs_engine.specs.declared.place.Keeper.TheVariants as keepers
 use Rattle.lnfs_operations.specs.declared.Refusal.{Refusal}
+use Rattle.lnfs_engine.specs.declared.reply.Came.{Came}
 use Rattle.lnfs_engine.specs.declared.reply.Came.TheVariants as came
 use Rattle.lnfs_engine.specs.declared.run.Ended.TheVariants as ended
 use Rattle.lnfs_engine.specs.Places.{keeper_of}
@@ -36,10 +37,11 @@ drop-here [] i d within = absurd (omega arith)
 drop-here (x ∷ xs) zero d within = refl
 drop-here (x ∷ xs) (suc i) d within = drop-here xs i d (omega arith)
 
-pub here : (os : List Op) (i : ℕ) (op : Op) → i < length os → get_or os i op ≡ op → drop i os ≡ op ∷ drop (i + 1) os
-here os i op within is =
+-- the operation at a place, which is read from a slice of them
+pub here : (os slice : List Op) (i : ℕ) (op : Op) → slice ≡ os → i < length slice → get_or slice i op ≡ op → drop i os ≡ op ∷ drop (i + 1) os
+here os slice i op same within is =
     let next : suc i ≡ i + 1 = omega arith in
-    drop-here os i op within ∙ ap (λ x. x ∷ drop (suc i) os) is ∙ ap (λ n. op ∷ drop n os) next
+    drop-here os i op (omega (arith, within, ap length same)) ∙ ap (λ x. x ∷ drop (suc i) os) (ap (λ xs. get_or xs i op) (sym same) ∙ is) ∙ ap (λ n. op ∷ drop n os) next
 
 pub none-left : (os : List Op) (i : ℕ) → length os ≤ i → drop i os ≡ []
 none-left [] zero all = refl
@@ -53,7 +55,7 @@ pub text_more : (out : List ℕ) (rs : List OpResult) (r : OpResult) → out ++ 
 text_more out rs r = append_assoc out _ _ ∙ ap (λ x. out ++ x) (ap (λ x. flat_map result_text rs ++ x) (sym (append-nil (result_text r)) ∙ sym (flat_map-cons result_text r [])) ∙ sym (flat_map-append result_text rs (r ∷ [])))
 
 -- what is used is what stands behind the mark
-pub used_is : (c : Compound) (rs : List OpResult) (old out : List ℕ) (begin : ℕ) → length old ≡ begin + length (head_text 0 c.tag 0) → out ≡ old ++ flat_map result_text rs → used c rs ≡ length out - begin
+used_is : (c : Compound) (rs : List OpResult) (old out : List ℕ) (begin : ℕ) → length old ≡ begin + length (head_text 0 c.tag 0) → out ≡ old ++ flat_map result_text rs → used c rs ≡ length out - begin
 unfolding results_text
 used_is c rs old out begin starts is =
     omega (
@@ -160,7 +162,9 @@ module _ {S : Type 0} (deeds : List OpResult → Op → Deed Reply S) (os : List
           ends = record { none = refl; text = a.text; many = sym a.many; last = sym a.success; denied = refl };
         })
 
-    module _ (op : Op) (ahead : drop done os ≡ op ∷ drop (done + 1) os) (new : List ℕ) (next : code.Keeper) (at : Place) (v : S) where
+    -- the next one ran, as is said of it behind any results of that number and length
+    module _ (c : Compound) (op : Op) (ahead : drop done os ≡ op ∷ drop (done + 1) os) (new : List ℕ) (next : code.Keeper) (at : Place) (v : S) (how : Came) (head : length old ≡ begin + length (head_text 0 c.tag 0))
+        (ran : (so_far : List OpResult) → length so_far ≡ done → used c so_far ≡ length out - begin → Performs begin out new keeper next at v (deeds so_far op place w) how) where
       abbrev turn : Turn Reply S
       turn = deeds a.so_far op place w
 
@@ -170,24 +174,29 @@ module _ {S : Type 0} (deeds : List OpResult → Op → Deed Reply S) (os : List
       here_is : total ≡ kept_by (keeper_of keeper) (followed a.so_far op turn.place turn.state turn.answer (behind turn.place turn.state))
       here_is = a.follows ∙ ap (λ x. kept_by (keeper_of keeper) (run_behind deeds a.so_far x place w)) ahead ∙ ap (kept_by (keeper_of keeper)) (behind_cons a.so_far op (drop (done + 1) os) place w)
 
-      pub ahead_on : Performs begin out new keeper next at v turn came.Done → Ahead new (done + 1) next at v
-      ahead_on did =
-          let s = done_step begin out new (keeper_of keeper) (keeper_of next) turn.answer a.so_far op turn.place turn.state (behind turn.place turn.state) did.keeper did.says in
+      pub did : (x : Came) → how ≡ x → Performs begin out new keeper next at v turn x
+      did x is = subst (Performs begin out new keeper next at v turn) is (ran a.so_far a.many (used_is c a.so_far old out begin head a.text))
+
+      pub ahead_on : how ≡ came.Done → Ahead new (done + 1) next at v
+      ahead_on is =
+          let on = did came.Done is in
+          let s = done_step begin out new (keeper_of keeper) (keeper_of next) turn.answer a.so_far op turn.place turn.state (behind turn.place turn.state) on.keeper on.says in
           record {
             so_far = a.so_far ++ s.result ∷ [];
             many = omega (arith, a.many, length-append a.so_far (s.result ∷ []));
             text = s.text ∙ ap (λ x. x ++ result_text s.result) a.text ∙ text_more old a.so_far s.result;
             success = last_status a.so_far s.result ∙ s.success;
-            follows = here_is ∙ s.follows ∙ (λ i. kept_by (keeper_of next) (behind (did.place_is i) (did.state i) (a.so_far ++ s.result ∷ [])));
+            follows = here_is ∙ s.follows ∙ (λ i. kept_by (keeper_of next) (behind (on.place_is i) (on.state i) (a.so_far ++ s.result ∷ [])));
           }
 
-      pub ahead_refused : (why : Refusal) → Performs begin out new keeper next at v turn (came.Refused why) →
+      pub ahead_refused : (why : Refusal) → how ≡ came.Refused why →
           Ends begin old new next at v (status_of_all total.results) total (ended.New why.status (done + 1) (Some (record { place = done + 1; number = number_of op; gate = why.gate; status = why.status })))
-      ahead_refused why did =
-          let s = refused_step begin out new (keeper_of keeper) (keeper_of next) turn.answer a.so_far op turn.place turn.state why (behind turn.place turn.state) did.keeper did.says in
+      ahead_refused why is =
+          let on = did (came.Refused why) is in
+          let s = refused_step begin out new (keeper_of keeper) (keeper_of next) turn.answer a.so_far op turn.place turn.state why (behind turn.place turn.state) on.keeper on.says in
           subst (λ (r : Ran S). Ends begin old new next at v (status_of_all r.results) r (ended.New why.status (done + 1) (Some (record { place = done + 1; number = number_of op; gate = why.gate; status = why.status })))) (sym (here_is ∙ s.ends)) (record {
-            place_is = did.place_is;
-            state = did.state;
+            place_is = on.place_is;
+            state = on.state;
             keeper = refl;
             ends = record {
               none = refl;
@@ -198,12 +207,14 @@ module _ {S : Type 0} (deeds : List OpResult → Op → Deed Reply S) (os : List
             };
           })
 
-      pub ahead_again : begin ≤ length old → Performs begin out new keeper next at v turn came.Again → Ends begin old new next at v (status_of_all total.results) total ended.Again
-      ahead_again within did =
-          let s = again_step begin out new (keeper_of keeper) (keeper_of next) turn.answer a.so_far op turn.place turn.state (behind turn.place turn.state) did.keeper did.says in
+      pub ahead_again : how ≡ came.Again → Ends begin old new next at v (status_of_all total.results) total ended.Again
+      ahead_again is =
+          let on = did came.Again is in
+          let within : begin ≤ length old = omega (arith, head) in
+          let s = again_step begin out new (keeper_of keeper) (keeper_of next) turn.answer a.so_far op turn.place turn.state (behind turn.place turn.state) on.keeper on.says in
           subst (λ (r : Ran S). Ends begin old new next at v (status_of_all r.results) r ended.Again) (sym (here_is ∙ s.ends)) (record {
-            place_is = did.place_is;
-            state = did.state;
+            place_is = on.place_is;
+            state = on.state;
             keeper = refl;
             ends = record {
               kept = s.kept;

@@ -11,6 +11,7 @@ use Rattle.lnfs_operations.specs.Sequence.{Sent}
 use Rattle.lnfs_operations.specs.Served.{Keeper, Nowhere, Reply, told_reply, replied, row}
 use Rattle.lnfs_session.specs.Standing.{Lists}
 use Rattle.lnfs_tree.specs.Rows.{Rows}
+use Rattle.lnfs_nodes.specs.Trees.{with_tree}
 use Rattle.lnfs_open.specs.Lists as opens
 use Rattle.lnfs_gss3.specs.Contexts as contexts
 use Rattle.lnfs_operations.specs.declared.Refusal.{Refusal}
@@ -41,7 +42,7 @@ module _ (begin : ℕ) (old new : List ℕ) (here : code.Keeper) (site : Site) (
     from_store came = subst (λ w. Performs begin old new here here p later (turn site sent op p w) came) view_is
 
     pub told : Acts (row site sent same p before) (own_of same Nowhere answer) p before later → IfOk result Told
-    told did = IfOk-weaker result (Said old new op answer) Told (λ came says. from_store came (performs_at begin old new here site sent op same p before later answer came is did (says begin Nowhere))) said
+    told did = IfOk-weaker result (Said old new op answer) Told (λ came says. from_store came (performs_at begin old new here site sent op same p p before later answer came is did (says begin Nowhere))) said
 
     -- of the first operation of its COMPOUND
     pub told_first : Starts p here → Acts (row site sent same (begins_at p.subject p.moment) before) (own_of same Nowhere answer) (begins_at p.subject p.moment) before later → IfOk result Told
@@ -57,4 +58,17 @@ refused site sent op p w why is = record {
 
 module _ (begin : ℕ) (old new : List ℕ) (here : code.Keeper) (site : Site) (sent : Sent) (op same : Op) (p : Place) (why : Refusal) (is : op ≡ same) {E : Type 0} (result : Result Came E) (said : IfOk result (Said old new op (Err why))) where
   pub told_refused : (w : World) → row site sent same p w ≡ replied same (told_reply p.subject) (refuse p why.gate why.status) → IfOk result (λ came. Performs begin old new here here p w (turn site sent op p w) came)
-  told_refused w row_is = IfOk-weaker result (Said old new op (Err why)) (λ came. Performs begin old new here here p w (turn site sent op p w) came) (λ came says. performs_at begin old new here site sent op same p w w (Err why) came is (refused site sent same p w why row_is) (says begin Nowhere)) said
+  told_refused w row_is = IfOk-weaker result (Said old new op (Err why)) (λ came. Performs begin old new here here p w (turn site sent op p w) came) (λ came says. performs_at begin old new here site sent op same p p w w (Err why) came is (refused site sent same p w why row_is) (says begin Nowhere)) said
+
+-- from worlds to worlds
+module _ (begin : ℕ) (old new : List ℕ) (site : Site) (sent : Sent) (op same : Op) (p q : Place) (answer : Result OpResult Refusal) (is : op ≡ same) {E : Type 0} (result : Result Came E) (said : IfOk result (Said old new op answer)) where
+  pub told_from : (before after : World → World) → ((rest : World) → Acts (row site sent same p (before rest)) (own_of same Nowhere answer) q (before rest) (after rest)) →
+      IfOk result (λ came. (keeper : code.Keeper) (rest : World) → Performs begin old new keeper keeper q (after rest) (turn site sent op p (before rest)) came)
+  told_from before after did = IfOk-weaker result (Said old new op answer) (λ came. (keeper : code.Keeper) (rest : World) → Performs begin old new keeper keeper q (after rest) (turn site sent op p (before rest)) came)
+      (λ came says keeper rest. performs_at begin old new keeper site sent op same p q (before rest) (after rest) answer came is (did rest) (says begin Nowhere))
+      said
+
+  -- which stay as they are but for the tree
+  pub told_on : (tree : Rows) → ((rest : World) → Acts (row site sent same p (with_tree rest tree)) (own_of same Nowhere answer) q (with_tree rest tree) (with_tree rest tree)) →
+      IfOk result (λ came. (keeper : code.Keeper) (rest : World) → Performs begin old new keeper keeper q (with_tree rest tree) (turn site sent op p (with_tree rest tree)) came)
+  told_on tree = told_from (λ (rest : World). with_tree rest tree) (λ (rest : World). with_tree rest tree)

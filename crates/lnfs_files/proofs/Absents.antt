@@ -1,5 +1,5 @@
 -- OPEN of a name that isn't there, behind the tests of what is to be made.
-use Rattle.std.proofs.Common.{◌≡◌, refl, ap, sym, subst, ◌∙◌, ℕ, Bool, true, false, List, [], ◌∷◌, Some, None, Ok}
+use Rattle.std.proofs.Common.{◌≡◌, refl, ap, sym, subst, ◌∙◌, ℕ, Bool, true, false, List, [], ◌∷◌, Option, Some, None, Ok}
 use Rattle.std.specs.Prelude.{◌&&◌, nat_lt, length, is_some}
 use Rattle.std.specs.Option.{option_map}
 use Rattle.lnfs_outside.specs.declared.event.Moment.{Moment}
@@ -78,11 +78,12 @@ module _ (site : Site) (args : Arguments) (p : Place) (rest : World) (t : Rows) 
   abbrev pub behind : Outcome (Answer Opened)
   behind = demand (has_room site w d) full (demand (operation.has_open_left p w) full maker)
 
-  abbrev pub absent : Outcome (Answer Opened)
-  absent = open_absent site args p w client d name wanted (Some making)
-
-  pub by_label : (label : ℕ) → label ≡ level_or d.label wanted.label → (o : Outcome (Answer Opened)) → where_makable site args p d label behind ≡ o → absent ≡ o
-  by_label label e o is = ap (λ (l : ℕ). where_makable site args p d l behind) (sym e) ∙ is
+  -- a name that is to be made, with the label that is asked for or its directory's
+  pub by_label : (asked : Option Making) (home label : ℕ) → asked ≡ Some making → home ≡ d.label → label ≡ level_or home wanted.label → (o : Outcome (Answer Opened)) → where_makable site args p d label behind ≡ o → open_absent site args p w client d name wanted asked ≡ o
+  by_label asked home label makes at_home is o rest =
+      ap (open_absent site args p w client d name wanted) makes
+      ∙ ap (λ (l : ℕ). where_makable site args p d l behind) (sym (is ∙ ap (λ (l : ℕ). level_or l wanted.label) at_home))
+      ∙ rest
 
   -- ---- room
 

@@ -21,7 +21,7 @@ use Rattle.lnfs_operations.specs.Judged.{where_allowed}
 use Rattle.lnfs_operations.specs.Shown.{label_shown}
 use Rattle.lnfs_operations.specs.SetAttr.{same_spelling, respelled, raised}
 use Rattle.lnfs_tree.specs.Rows.{Rows}
-use Rattle.lnfs_tree.specs.Changed.{Doing, Does, on_node, test, respell_of, raise_of, ran}
+use Rattle.lnfs_tree.specs.Changed.{Doing, Does, on_node, test, raise_of, ran}
 use Rattle.lnfs_tree.specs.declared.node.TreeError.{TreeError}
 use Rattle.lnfs_tree.specs.declared.node.TreeError.TheVariants.{NotEmpty, Memory}
 use Rattle.lnfs_open.specs.Lists.{Lists}
@@ -52,7 +52,10 @@ same_bytes n inner e = at n.kind
 
 -- ---- as it is spelled
 
-module _ (site : Site) (at : Place) (n : Node) (spelled : Stored) (set : Bitmap) (may : None ≡ denial site at.subject (Write n.label)) where
+module _ (site : Site) (at : Place) (n : Node) (spelled : Stored) (set : Bitmap) (told : ℕ) (label : told ≡ n.label) (may_write : None ≡ denial site at.subject (Write told)) where
+  may : None ≡ denial site at.subject (Write n.label)
+  may = may_write ∙ ap (λ (l : ℕ). denial site at.subject (Write l)) label
+
   pub same : same_spelling (label_shown site at n) spelled ≡ true → where_allowed site at (Write n.label) (respelled site at n spelled set) ≡ done at set []
   same is = allowed site at (Write n.label) (respelled site at n spelled set) may ∙ ap (λ (b : Bool). cond b (done at set []) (done at set (Touch n.id (attributes_changed at.moment (record n.inner { stored = Some spelled })) ∷ []))) is
 
@@ -61,23 +64,27 @@ module _ (site : Site) (at : Place) (n : Node) (spelled : Stored) (set : Bitmap)
 
 -- ---- by its level
 
-module _ (at : Place) (w : World) (n : Node) (level : ℕ) (set : Bitmap) where
+module _ (at : Place) (w : World) (n : Node) (told level : ℕ) (set : Bitmap) (label : told ≡ n.label) where
+  -- whether it has the level, by the label that is told of it
+  has_level : (b : Bool) → (level == told) ≡ b → (level == n.label) ≡ b
+  has_level b is = sym (ap (λ (l : ℕ). level == l) label) ∙ is
+
   abbrev relabelling : Outcome (Answer Bitmap)
   relabelling = done at set (Relabel n.id level (attributes_changed at.moment n.inner) ∷ [])
 
   abbrev by : Bool → Bool → Outcome (Answer Bitmap)
   by same full = cond same (done at set []) (demand (not full) (refuse at Namespace NFS4ERR_NOTEMPTY) relabelling)
 
-  pub raised_same : (level == n.label) ≡ true → raised at w n level set ≡ done at set []
-  raised_same is = ap (λ (b : Bool). by b (is_directory n.kind && holds_names w.entries n.id)) is
+  pub raised_same : (level == told) ≡ true → raised at w n level set ≡ done at set []
+  raised_same is = ap (λ (b : Bool). by b (is_directory n.kind && holds_names w.entries n.id)) (has_level true is)
 
-  steps : (full : Bool) → (level == n.label) ≡ false → (is_directory n.kind && holds_names w.entries n.id) ≡ full → raised at w n level set ≡ by false full
-  steps full is has = ap (λ (b : Bool). by b (is_directory n.kind && holds_names w.entries n.id)) is ∙ ap (by false) has
+  steps : (full : Bool) → (level == told) ≡ false → (is_directory n.kind && holds_names w.entries n.id) ≡ full → raised at w n level set ≡ by false full
+  steps full is has = ap (λ (b : Bool). by b (is_directory n.kind && holds_names w.entries n.id)) (has_level false is) ∙ ap (by false) has
 
-  pub raised_full : (level == n.label) ≡ false → (is_directory n.kind && holds_names w.entries n.id) ≡ true → raised at w n level set ≡ refuse at Namespace NFS4ERR_NOTEMPTY
+  pub raised_full : (level == told) ≡ false → (is_directory n.kind && holds_names w.entries n.id) ≡ true → raised at w n level set ≡ refuse at Namespace NFS4ERR_NOTEMPTY
   raised_full is has = steps true is has
 
-  pub raised_so : (level == n.label) ≡ false → holds_names w.entries n.id ≡ false → raised at w n level set ≡ relabelling
+  pub raised_so : (level == told) ≡ false → holds_names w.entries n.id ≡ false → raised at w n level set ≡ relabelling
   raised_so is has = steps false is (ap (λ (b : Bool). is_directory n.kind && b) has ∙ neither (is_directory n.kind))
     where
       neither : (b : Bool) → (b && false) ≡ false
@@ -111,10 +118,12 @@ module _ (dom : ℕ → ℕ → Bool) (t : Rows) (facts : NodeFacts dom t.nodes 
 -- ---- what the tree says
 
 module _ (t u : Rows) (i : Id) (n : Node) (moment : Moment) (at : node_at t.nodes i ≡ Some n) where
-  pub spelled_so : (stored : Stored) (r : Result (Unit {0}) TreeError) → (r ≡ Err Memory → ⊥) → Does {A = Unit {0}} {B = Unit {0}} (λ r. r) (respell_of t i stored moment) t u r → u ≡ ran (Touch n.id (attributes_changed moment (record n.inner { stored = Some stored })) ∷ []) t
-  spelled_so stored r calm does =
-      sure {A = Unit {0}} {B = Unit {0}} (λ r. r) (record { answer = tt; changes = Touch n.id (attributes_changed moment (record n.inner { stored = Some stored })) ∷ [] }) t u r calm
-      (subst (λ (x : Option Node). Does {A = Unit {0}} {B = Unit {0}} (λ r. r) (on_node x (λ n. Ok (record { answer = tt; changes = Touch n.id (attributes_changed moment (record n.inner { stored = Some stored })) ∷ [] }))) t u r) at does)
+  -- what is kept of it is set: its mode, or its label as it was given
+  pub set_so : (inner : Inner → Inner) (r : Result (Unit {0}) TreeError) → (r ≡ Err Memory → ⊥) → Does {A = Unit {0}} {B = Unit {0}} (λ r. r) (on_node (node_at t.nodes i) (λ n. Ok (record { answer = tt; changes = Touch n.id (attributes_changed moment (inner n.inner)) ∷ [] }))) t u r
+      → u ≡ ran (Touch n.id (attributes_changed moment (inner n.inner)) ∷ []) t
+  set_so inner r calm does =
+      sure {A = Unit {0}} {B = Unit {0}} (λ r. r) (record { answer = tt; changes = Touch n.id (attributes_changed moment (inner n.inner)) ∷ [] }) t u r calm
+      (subst (λ (x : Option Node). Does {A = Unit {0}} {B = Unit {0}} (λ r. r) (on_node x (λ n. Ok (record { answer = tt; changes = Touch n.id (attributes_changed moment (inner n.inner)) ∷ [] }))) t u r) at does)
 
   abbrev raising : (level : ℕ) → Bool → Result (Doing (Unit {0})) TreeError
   raising level full = test (not full) NotEmpty (Ok (record { answer = tt; changes = Relabel n.id level (attributes_changed moment n.inner) ∷ [] }))

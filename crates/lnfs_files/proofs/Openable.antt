@@ -1,6 +1,6 @@
 -- The tests of a file that is there, one after the other.
 use Rattle.std.proofs.Common.{◌≡◌, refl, ap, sym, ◌∙◌, ℕ, Bool, true, false, Some, None}
-use Rattle.std.specs.Prelude.{not}
+use Rattle.std.specs.Prelude.{not, cond}
 use Rattle.lnfs_arguments.specs.declared.statuses.TheConstants.{NFS4ERR_ISDIR, NFS4ERR_SYMLINK, NFS4ERR_EXIST, NFS4ERR_SHARE_DENIED}
 use Rattle.lnfs_world.specs.World.{Kind, File, Directory, SymbolicLink, Node, World, is_directory}
 use Rattle.lnfs_world.specs.Outcome.{Site, Place, Outcome}
@@ -12,8 +12,8 @@ use Rattle.lnfs_operations.specs.Judged.{where_asked}
 use Rattle.lnfs_operations.specs.Lookup.{is_link}
 use Rattle.lnfs_operations.specs.Files.{where_file}
 use Rattle.lnfs_operations.specs.Open.{Arguments, Opened, where_shared, may_be_there, conflicts}
-use Rattle.lnfs_nodes.specs.Trees.{refusal_of}
-use Rattle.lnfs_nodes.proofs.Refusing.{refused_as}
+use Rattle.lnfs_nodes.specs.Trees.{refusal_of, denial}
+use Rattle.lnfs_nodes.proofs.Refusing.{refused_as, asked, asked_denied}
 use Rattle.lnfs_files.specs.Tests.{passed, refusal_in}
 use Rattle.lnfs_files.specs.Openings.{where_openable}
 
@@ -46,7 +46,7 @@ is_file p n k same e = by k (e ∙ ap (λ (x : Kind). refusal_in (demand (not (i
     by SymbolicLink e = cc
 
 module _ (site : Site) (args : Arguments) (p : Place) (w : World) (client : ℕ) (sized : Bool) (n : Node) (next : Outcome (Answer Opened)) where
-  abbrev pub undenied : Outcome (Answer Opened)
+  abbrev undenied : Outcome (Answer Opened)
   undenied = demand (not (conflicts site args p w client n)) (refuse p Open NFS4ERR_SHARE_DENIED) next
 
   abbrev pub asks : Outcome (Answer Opened)
@@ -58,14 +58,26 @@ module _ (site : Site) (args : Arguments) (p : Place) (w : World) (client : ℕ)
   abbrev pub there : Outcome (Answer Opened)
   there = demand (may_be_there args.making n) (refuse p Namespace NFS4ERR_EXIST) shares
 
-  pub to_there : None ≡ refusal_in (where_file p n (passed p)) → where_openable site args p w client sized n next ≡ there
+  to_there : None ≡ refusal_in (where_file p n (passed p)) → where_openable site args p w client sized n next ≡ there
   to_there e = file_on p n there e
-
-  pub to_shares : None ≡ refusal_in (where_file p n (passed p)) → may_be_there args.making n ≡ true → where_openable site args p w client sized n next ≡ shares
-  to_shares e may = to_there e ∙ ap (λ (b : Bool). demand b (refuse p Namespace NFS4ERR_EXIST) shares) may
 
   pub not_there : None ≡ refusal_in (where_file p n (passed p)) → may_be_there args.making n ≡ false → where_openable site args p w client sized n next ≡ refuse p Namespace NFS4ERR_EXIST
   not_there e may = to_there e ∙ ap (λ (b : Bool). demand b (refuse p Namespace NFS4ERR_EXIST) shares) may
+
+  -- a file that may be there, whose label is told
+  module _ (told : ℕ) (label : told ≡ n.label) (e : None ≡ refusal_in (where_file p n (passed p))) (may : may_be_there args.making n ≡ true) where
+    pub to_shares : where_openable site args p w client sized n next ≡ where_shared site p args told asks
+    to_shares = to_there e ∙ ap (λ (b : Bool). demand b (refuse p Namespace NFS4ERR_EXIST) shares) may ∙ ap (λ (l : ℕ). where_shared site p args l asks) (sym label)
+
+    module _ (shared : (o : Outcome (Answer Opened)) → where_shared site p args told o ≡ o) where
+      pub to_asks : where_openable site args p w client sized n next ≡ asks
+      to_asks = to_shares ∙ shared asks
+
+      pub is_denied : (why : Refusal) → Some (refusal_of why) ≡ cond sized (denial site p.subject (Write told)) None → where_openable site args p w client sized n next ≡ refuse p why.gate why.status
+      is_denied why is = to_asks ∙ asked_denied sized site p (Write n.label) undenied why (is ∙ ap (λ (l : ℕ). cond sized (denial site p.subject (Write l)) None) label)
+
+      pub to_undenied : None ≡ cond sized (denial site p.subject (Write told)) None → where_openable site args p w client sized n next ≡ undenied
+      to_undenied is = to_asks ∙ asked sized site p (Write n.label) undenied (is ∙ ap (λ (l : ℕ). cond sized (denial site p.subject (Write l)) None) label)
 
   pub in_way : conflicts site args p w client n ≡ true → undenied ≡ refuse p Open NFS4ERR_SHARE_DENIED
   in_way e = ap (λ (b : Bool). demand (not b) (refuse p Open NFS4ERR_SHARE_DENIED) next) e

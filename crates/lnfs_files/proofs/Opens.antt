@@ -36,11 +36,14 @@ use Rattle.lnfs_files.specs.Openings as files
 abbrev pub wished : (level number : ℕ) (args : Arguments) (node : Id) (access : ℕ) → Wish
 wished level number args node access = record { client = record { level = level; number = number }; owner = args.owner; node = node; access = access; deny = args.deny }
 
-pub same_wish : (level level' number : ℕ) (args : Arguments) (node node' : Id) (access access' : ℕ) → level ≡ level' → node ≡ node' → access ≡ access' → wished level number args node access ≡ wished level' number args node' access'
-same_wish level level' number args node node' access access' a b d =
-    ap (λ (x : ℕ). wished x number args node access) a
+-- the opens did what is wished, under the level, node and access that the code has
+pub did_wish : (s v : Lists) (r : Result OpenRef OpenError) (level level' number : ℕ) (args : Arguments) (node node' : Id) (access access' : ℕ) → level ≡ level' → node ≡ node' → access ≡ access'
+    → Does (opened_of s (wished level number args node access)) s v r → Does (opened_of s (wished level' number args node' access')) s v r
+did_wish s v r level level' number args node node' access access' a b d =
+    subst (λ (x : Wish). Does (opened_of s x) s v r)
+    (ap (λ (x : ℕ). wished x number args node access) a
     ∙ ap (λ (x : Id). wished level' number args x access) b
-    ∙ ap (λ (x : ℕ). wished level' number args node' x) d
+    ∙ ap (λ (x : ℕ). wished level' number args node' x) d)
 
 -- one that is new
 abbrev pub added : Lists → Wish → Opened

@@ -10,7 +10,7 @@ use Rattle.lnfs_world.specs.World.{Id, Kind, File, Inner, Node, World, node_at}
 use Rattle.lnfs_world.specs.Names.{size_of}
 use Rattle.lnfs_world.specs.Usage.{bytes_of}
 use Rattle.lnfs_world.specs.Change.{Touch, apply, apply_all}
-use Rattle.lnfs_world.specs.Effects.{sized, data_changed, attributes_changed}
+use Rattle.lnfs_world.specs.Effects.{sized, data_changed}
 use Rattle.lnfs_world.specs.Outcome.{Site, Place, Outcome}
 use Rattle.lnfs_world.proofs.Seen.{node_at-id}
 use Rattle.lnfs_monitor.specs.Rules.{Write}
@@ -26,7 +26,7 @@ use Rattle.lnfs_content.proofs.Bytes.{length-sized}
 use Rattle.lnfs_tree.specs.declared.node.TreeError.{TreeError}
 use Rattle.lnfs_tree.specs.declared.node.TreeError.TheVariants.{FBig, Memory}
 use Rattle.lnfs_tree.specs.Rows.{Rows, kind_of, of_file, on_file}
-use Rattle.lnfs_tree.specs.Changed.{Doing, Does, on_node, test, sets_data, set_size_of, set_mode_of, ran}
+use Rattle.lnfs_tree.specs.Changed.{Doing, Does, test, sets_data, set_size_of, ran}
 use Rattle.lnfs_tree.specs.Places.{world_of}
 use Rattle.lnfs_tree.proofs.Opened.{row_touched, touched_twice}
 use Rattle.lnfs_quota.specs.declared.quota.Row.{Row}
@@ -126,11 +126,6 @@ asks_held site s size mode sized writes label held a b e =
 -- ---- what the tree does
 
 module _ (t u : Rows) (i : Id) (n : Node) (moment : Moment) (at : node_at t.nodes i ≡ Some n) where
-  pub mode_so : (mode : ℕ) (r : Result (Unit {0}) TreeError) → (r ≡ Err Memory → ⊥) → Does {A = Unit {0}} {B = Unit {0}} (λ r. r) (set_mode_of t i mode moment) t u r → u ≡ ran (Touch n.id (attributes_changed moment (record n.inner { mode = mode })) ∷ []) t
-  mode_so mode r calm does =
-      sure {A = Unit {0}} {B = Unit {0}} (λ r. r) (record { answer = tt; changes = Touch n.id (attributes_changed moment (record n.inner { mode = mode })) ∷ [] }) t u r calm
-      (subst (λ (x : Option Node). Does {A = Unit {0}} {B = Unit {0}} (λ r. r) (on_node x (λ n. Ok (record { answer = tt; changes = Touch n.id (attributes_changed moment (record n.inner { mode = mode })) ∷ [] }))) t u r) at does)
-
   abbrev sizes : ℕ → Doing (Unit {0})
   sizes size = sets_data moment n (sized size n.inner.content)
 

@@ -146,10 +146,12 @@ module _ (p : Place) (t u : Rows) (n : Node) (h : Held) (args : Arguments) (hold
 -- ---- the totals
 
 -- what is told of the label and of the bytes of a node that is held is counted
-pub is_counted : (rows : List Row) (t : Rows) (n : Node) (h : Held) (bytes : ℕ) → Holds t n h → bytes_of n n.kind ≡ bytes → AreBytesHeld rows n.label (bytes_of n n.kind) → AreBytesHeld rows h.facts.label.0 bytes
-is_counted rows t n h bytes holds same law =
-    subst (λ (x : ℕ). AreBytesHeld rows h.facts.label.0 x) same
-    (subst (λ (l : ℕ). AreBytesHeld rows l (bytes_of n n.kind)) (sym holds.tells.label) law)
+pub is_counted : (rows : List Row) (t : Rows) (h : Held) (bytes : ℕ) → IsThere t h → ((n : Node) → Holds t n h → bytes_of n n.kind ≡ bytes) → AreTotals rows t.nodes → ((i : Id) (n : Node) → AreTotals rows t.nodes → node_at t.nodes i ≡ Some n → AreBytesHeld rows n.label (bytes_of n n.kind)) → AreBytesHeld rows h.facts.label.0 bytes
+is_counted rows t h bytes there same totals law =
+    let n = there.0 in
+    let holds = there.1 in
+    subst (λ (x : ℕ). AreBytesHeld rows h.facts.label.0 x) (same n holds)
+    (subst (λ (l : ℕ). AreBytesHeld rows l (bytes_of n n.kind)) (sym holds.tells.label) (law n.id n totals holds.node_is))
 
 -- the size, by the data as it is told
 pub fits_so : (offset : ℕ) (bytes content inner : List ℕ) (x : ℕ) → content ≡ inner → Some x ≡ fitting_size (size_written offset bytes content) → (nat_le (size_written offset bytes inner) MOST_FILE ≡ true) × (x ≡ size_written offset bytes inner)

@@ -3,6 +3,7 @@ use Rattle.std.proofs.Common.{◌≡◌, ◌≢◌, ℕ, zero, suc, ◌+◌, ◌
 use mathlib.Core.Option.{none, some, some-injective, some-ne-none}
 use lib.ListN.{get_elem?}
 use Rattle.atomic_table.specs.Table.{State, Me, step, keeps, opening, Allows, Splits, Joins}
+use Rattle.atomic_table.specs.Seated.{TableId}
 use Rattle.atomic_table.proofs.Lists.{at_set}
 use Rattle.lnfs_history.specs.declared.entry.Entry.{Entry}
 use Rattle.lnfs_history.specs.declared.entry.View.{View}
@@ -216,12 +217,24 @@ both log made link es = (view_of true log made true link es, [])
 pub places_as : (id : ℕ) (m : Seated) (log : List Entry) (made : ℕ) → m ≡ (keeper log made, []) → Splits Kept id m.0 (one_more m.0) (new_place m.0)
 places_as id m log made is = subst (λ (u : Seated). Splits Kept id u.0 (one_more u.0) (new_place u.0)) (sym is) (places id log made)
 
-pub joined : (m p n : Seated) (log : List Entry) (made link : ℕ) (es : List Entry) → m ≡ (keeper log made, []) → p ≡ (place link es, []) → n ≡ (with_place m.0 p.0, m.1) → n ≡ both log made link es
+joined : (m p n : Seated) (log : List Entry) (made link : ℕ) (es : List Entry) → m ≡ (keeper log made, []) → p ≡ (place link es, []) → n ≡ (with_place m.0 p.0, m.1) → n ≡ both log made link es
 joined m p n log made link es is that made_one = made_one ∙ ap (λ (u : Seated). (with_place u.0 p.0, u.1)) is ∙ ap (λ (u : Seated). (with_place (keeper log made) u.0, [])) that
 
-pub takes_in_as : (id other : ℕ) (m p : Seated) (log : List Entry) (made link : ℕ) (es : List Entry) → m ≡ (keeper log made, []) → p ≡ (place link es, []) → Joins Kept id m.0 other p.0 (with_place m.0 p.0) nobody
+takes_in_as : (id other : ℕ) (m p : Seated) (log : List Entry) (made link : ℕ) (es : List Entry) → m ≡ (keeper log made, []) → p ≡ (place link es, []) → Joins Kept id m.0 other p.0 (with_place m.0 p.0) nobody
 takes_in_as id other m p log made link es is that =
     subst (λ (u : Seated × Seated). Joins Kept id u.0.0 other u.1.0 (with_place u.0.0 u.1.0) nobody) (λ i. (sym is i, sym that i)) (takes_in id log made other link es)
+
+-- what the table asks where a keeper takes a place in
+pub can_take_in : (table mine theirs name : TableId) (id other : ℕ) (m p : Seated) (log : List Entry) (made link : ℕ) (es : List Entry) → table ≡ name → table.words ≡ 1 → mine ≡ name → theirs ≡ name → m ≡ (keeper log made, []) → p ≡ (place link es, [])
+    → (mine ≡ table) × (theirs ≡ table) × (p.1 ≡ []) × (0 < table.words) × Joins Kept id m.0 other p.0 (with_place m.0 p.0) nobody
+can_take_in table mine theirs name id other m p log made link es named one_word here there is that =
+    (here ∙ sym named, there ∙ sym named, ap (λ (u : Seated). u.1) that, omega (arith, one_word), takes_in_as id other m p log made link es is that)
+
+-- and what it asks of the step behind
+pub taken_in : (table mine now name : TableId) (m p n : Seated) (log : List Entry) (made link : ℕ) (es : List Entry) → table ≡ name → table.words ≡ 1 → mine ≡ name → now ≡ mine → m ≡ (keeper log made, []) → p ≡ (place link es, []) → n ≡ (with_place m.0 p.0, m.1)
+    → (now ≡ table) × (0 < table.words) × (n ≡ both log made link es)
+taken_in table mine now name m p n log made link es named one_word here there is that made_one =
+    (there ∙ here ∙ sym named, omega (arith, one_word), joined m p n log made link es is that made_one)
 
 pub adds_as : (slots id : ℕ) (m : Seated) (log : List Entry) (made link : ℕ) (es : List Entry) (e : Entry) → m ≡ both log made link es → e.event.link ≡ link
     → Allows Kept slots id m 0 (λ n. n) (Added e (step slots 0 0 0 none) m)

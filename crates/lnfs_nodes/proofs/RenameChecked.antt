@@ -5,7 +5,7 @@ use Rattle.std.proofs.lemmas.Bool.Decides.{nat_tests}
 use Rattle.lnfs_calipso.specs.Label.{IsPreorderWithBottom}
 use Rattle.lnfs_world.specs.World.{Id, Node, Entry, World, node_at, is_directory, same_id}
 use Rattle.lnfs_world.specs.Names.{entry_at}
-use Rattle.lnfs_world.specs.Facts.{NodeFacts, Facts}
+use Rattle.lnfs_world.specs.Facts.{NodeFacts}
 use Rattle.lnfs_world.specs.Tree.{goes_under}
 use Rattle.lnfs_world.specs.Change.{Change, Move}
 use Rattle.lnfs_world.specs.Effects.{next_entry, has_cookie, taken_out, may_give_way, directories_changed}
@@ -28,6 +28,7 @@ use Rattle.lnfs_tree.specs.Rows.{Rows, id_of}
 use Rattle.lnfs_tree.specs.Places.{world_of}
 use Rattle.lnfs_tree.specs.Changed.{Doing, Gone, Room, gone, changed, unchanged, on_node, test, lies_above, rename_of}
 use Rattle.lnfs_tree.specs.Changed as tree
+use Rattle.lnfs_tree.proofs.Kept.{whole_facts}
 use Rattle.lnfs_nodes.specs.Trees.{with_tree, held_in, Holds, IsHeld, denial, refusal_of}
 use Rattle.lnfs_nodes.specs.Told.{naming, no_directory, found_at, entered_at, named, follows}
 use Rattle.lnfs_nodes.specs.Renames.{with_ends, AreEnds, taking, giving_way, renamed_of}
@@ -38,16 +39,6 @@ use Rattle.lnfs_nodes.proofs.Peeling.{named_on, named_off, about_node, is_one, d
 
 -- ---- the tree's walk, and the definition's
 
--- the world that has these rows and nothing else has the facts
-rows_facts : (dom : ℕ → ℕ → Bool) (t : Rows) → NodeFacts dom t.nodes t.entries t.lasts → Facts dom (world_of t)
-rows_facts dom t facts = record {
-  clients = record { rise = tt; lasts_rise = tt; given = tt; rivals = tt };
-  sessions = record { rise = tt; lasts_rise = tt; given = tt; behind = tt };
-  contexts = record { rise = tt; lasts_rise = tt; given = tt };
-  nodes = facts;
-  opens = record { rise = tt; lasts_rise = tt; given = tt; behind = tt; nodes = tt; apart = tt };
-}
-
 -- what may be changed is at the subject's level
 at_level : (site : Site) (s l : ℕ) → None ≡ denial site s (ChangeNames l) → l ≡ s
 at_level site s l e = grind (arith, nat_tests, e)
@@ -55,7 +46,7 @@ at_level site s l e = grind (arith, nat_tests, e)
 walks_alike : (dom : ℕ → ℕ → Bool) → IsPreorderWithBottom dom → (s : ℕ) (rest : World) (t : Rows) → NodeFacts dom t.nodes t.entries t.lasts → (moved : Id) (b : Node) → node_at t.nodes b.id ≡ Some b → is_directory b.kind ≡ true → b.label ≡ s →
     goes_under dom s (with_tree rest t) moved b.id ≡ lies_above t moved b.id
 walks_alike dom lattice s rest t facts moved b found kind label =
-    let all = rows_facts dom t facts in
+    let all = whole_facts dom t facts in
     same_walk dom (world_of t) all lattice s moved b.id (ap (option_map (λ n. is_directory n.kind)) found ∙ ap Some kind)
     (sees_own dom lattice s (world_of t) all b.id (ap (option_map (λ n. n.label)) found ∙ ap Some label))
 

@@ -74,18 +74,19 @@ place_added dom p w row facts new is =
     let stay = confirmed_stay row w.clients (grind (arith, absent)) in
     place_stays dom p.subject w (apply (AddClient row) w) (λ number. stay p.subject number) (λ client number there held. held) p.client p.session p.current p.saved is
 
+-- a confirmed client isn't one that isn't confirmed
+pub other_client : (clients : List Client) (c : Client) → client_at clients c.id ≡ Some c → c.confirmed ≡ false → (level number : ℕ) → has_confirmed clients level number ≡ true → (level == c.id.level && number == c.id.number) ≡ false
+other_client clients c found pending level number there = at (level == c.id.level && number == c.id.number) refl
+  where
+    at : (b : Bool) → (level == c.id.level && number == c.id.number) ≡ b → (level == c.id.level && number == c.id.number) ≡ false
+    at true is =
+        let same : record { level = level; number = number } ≡ c.id = id_same (record { level = level; number = number }) c.id is in
+        let it : is_confirmed (client_at clients c.id) ≡ true = subst (λ i. is_confirmed (client_at clients i) ≡ true) same there in
+        absurd (grind (arith, found, pending, it))
+    at false is = is
+
 -- Where a record that isn't confirmed goes, confirmed ones and their sessions stay.
 module _ (dom : ℕ → ℕ → Bool) (w : World) (c : Client) (found : client_at w.clients c.id ≡ Some c) (pending : c.confirmed ≡ false) where
-  other_client : (s number : ℕ) → has_confirmed w.clients s number ≡ true → (s == c.id.level && number == c.id.number) ≡ false
-  other_client s number there = at (s == c.id.level && number == c.id.number) refl
-    where
-      at : (b : Bool) → (s == c.id.level && number == c.id.number) ≡ b → (s == c.id.level && number == c.id.number) ≡ false
-      at true is =
-          let same : record { level = s; number = number } ≡ c.id = id_same (record { level = s; number = number }) c.id is in
-          let it : is_confirmed (client_at w.clients c.id) ≡ true = subst (λ i. is_confirmed (client_at w.clients i) ≡ true) same there in
-          absurd (grind (arith, found, pending, it))
-      at false is = is
-
   session_stays : (s client number : ℕ) → has_confirmed w.clients s client ≡ true → is_session_for (Some client) (session_at w.sessions (record { level = s; number = number })) ≡ true → is_session_for (Some client) (session_at (apply (DropClient c.id) w).sessions (record { level = s; number = number })) ≡ true
   session_stays s client number there is = at (session_at w.sessions (record { level = s; number = number })) refl is
     where
@@ -93,12 +94,12 @@ module _ (dom : ℕ → ℕ → Bool) (w : World) (c : Client) (found : client_a
       at None here is = absurd (grind arith)
       at (Some x) here is =
           let known = (all_find (λ x. Unit {0}) (λ x. same_id (record { level = s; number = number }) x.id) w.sessions x (all_anyway _ (λ x. tt) w.sessions) here).1 in
-          let others = other_client s client there in
+          let others = other_client w.clients c found pending s client there in
           let stays : not (is_session_of c.id x) ≡ true = grind (arith, nat_tests, known, is, others) in
           ap (is_session_for (Some client)) (found_left (λ x. same_id (record { level = s; number = number }) x.id) (λ x. not (is_session_of c.id x)) w.sessions x here stays) ∙ is
 
   place_dropped : (p : Place) → is_place dom w p ≡ true → is_place dom (apply (DropClient c.id) w) p ≡ true
-  place_dropped p is = place_stays dom p.subject w (apply (DropClient c.id) w) (λ number there. confirmed_left c.id w.clients p.subject number (other_client p.subject number there) there) (session_stays p.subject) p.client p.session p.current p.saved is
+  place_dropped p is = place_stays dom p.subject w (apply (DropClient c.id) w) (λ number there. confirmed_left c.id w.clients p.subject number (other_client w.clients c found pending p.subject number there) there) (session_stays p.subject) p.client p.session p.current p.saved is
 
 place_made : (dom : ℕ → ℕ → Bool) (args : Arguments) (p : Place) (w : World) (o : Option Client) → Facts dom w → is_place dom w p ≡ true → find (is_pending p.subject args.owner) w.clients ≡ o → is_place dom (apply_all (dropped o ++ AddClient (new_client (record { level = p.subject; number = last_of p.subject w.lasts.clients + 1 }) args) ∷ []) w) p ≡ true
 place_made dom args p w None facts is found = place_added dom p w (new_client (record { level = p.subject; number = last_of p.subject w.lasts.clients + 1 }) args) facts (record { own = refl; above = omega arith }) is

@@ -29,7 +29,7 @@ pub makes : (args : CreateSession) (level : ℕ) (moment : Moment) (rest : World
 makes args level moment rest lists c large room number = rw (large, room, number) refl
 
 -- where the next sequence of a client comes, its session is made
-pub next : (args : CreateSession) (arguments : List ℕ) (lists : Lists) (level : ℕ) (id : Id) (c : Client) (last : ℕ) → id ≡ client_named args.client → id.level ≡ level → client_at lists.clients id ≡ Some c → last ≡ sequence_before c.sequence → Next ≡ arrival last c.sequence c.kept args.sequence arguments → (moment : Moment) (rest : World) → made args (begins_at id.level moment) (standing rest lists) c ≡ create_session args arguments (begins_at level moment) (standing rest lists)
+next : (args : CreateSession) (arguments : List ℕ) (lists : Lists) (level : ℕ) (id : Id) (c : Client) (last : ℕ) → id ≡ client_named args.client → id.level ≡ level → client_at lists.clients id ≡ Some c → last ≡ sequence_before c.sequence → Next ≡ arrival last c.sequence c.kept args.sequence arguments → (moment : Moment) (rest : World) → made args (begins_at id.level moment) (standing rest lists) c ≡ create_session args arguments (begins_at level moment) (standing rest lists)
 next args arguments lists level id c last named own there before came moment rest =
     let p = begins_at level moment in
     let again = λ (reply : List ℕ). done p (Again reply) [] in
@@ -41,6 +41,16 @@ next args arguments lists level id c last named own there before came moment res
     ∙ sym (ap (followed p again new) comes)
     ∙ sym (ordered p again new arguments (sequence_before c.sequence) c.sequence c.kept args.sequence)
     ∙ rw (here, found) refl
+
+-- the same of a record that is found among the lists as they are kept
+pub record IsNext (args : CreateSession) (arguments : List ℕ) (lists : Lists) (level : ℕ) (id : Id) (c : Client) : Type 0 where
+  pub there : client_at lists.clients id ≡ Some c
+  pub makes : (moment : Moment) (rest : World) → made args (begins_at id.level moment) (standing rest lists) c ≡ create_session args arguments (begins_at level moment) (standing rest lists)
+
+pub is_next : (args : CreateSession) (arguments : List ℕ) (kept lists : Lists) (level : ℕ) (id : Id) (c : Client) (last : ℕ) → kept ≡ lists → Some c ≡ client_at kept.clients id → id ≡ client_named args.client → id.level ≡ level → last ≡ sequence_before c.sequence → Next ≡ arrival last c.sequence c.kept args.sequence arguments → IsNext args arguments lists level id c
+is_next args arguments kept lists level id c last view found named own before came =
+    let there = ap (λ (l : Lists). client_at l.clients id) (sym view) ∙ sym found in
+    record { there = there; makes = next args arguments lists level id c last named own there before came }
 
 -- the lists after a record gave way to one that is confirmed, and a session was added
 pub created : (rest : World) (lists : Lists) (o : Option Client) (row : Client) (x : Session) → lists_of (apply_all (dropped o ++ SetClient row ∷ AddSession x ∷ []) (standing rest lists)) ≡

@@ -123,16 +123,18 @@ module _ (rows : List Client) (lasts : List Id) (last records : ℕ → ℕ) (nu
   none_confirmed level owner verifier none = find-indexed (is_confirmed_as level owner verifier) level owner true (confirmed_of level owner verifier) ∙ ap (λ o. passing (is_confirmed_as level owner verifier) (at_number rows level o)) none
 
   -- where there is one it is found if it has the verifier
-  pub find-verified : (level : ℕ) (owner verifier : List ℕ) (number : ℕ) → (numbers level owner).confirmed ≡ Some number → (c : Client) → client_at rows (record { level = level; number = number }) ≡ Some c → find (is_confirmed_as level owner verifier) rows ≡ cond (bytes_eq c.verifier verifier) (Some c) None
-  find-verified level owner verifier number known c found =
+  pub find-verified : (level : ℕ) (owner verifier : List ℕ) (number : ℕ) → (numbers level owner).confirmed ≡ Some number → (c : Client) → Some c ≡ client_at rows (record { level = level; number = number }) → (b : Bool) → bytes_eq c.verifier verifier ≡ b → cond b (Some c) None ≡ find (is_confirmed_as level owner verifier) rows
+  find-verified level owner verifier number known c found b tested =
       let there = there_at level owner true number known in
       let same : there.row ≡ c = let known = there.found in cc in
       let of = subst (IsOf level owner true) same there.of in
       let is : is_confirmed_as level owner verifier c ≡ bytes_eq c.verifier verifier = (λ i. is_confirmed_as level (sym of.1 i) verifier c) ∙ grind (arith, nat_tests, of.0, of.2, bytes_itself c.owner) in
+      sym (
       find-indexed (is_confirmed_as level owner verifier) level owner true (confirmed_of level owner verifier)
       ∙ ap (λ o. passing (is_confirmed_as level owner verifier) (at_number rows level o)) known
-      ∙ ap (passing (is_confirmed_as level owner verifier)) found
-      ∙ ap (λ b. cond b (Some c) None) is
+      ∙ ap (passing (is_confirmed_as level owner verifier)) (sym found)
+      ∙ ap (λ b. cond b (Some c) None) (is ∙ tested)
+      )
 
   -- ---- how many stay where the pending one goes
 

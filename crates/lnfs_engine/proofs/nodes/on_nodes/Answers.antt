@@ -29,7 +29,8 @@ use Rattle.lnfs_engine.specs.Counts.{AreAsMany}
 use Rattle.lnfs_engine.proofs.Acting.{some_world}
 use Rattle.lnfs_engine.proofs.Counting.{many_counts}
 use Rattle.lnfs_engine.proofs.NamesCounts.{read_link_many, read_dir_many}
-use Rattle.lnfs_engine.proofs.OnNodes.{goes_acts, saves_acts, stays_acts, told_on, wrote_performs}
+use Rattle.lnfs_engine.proofs.Telling.{told_on}
+use Rattle.lnfs_engine.proofs.OnNodes.{goes_acts, saves_acts, stays_acts, wrote_performs}
 use Rattle.lnfs_engine.proofs.nodes.on_nodes.Goals as goal
 
 -- what stays at a node, and what is saved

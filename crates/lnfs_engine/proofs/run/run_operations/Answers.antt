@@ -1,4 +1,4 @@
-use Rattle.std.proofs.Common.{◌≤◌, [], length, sym, ap, subst, arith}
+use Rattle.std.proofs.Common.{[], length, sym, ap, subst, arith}
 use Rattle.lnfs_calipso.specs.Label.{IsPreorderWithBottom}
 use Rattle.lnfs_policy.specs.Policy.{dominance}
 use Rattle.lnfs_world.specs.Both.{both, BothStand}
@@ -6,9 +6,9 @@ use Rattle.lnfs_operations.specs.Served.{operation}
 use Rattle.lnfs_operations.specs.SlotRule.{run_behind}
 use Rattle.lnfs_operations.proofs.ServedLaws.{operation_lawful}
 use Rattle.lnfs_engine.specs.Places.{place_of}
-use Rattle.lnfs_engine.specs.Performs.{site_in, sent_of, Performs}
+use Rattle.lnfs_engine.specs.Performs.{site_in, sent_of}
 use Rattle.lnfs_engine.proofs.Acting.{starts_stands}
-use Rattle.lnfs_engine.proofs.Running.{here, none-left, used_is, ahead_begin, ahead_on, ahead_refused, ahead_again, ahead_ends}
+use Rattle.lnfs_engine.proofs.Running.{here, none-left, ahead_begin, did, ahead_on, ahead_refused, ahead_again, ahead_ends}
 use Rattle.lnfs_engine.proofs.run.run_operations.Goals as goal
 
 pub loop-done-init : goal.loop-done-init
@@ -35,7 +35,7 @@ loop-done-preserved g c =
     let k = r.compound.now in
     let done = c.loop-done.done in
     let op = c.index-ops-done.result in
-    let e = here k.ops done op (omega (arith, ap length c.as_slice-ops.ensures)) (sym (rw c.as_slice-ops.ensures at c.index-ops-done.is)) in
+    let e = here k.ops _ done op c.as_slice-ops.ensures (omega arith) (sym c.index-ops-done.is) in
     let deeds = operation X (site_in r) (sent_of r) k in
     let total = run_behind deeds [] k.ops (place_of c.args.place.now) (both c.args.store.now (rows c.args.extra.now)) in
     let i = c.loop-done.invariant in
@@ -43,15 +43,14 @@ loop-done-preserved g c =
     let b = both c.loop-done.store (rows c.loop-done.extra) in
     let q = place_of c.perform.new.place in
     let v = both c.perform.new.store (rows c.perform.new.extra) in
-    let did = c.in_ok-perform.ensures.performs i.ahead.so_far i.ahead.many (used_is k i.ahead.so_far c.args.out.now c.loop-done.out r.begin c.requires.head i.ahead.text) in
-    let on = subst (Performs r.begin c.loop-done.out c.perform.new.out c.loop-done.keeper c.perform.new.keeper q v (deeds i.ahead.so_far op p b)) c.in-Done.is did in
+    let on = did deeds k.ops r.begin c.args.out.now total c.loop-done.out done c.loop-done.keeper p b i.ahead k op e c.perform.new.out c.perform.new.keeper q v _ c.requires.head c.in_ok-perform.ensures.performs _ c.in-Done.is in
     let law = (operation_lawful X owed (site_in r) (subst (λ q. IsPreorderWithBottom (dominance q)) c.policy.ensures c.is_preordered.ensures) (sent_of r) k i.ahead.so_far op).stands p b i.facts in
     record {
       within = omega (arith, ap length c.as_slice-ops.ensures);
       first = λ none. absurd (omega (arith, none));
       stands = c.in_ok-perform.ensures.stands;
       facts = subst (BothStand X.Fact (site_in r).dom q) on.state (subst (λ at. BothStand X.Fact (site_in r).dom at (deeds i.ahead.so_far op p b).state) on.place_is law);
-      ahead = ahead_on deeds k.ops r.begin c.args.out.now total c.loop-done.out done c.loop-done.keeper p b i.ahead op e c.perform.new.out c.perform.new.keeper q v on;
+      ahead = ahead_on deeds k.ops r.begin c.args.out.now total c.loop-done.out done c.loop-done.keeper p b i.ahead k op e c.perform.new.out c.perform.new.keeper q v _ c.requires.head c.in_ok-perform.ensures.performs c.in-Done.is;
     }
 
 pub returns-in-Refused-clause-ends : goal.returns-in-Refused-clause-ends
@@ -62,7 +61,7 @@ returns-in-Refused-clause-ends g c =
     let k = r.compound.now in
     let done = c.loop-done.done in
     let op = c.index-ops-done.result in
-    let e = here k.ops done op (omega (arith, ap length c.as_slice-ops.ensures)) (sym (rw c.as_slice-ops.ensures at c.index-ops-done.is)) in
+    let e = here k.ops _ done op c.as_slice-ops.ensures (omega arith) (sym c.index-ops-done.is) in
     let deeds = operation X (site_in r) (sent_of r) k in
     let total = run_behind deeds [] k.ops (place_of c.args.place.now) (both c.args.store.now (rows c.args.extra.now)) in
     let a = c.loop-done.invariant.ahead in
@@ -70,9 +69,7 @@ returns-in-Refused-clause-ends g c =
     let b = both c.loop-done.store (rows c.loop-done.extra) in
     let q = place_of c.perform.new.place in
     let v = both c.perform.new.store (rows c.perform.new.extra) in
-    let did = c.in_ok-perform.ensures.performs a.so_far a.many (used_is k a.so_far c.args.out.now c.loop-done.out r.begin c.requires.head a.text) in
-    let on = subst (Performs r.begin c.loop-done.out c.perform.new.out c.loop-done.keeper c.perform.new.keeper q v (deeds a.so_far op p b)) c.in-Refused.is did in
-    rw c.number.ensures (ahead_refused deeds k.ops r.begin c.args.out.now total c.loop-done.out done c.loop-done.keeper p b a op e c.perform.new.out c.perform.new.keeper q v c.in-Refused.why on)
+    rw c.number.ensures (ahead_refused deeds k.ops r.begin c.args.out.now total c.loop-done.out done c.loop-done.keeper p b a k op e c.perform.new.out c.perform.new.keeper q v _ c.requires.head c.in_ok-perform.ensures.performs c.in-Refused.why c.in-Refused.is)
 
 pub returns-in-Again-clause-ends : goal.returns-in-Again-clause-ends
 returns-in-Again-clause-ends g c =
@@ -82,7 +79,7 @@ returns-in-Again-clause-ends g c =
     let k = r.compound.now in
     let done = c.loop-done.done in
     let op = c.index-ops-done.result in
-    let e = here k.ops done op (omega (arith, ap length c.as_slice-ops.ensures)) (sym (rw c.as_slice-ops.ensures at c.index-ops-done.is)) in
+    let e = here k.ops _ done op c.as_slice-ops.ensures (omega arith) (sym c.index-ops-done.is) in
     let deeds = operation X (site_in r) (sent_of r) k in
     let total = run_behind deeds [] k.ops (place_of c.args.place.now) (both c.args.store.now (rows c.args.extra.now)) in
     let a = c.loop-done.invariant.ahead in
@@ -90,10 +87,7 @@ returns-in-Again-clause-ends g c =
     let b = both c.loop-done.store (rows c.loop-done.extra) in
     let q = place_of c.perform.new.place in
     let v = both c.perform.new.store (rows c.perform.new.extra) in
-    let did = c.in_ok-perform.ensures.performs a.so_far a.many (used_is k a.so_far c.args.out.now c.loop-done.out r.begin c.requires.head a.text) in
-    let on = subst (Performs r.begin c.loop-done.out c.perform.new.out c.loop-done.keeper c.perform.new.keeper q v (deeds a.so_far op p b)) c.in-Again.is did in
-    let within : r.begin ≤ length c.args.out.now = omega (arith, c.requires.head) in
-    ahead_again deeds k.ops r.begin c.args.out.now total c.loop-done.out done c.loop-done.keeper p b a op e c.perform.new.out c.perform.new.keeper q v within on
+    ahead_again deeds k.ops r.begin c.args.out.now total c.loop-done.out done c.loop-done.keeper p b a k op e c.perform.new.out c.perform.new.keeper q v _ c.requires.head c.in_ok-perform.ensures.performs c.in-Again.is
 
 pub returns-clause-ends : goal.returns-clause-ends
 returns-clause-ends g c =

@@ -1,13 +1,11 @@
-use Rattle.std.proofs.Common.{◌≡◌, refl, sym, ap, ◌∙◌, subst}
+use Rattle.std.proofs.Common.{refl, sym, ap, ◌∙◌, subst}
 use Rattle.std.proofs.lemmas.Result.{IfOk-weaker}
-use Rattle.lnfs_arguments.specs.declared.types.Op.{Op}
 use Rattle.lnfs_arguments.specs.declared.types.Op.TheVariants as ops
 use Rattle.lnfs_arguments.specs.declared.types.CreateSession.{CreateSession}
 use Rattle.lnfs_world.specs.World.{World, client_at}
-use Rattle.lnfs_world.specs.Outcome.{Site, Place, begins_at}
+use Rattle.lnfs_world.specs.Outcome.{begins_at}
 use Rattle.lnfs_operations.specs.Identifiers.{client_named}
-use Rattle.lnfs_operations.specs.Sequence.{Sent}
-use Rattle.lnfs_operations.specs.Served.{Reply, Kept, row, created_keeper}
+use Rattle.lnfs_operations.specs.Served.{Kept, row, created_keeper}
 use Rattle.lnfs_session.specs.Creates.{kept_reply, or_none}
 use Rattle.lnfs_session.specs.Standing.{standing}
 use Rattle.lnfs_engine.specs.declared.reply.Came.{Came}
@@ -15,12 +13,8 @@ use Rattle.lnfs_engine.specs.Places.{Stands, place_of, keeper_of}
 use Rattle.lnfs_files.specs.Worlds.{with_opens}
 use Rattle.lnfs_engine.specs.Replies.{own_of, Acts, Says}
 use Rattle.lnfs_engine.specs.Performs.{first_kept, made_of, site_in, sent_of, turn, Performs}
-use Rattle.lnfs_engine.proofs.Acting.{performs, starts_stands}
+use Rattle.lnfs_engine.proofs.Acting.{performs, named, starts_stands}
 use Rattle.lnfs_engine.proofs.sessions.create_session.Goals as goal
-
--- with the arguments as an operation, and what was answered
-named : (site : Site) (sent : Sent) (op : Op) (args : CreateSession) (p : Place) (w v : World) (r : Op → Reply) → op ≡ ops.CreateSession args → Acts (row site sent (ops.CreateSession args) p w) (r (ops.CreateSession args)) p w v → Acts (row site sent op p w) (r op) p w v
-named site sent op args p w v r is = subst (λ o. Acts (row site sent o p w) (r o) p w v) (sym is)
 
 pub returns-in-Some-clause-performs : goal.returns-in-Some-clause-performs
 returns-in-Some-clause-performs c =
@@ -41,7 +35,7 @@ returns-in-Some-clause-performs c =
     let did = subst (λ answer. Acts (row (site_in r) (sent_of r) (ops.CreateSession args) p w) (made_of (ops.CreateSession args) keeper after args answer) p w v) c.in-Some.is (c.in_ok-answer.ensures.acts (site_in r) r.size r.compound.now.count at.moment rest) in
     subst (λ q. Performs r.begin c.args.out.now c.say.new.out c.args.keeper.now next q v (turn (site_in r) (sent_of r) op q w) came) (sym c.requires.first.place)
     (performs r.begin c.args.out.now c.say.new.out c.args.keeper.now next p (site_in r) (sent_of r) op p p w v (own_of op keeper c.in-Some.answer) came
-    (named (site_in r) (sent_of r) op args p w v (λ o. own_of o keeper c.in-Some.answer) c.requires.op did)
+    (named (site_in r) (sent_of r) op (ops.CreateSession args) p p w v (λ o. own_of o keeper c.in-Some.answer) c.requires.op did)
     refl
     (ap (λ x. first_kept (keeper_of x) keeper) c.requires.first.nowhere ∙ sym (c.created_keeper-created.ensures.keeper at.moment (with_opens rest c.args.opens.now)))
     (says r.begin keeper)))
@@ -74,7 +68,7 @@ returns-in-None-clause-performs c =
     let did = subst (λ answer. Acts (row (site_in r) (sent_of r) (ops.CreateSession args) p w) (made_of (ops.CreateSession args) keeper after args answer) p w v) c.in-None.is (c.in_ok-answer.ensures.acts (site_in r) r.size r.compound.now.count at.moment rest) in
     subst (λ q. Performs r.begin c.args.out.now c.repeat.new.out here here q v (turn (site_in r) (sent_of r) op q w) came) (sym c.requires.first.place)
     (performs r.begin c.args.out.now c.repeat.new.out here here p (site_in r) (sent_of r) op p p w v (Kept kept) came
-    (named (site_in r) (sent_of r) op args p w v (λ o. Kept kept) c.requires.op did)
+    (named (site_in r) (sent_of r) op (ops.CreateSession args) p p w v (λ o. Kept kept) c.requires.op did)
     refl
     refl
     (subst (λ k. Says r.begin c.args.out.now c.repeat.new.out (Kept k) came) c.kept_created.ensures says)))

@@ -1,13 +1,12 @@
 use Rattle.std.proofs.Common.{◌≡◌, Some, Ok, Err, refl, sym, ap, ◌∙◌, subst}
 use Rattle.std.proofs.lemmas.Result.{IfOk-weaker}
-use Rattle.lnfs_arguments.specs.declared.types.Op.{Op}
 use Rattle.lnfs_arguments.specs.declared.types.Op.TheVariants as ops
 use Rattle.lnfs_arguments.specs.declared.types.Sequence.{Sequence}
 use Rattle.lnfs_world.specs.World.{World}
-use Rattle.lnfs_world.specs.Outcome.{Site, Place, begins_at}
+use Rattle.lnfs_world.specs.Outcome.{Place, begins_at}
 use Rattle.lnfs_operations.specs.Chain.{Answer, Done, Refused}
-use Rattle.lnfs_operations.specs.Sequence.{Sent, sequence}
-use Rattle.lnfs_operations.specs.Served.{Reply, Nowhere, Slot, Kept, row}
+use Rattle.lnfs_operations.specs.Sequence.{sequence}
+use Rattle.lnfs_operations.specs.Served.{Nowhere, Slot, Kept}
 use Rattle.lnfs_session.specs.declared.clients.SessionError.{SessionError}
 use Rattle.lnfs_session.specs.declared.clients.SessionError.TheVariants.{Status, Memory}
 use Rattle.lnfs_session.specs.declared.sequence.Seq.{Seq}
@@ -20,16 +19,12 @@ use Rattle.lnfs_engine.specs.declared.place.Keeper.TheVariants as keepers
 use Rattle.lnfs_engine.specs.declared.reply.Came.{Came}
 use Rattle.lnfs_engine.specs.Places.{Stands, place_of, keeper_of}
 use Rattle.lnfs_nodes.specs.Trees.{refusal_of}
-use Rattle.lnfs_engine.specs.Replies.{IsRefusal, own_of, Acts, Says}
+use Rattle.lnfs_engine.specs.Replies.{IsRefusal, own_of, Says}
 use Rattle.lnfs_engine.specs.Results.{sequence_result}
 use Rattle.lnfs_engine.specs.Performs.{first_kept, site_in, sent_of, turn, Performs}
-use Rattle.lnfs_engine.proofs.Acting.{performs, first_nowhere, starts_stands, some_world}
+use Rattle.lnfs_engine.proofs.Acting.{performs, named, first_nowhere, starts_stands, some_world}
 use Rattle.lnfs_engine.proofs.Sequencing.{is_new, is_again, is_refused, acts_new, acts_again, acts_refused, new_place, new_stands}
 use Rattle.lnfs_engine.proofs.sessions.sequence.Goals as goal
-
--- the arguments as an operation
-named : (site : Site) (sent : Sent) (op : Op) (args : Sequence) (p q : Place) (w v : World) (r : Op → Reply) → op ≡ ops.Sequence args → Acts (row site sent (ops.Sequence args) p w) (r (ops.Sequence args)) q w v → Acts (row site sent op p w) (r op) q w v
-named site sent op args p q w v r is = subst (λ o. Acts (row site sent o p w) (r o) q w v) (sym is)
 
 -- the refusal of a test
 refused : (e : SessionError) (why : Refusal) (a : Answer Arrived) → IsRefusal e why → Answers arrival_of (Err e) a → Refused (refusal_of why) ≡ a
@@ -56,7 +51,7 @@ returns-in-Ok-New-clause-performs c =
     let keeper = Slot x.at.slot args.sequence in
     subst (λ (q : Place). Performs r.begin c.args.out.now c.say.new.out c.args.keeper.now next (record q { client = Some x.client.number; session = Some x.at.session.number }) w (turn site sent op q w) came) (sym c.requires.first.place)
     (performs r.begin c.args.out.now c.say.new.out c.args.keeper.now next _ site sent op p _ w w (own_of op keeper (Ok (sequence_result args x.highest))) came
-    (named site sent op args p _ w w (λ o. own_of o keeper (Ok (sequence_result args x.highest))) c.requires.op (acts_new site args sent p w _ x.at.slot _ x.room x.highest n))
+    (named site sent op (ops.Sequence args) p _ w w (λ o. own_of o keeper (Ok (sequence_result args x.highest))) c.requires.op (acts_new site args sent p w _ x.at.slot _ x.room x.highest n))
     (new_place at.subject at.moment args w (sequence args sent p w) x.at x.client x.room x.highest n)
     (ap (λ k. first_kept (keeper_of k) keeper) c.requires.first.nowhere)
     (subst (λ k. Says r.begin c.args.out.now c.say.new.out (own_of op keeper (Ok k)) came) c.sequence_result.ensures.told (says r.begin keeper))))
@@ -97,7 +92,7 @@ returns-in-Ok-Replay-clause-performs c =
     let is = is_again args sent p w x.kept.now (ap (λ (y : Seq). Done (arrival_of y)) (sym x.field-0-is) ∙ x.ensures.answer at.moment rest) in
     subst (λ q. Performs r.begin c.args.out.now c.repeat.new.out here here q w (turn site sent op q w) came) (sym c.requires.first.place)
     (performs r.begin c.args.out.now c.repeat.new.out here here p site sent op p p w w (Kept x.kept.now) came
-    (named site sent op args p p w w (λ o. Kept x.kept.now) c.requires.op (acts_again site args sent p w x.kept.now is))
+    (named site sent op (ops.Sequence args) p p w w (λ o. Kept x.kept.now) c.requires.op (acts_again site args sent p w x.kept.now is))
     refl refl says))
     c.repeat.ensures
 
@@ -119,7 +114,7 @@ returns-in_ok-refused_by-in-Err-clause-performs c =
     let is = is_refused args sent p w (refusal_of why) (refused c.in-Err.error why _ c.in_ok-refused_by-in-Err.ensures (c.in-Err.ensures.answer at.moment rest)) in
     subst (λ q. Performs r.begin c.args.out.now c.say-in-Err.new.out here here q w (turn site sent op q w) came) (sym c.requires.first.place)
     (performs r.begin c.args.out.now c.say-in-Err.new.out here here p site sent op p p w w (own_of op Nowhere (Err why)) came
-    (named site sent op args p p w w (λ o. own_of o Nowhere (Err why)) c.requires.op (acts_refused site args sent p w why is))
+    (named site sent op (ops.Sequence args) p p w w (λ o. own_of o Nowhere (Err why)) c.requires.op (acts_refused site args sent p w why is))
     refl
     (first_nowhere (keeper_of here))
     (says r.begin Nowhere)))

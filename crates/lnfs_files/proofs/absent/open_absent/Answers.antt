@@ -1,4 +1,4 @@
-use Rattle.std.proofs.Common.{◌≡◌, refl, ap, sym, subst, ◌∙◌, ℕ, true, false, List, Some, None, Ok}
+use Rattle.std.proofs.Common.{◌≡◌, refl, ap, sym, subst, ◌∙◌, ℕ, true, false, List, Some, None}
 use Rattle.lnfs_calipso.specs.declared.Level.{Level}
 use Rattle.lnfs_arguments.specs.declared.types.Making.{Making}
 use Rattle.lnfs_world.specs.World.{Id, Node, World, node_at, label_at}
@@ -12,7 +12,7 @@ use Rattle.lnfs_operations.specs.Open as operation
 use Rattle.lnfs_operations.specs.Open.{Arguments, Opened, Wanted, access_of}
 use Rattle.lnfs_tree.specs.Rows.{Rows, id_of}
 use Rattle.lnfs_tree.specs.Changed.{ran, new_node}
-use Rattle.lnfs_open.specs.Opening.{Wish, Does, opened_of, own_open, new_open}
+use Rattle.lnfs_open.specs.Opening.{own_open, new_open}
 use Rattle.lnfs_open.specs.Listed.{node_id}
 use Rattle.lnfs_nodes.specs.Acts.{placed}
 use Rattle.lnfs_nodes.proofs.Done.{kept}
@@ -26,7 +26,7 @@ use Rattle.lnfs_files.specs.Openings as files
 use Rattle.lnfs_files.specs.declared.opened.Opened as code_opened
 use Rattle.lnfs_world.proofs.NewNames.{next_absent}
 use Rattle.lnfs_files.proofs.Makes.{makes, none_of}
-use Rattle.lnfs_files.proofs.Opens.{wished, same_wish, only_memory}
+use Rattle.lnfs_files.proofs.Opens.{wished, did_wish, only_memory}
 use Rattle.lnfs_files.proofs.Absents.{behind, by_label, opens_left, is_full, is_spent, is_made, absent_in, made_in, counts_in, same_changes, no_label}
 use Rattle.lnfs_files.proofs.absent.open_absent.Goals as goal
 
@@ -44,8 +44,7 @@ returns-in-Err-clause-acts c = λ p rest d holds.
     let making : Making = c.in-Some.making in
     record {
       outcome =
-          ap (operation.open_absent site args at w number d name wanted) c.in-Some.is
-          ∙ by_label site args at rest t s number d name wanted making c.level_or-label.result.0 (c.level_or-label.ensures ∙ ap (λ (l : ℕ). level_or l wanted.label) holds.tells.label) _
+          by_label site args at rest t s number d name wanted making _ _ c.level_or-label.result.0 c.in-Some.is holds.tells.label c.level_or-label.ensures _
           (c.in-Err.ensures at t d (behind site args at rest t s number d name wanted making) holds);
       tree = refl;
       opens = refl;
@@ -65,8 +64,7 @@ returns-then-not-branch-clause-acts c = λ p rest d holds.
     let making : Making = c.in-Some.making in
     record {
       outcome =
-          ap (operation.open_absent site args at w number d name wanted) c.in-Some.is
-          ∙ by_label site args at rest t s number d name wanted making c.level_or-label.result.0 (c.level_or-label.ensures ∙ ap (λ (l : ℕ). level_or l wanted.label) holds.tells.label) _
+          by_label site args at rest t s number d name wanted making _ _ c.level_or-label.result.0 c.in-Some.is holds.tells.label c.level_or-label.ensures _
           (c.in_default-check_makable.ensures at t d (behind site args at rest t s number d name wanted making) holds
           ∙ is_full site args at rest t s number d name wanted making c.args.dir.now.facts.label.0 c.args.opener.now.client.level.0 holds.tells.label (ap (λ (l : Level). l.0) c.requires.level) c.no_space.result c.no_space.ensures
           (sym c.if-not-branch.true ∙ c.in_ok-has_room.ensures.room t.nodes c.requires.counts));
@@ -92,8 +90,7 @@ returns-in-Spent-clause-acts c = λ p rest d holds.
     let there = spent t c.insert.new.self (id_of c.args.dir.now.id) d name fresh at.moment (ap (λ (i : Id). node_at t.nodes i) holds.id ∙ holds.node_is) x.0 x.1 (rw c.in-Spent.is at c.in-Err-insert.ensures) in
     record {
       outcome =
-          ap (operation.open_absent site args at w number d name wanted) c.in-Some.is
-          ∙ by_label site args at rest t s number d name wanted making c.level_or-label.result.0 (c.level_or-label.ensures ∙ ap (λ (l : ℕ). level_or l wanted.label) holds.tells.label) _
+          by_label site args at rest t s number d name wanted making _ _ c.level_or-label.result.0 c.in-Some.is holds.tells.label c.level_or-label.ensures _
           (c.in_default-check_makable.ensures at t d (behind site args at rest t s number d name wanted making) holds
           ∙ is_spent site args at rest t s number d name wanted making fresh.home.0 c.args.opener.now.client.level.0 home (ap (λ (l : Level). l.0) c.requires.level) c.no_space-in-Spent.result c.no_space-in-Spent.ensures there.0);
       tree = there.1;
@@ -142,17 +139,15 @@ returns-in-Ok-open-clause-acts c = λ p rest d holds.
     let id : id_of c.in-Ok.made.0 ≡ n.id = ap (λ r. r.0) there.1 ∙ ap (next_id t.lasts) home in
     let none : own_open s (wished at.subject number args n.id (access_of args)) ≡ None =
     none_of site.dom (label_at t.nodes) (new_open s (wished at.subject number args n.id (access_of args))) s.opens (no_label t.nodes n.id (next_absent site.dom t.nodes t.entries t.lasts c.requires.facts d.label)) c.requires.opens in
-    let same = same_wish c.args.opener.now.client.level.0 at.subject number args (node_id c.node_key.result) n.id c.share.result (access_of args) level (c.node_key.ensures ∙ id) c.share.ensures in
     let r : code_opened.Opened = record { id = c.state_id_of.result; node = c.in-Ok.made.0; info = c.cinfo.result; set = c.args.wanted.set } in
     subst (λ (o : Outcome _). Succeeds (files.opened_of r) (record at { current = Some (id_of r.node) }) rest t u s v o)
-    (sym (ap (operation.open_absent site args at w number d name wanted) c.in-Some.is
-    ∙ by_label site args at rest t s number d name wanted making c.level_or-label.result.0 label _
+    (sym (by_label site args at rest t s number d name wanted making _ _ c.level_or-label.result.0 c.in-Some.is holds.tells.label c.level_or-label.ensures _
     (c.in_default-check_makable.ensures at t d (behind site args at rest t s number d name wanted making) holds
     ∙ is_made site args at rest t s number d name wanted making c.args.dir.now.facts.label.0 c.args.opener.now.client.level.0 holds.tells.label level
     (sym c.if-not-branch.false ∙ c.in_ok-has_room.ensures.room t.nodes c.requires.counts)
     (ap (λ (l : Level). has_number t.lasts l.0 && has_cookie d) (sym c.in_ok-fresh.ensures.home) ∙ there.0))))
     (makes args at rest t u s v number d name wanted.set n c.in-Ok-open.id r c.in-Ok.made.1 none
-    (subst (λ (x : Wish). Does (opened_of s x) s v (Ok c.in-Ok-open.id)) same c.in-Ok-open.ensures)
+    (did_wish s v _ c.args.opener.now.client.level.0 at.subject number args (node_id c.node_key.result) n.id c.share.result (access_of args) level (c.node_key.ensures ∙ id) c.share.ensures c.in-Ok-open.ensures)
     (there.2 ∙ ap (λ (cs : List Change). ran cs t) (same_changes at.moment t d name fresh n home node refl))
     c.state_id_of.ensures id c.cinfo.ensures (ap (λ r. r.1) there.1) refl)
 

@@ -1,5 +1,4 @@
-use Rattle.std.proofs.Common.{◌≡◌, ◌∙◌, ap, sym, refl, subst, false, ℕ, List, length, [], ◌∷◌}
-use Rattle.std.specs.Prelude.{◌==◌}
+use Rattle.std.proofs.Common.{◌∙◌, ap, sym, refl, subst, ℕ, List, length, [], ◌∷◌}
 use Rattle.lnfs_attrs.specs.declared.bitmap.Bitmap.{Bitmap}
 use Rattle.lnfs_world.specs.Change.{Relabel}
 use Rattle.lnfs_world.specs.Effects.{attributes_changed}
@@ -28,9 +27,8 @@ returns-in-Ok-clause-acts c = λ n p rest opens set holds.
     let h = c.args.held.now in
     let level = c.args.level.0 in
     let done = was_raised t u (id_of h.id) n at.moment (found t n h holds) level c.in-Ok.field-0 c.in-Ok.ensures.does in
-    let other : (level == n.label) ≡ false = sym (ap (λ (l : ℕ). level == l) holds.tells.label) ∙ c.requires.other in
     subst (λ (o : Outcome (Answer Bitmap)). Succeeds set at rest t u opens opens o)
-    (sym (raised_so at (with_files rest t opens) n level set other done.0))
+    (sym (raised_so at (with_files rest t opens) n _ level set holds.tells.label c.requires.other done.0))
     (succeeds set at rest t u opens (Relabel n.id level (attributes_changed at.moment n.inner) ∷ []) refl done.1)
 
 pub returns-in-Ok-clause-counts : goal.returns-in-Ok-clause-counts
@@ -61,10 +59,9 @@ returns-in-Err-clause-acts c = λ n p rest opens set holds.
     let h = c.args.held.now in
     let level = c.args.level.0 in
     let not = not_raised t u (id_of h.id) n at.moment (found t n h holds) level c.in-Err.field-0 c.in-Err.ensures.calm c.in-Err.ensures.does in
-    let other : (level == n.label) ≡ false = sym (ap (λ (l : ℕ). level == l) holds.tells.label) ∙ c.requires.other in
     record {
       outcome =
-          raised_full at (with_files rest t opens) n level set other (full c.requires.facts.0 t c.requires.facts.1 n holds.node_is not.0)
+          raised_full at (with_files rest t opens) n _ level set holds.tells.label c.requires.other (full c.requires.facts.0 t c.requires.facts.1 n holds.node_is not.0)
           ∙ ap (λ (r : Refusal). refuse {R = Bitmap} at r.gate r.status) (sym c.namespace.ensures);
       tree = not.1;
       opens = refl;

@@ -1,5 +1,4 @@
-use Rattle.std.proofs.Common.{◌≡◌, ◌∙◌, ap, sym, refl, subst, true, ℕ, []}
-use Rattle.std.specs.Prelude.{◌==◌}
+use Rattle.std.proofs.Common.{◌∙◌, sym, refl, subst, true, []}
 use Rattle.lnfs_attrs.specs.declared.bitmap.Bitmap.{Bitmap}
 use Rattle.lnfs_world.specs.World.{World}
 use Rattle.lnfs_world.specs.Effects.{parent_labels}
@@ -19,11 +18,9 @@ use Rattle.lnfs_files.proofs.labelling.raise.Goals as goal
 
 pub check_move-requires : goal.check_move-requires
 check_move-requires c =
-    let rows = c.args.quota.now in
     let t = c.args.tree.now in
     let h = c.args.held.now in
-    let x = is_there t _ h c.requires.held in
-    record { held = is_counted rows t x.0 h _ x.1 (sym (c.counted_bytes-bytes.ensures t x.0 x.1)) (c.totals.ensures.held_bytes rows t.nodes x.0.id x.0 c.requires.counts x.1.node_is) }
+    record { held = is_counted c.args.quota.now t h _ (is_there t _ h c.requires.held) (λ n holds. sym (c.counted_bytes-bytes.ensures t n holds)) c.requires.counts (c.totals.ensures.held_bytes c.args.quota.now t.nodes) }
 
 pub put_level-requires : goal.put_level-requires
 put_level-requires c = record {
@@ -54,9 +51,8 @@ returns-then-eq-clause-acts c = λ n p rest opens set holds.
     let t = c.args.tree.now in
     let level = c.args.level.0 in
     let w : World = with_files rest t opens in
-    let same : (level == n.label) ≡ true = sym (ap (λ (l : ℕ). level == l) holds.tells.label) ∙ sym c.eq.ensures ∙ c.if-eq.true in
     subst (λ (o : Outcome (Answer Bitmap)). Succeeds set at rest t t opens opens o)
-    (sym (allowed site at (Raise n.label (parent_labels t.nodes t.entries n.id) level) (raised at w n level set) (c.in_default.ensures n holds) ∙ raised_same at w n level set same))
+    (sym (allowed site at (Raise n.label (parent_labels t.nodes t.entries n.id) level) (raised at w n level set) (c.in_default.ensures n holds) ∙ raised_same at w n _ level set holds.tells.label (sym c.eq.ensures ∙ c.if-eq.true)))
     (succeeds set at rest t t opens [] refl refl)
 
 pub returns-clause-acts : goal.returns-clause-acts

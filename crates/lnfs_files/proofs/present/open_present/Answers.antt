@@ -1,11 +1,10 @@
-use Rattle.std.proofs.Common.{◌≡◌, refl, ap, sym, ◌∙◌, subst, Bool, Ok, Err}
+use Rattle.std.proofs.Common.{◌≡◌, refl, ap, sym, ◌∙◌, Bool, Err}
 use Rattle.lnfs_calipso.specs.declared.Level.{Level}
 use Rattle.lnfs_arguments.specs.declared.statuses.TheConstants.{NFS4ERR_NOSPC}
-use Rattle.lnfs_world.specs.World.{Node}
 use Rattle.lnfs_world.specs.Outcome.{Place}
 use Rattle.lnfs_operations.specs.declared.Gate.TheVariants.{Quota}
 use Rattle.lnfs_operations.specs.Open.{Arguments, Wanted, access_of}
-use Rattle.lnfs_open.specs.Opening.{Wish, Does, opened_of}
+use Rattle.lnfs_open.specs.Opening.{opened_of}
 use Rattle.lnfs_open.specs.Listed.{node_id}
 use Rattle.lnfs_open.specs.declared.keys.OpenError.TheVariants.{Full}
 use Rattle.lnfs_nodes.specs.Acts.{placed}
@@ -13,18 +12,15 @@ use Rattle.lnfs_nodes.proofs.Refusing.{refused_as}
 use Rattle.lnfs_files.specs.Openings.{args_of, wanted_of}
 use Rattle.lnfs_files.proofs.WriteOn.{is_counted}
 use Rattle.lnfs_files.proofs.Sizes.{held_bytes}
-use Rattle.lnfs_files.proofs.Opens.{wish, wished, same_wish, with_own, refused_so, only_full, is_full, after_cut, succeeds}
+use Rattle.lnfs_files.proofs.Opens.{wish, wished, did_wish, with_own, refused_so, only_full, is_full, after_cut, succeeds}
 use Rattle.lnfs_files.proofs.present.open_present.Goals.{then-sized-2, else-sized-2}
 use Rattle.lnfs_files.proofs.present.open_present.Goals as goal
 
 pub byte_room-requires : goal.byte_room-requires
 byte_room-requires c =
-    let rows = c.args.quota.now in
     let t = c.args.tree.now in
     let h = c.args.held.now in
-    let n : Node = c.requires.there.0 in
-    let holds = c.requires.there.1 in
-    record { held = is_counted rows t n h h.facts.size holds (held_bytes t n h holds c.in_default.ensures.file) (c.totals.ensures.held_bytes rows t.nodes n.id n c.requires.counts holds.node_is) }
+    record { held = is_counted c.args.quota.now t h _ c.requires.there (λ n holds. held_bytes t n h holds c.in_default.ensures.file) c.requires.counts (c.totals.ensures.held_bytes c.args.quota.now t.nodes) }
 
 pub returns-in-Full-clause-acts : goal.returns-in-Full-clause-acts
 returns-in-Full-clause-acts c = λ p rest n holds.
@@ -35,8 +31,7 @@ returns-in-Full-clause-acts c = λ p rest n holds.
     let v = c.open.new.self in
     let number = c.args.opener.now.client.number in
     let w : Wanted = wanted_of c.args.wanted.now in
-    let same = same_wish c.args.opener.now.client.level.0 at.subject number args (node_id c.node_key-node.result) n.id c.share.result (access_of args) (ap (λ (l : Level). l.0) c.requires.level) (c.node_key-node.ensures ∙ holds.id) c.share.ensures in
-    let does = subst (λ (x : Wish). Does (opened_of s x) s v (Err Full)) same (rw c.in-Full.is at c.in-Err-open.ensures) in
+    let does = did_wish s v (Err Full) c.args.opener.now.client.level.0 at.subject number args (node_id c.node_key-node.result) n.id c.share.result (access_of args) (ap (λ (l : Level). l.0) c.requires.level) (c.node_key-node.ensures ∙ holds.id) c.share.ensures (rw c.in-Full.is at c.in-Err-open.ensures) in
     let told : (opened_of s (wish args at rest t s number n) ≡ Err Full) × (v ≡ s) = refused_so s v (opened_of s (wish args at rest t s number n)) Full (λ e. cc) does in
     record {
       outcome =
@@ -61,10 +56,9 @@ returns-clause-acts c = λ p rest n holds.
     let v = c.open.new.self in
     let number = c.args.opener.now.client.number in
     let w : Wanted = wanted_of c.args.wanted.now in
-    let same = same_wish c.args.opener.now.client.level.0 at.subject number args (node_id c.node_key-node.result) n.id c.share.result (access_of args) (ap (λ (l : Level). l.0) c.requires.level) (c.node_key-node.ensures ∙ holds.id) c.share.ensures in
     succeeds args at rest t s number n c.if-sized-2.tree v w c.args.info c.in-Ok.id _ _
     (c.in_default.ensures.checked p rest t n (with_own args at rest t s number n w c.args.info) holds)
-    (subst (λ (x : Wish). Does (opened_of s x) s v (Ok c.in-Ok.id)) same c.in-Ok.ensures)
+    (did_wish s v _ c.args.opener.now.client.level.0 at.subject number args (node_id c.node_key-node.result) n.id c.share.result (access_of args) (ap (λ (l : Level). l.0) c.requires.level) (c.node_key-node.ensures ∙ holds.id) c.share.ensures c.in-Ok.ensures)
     (elim c.if-sized-2.branch [
       | then-sized-2 b ↦ b.tree-is ∙ b.put_size.ensures.done n holds ∙ ap (λ (x : Bool). after_cut args at rest t s number n (record w { sized = x })) (sym b.if-sized-2.true)
       | else-sized-2 b ↦ b.tree-is ∙ ap (λ (x : Bool). after_cut args at rest t s number n (record w { sized = x })) (sym b.if-sized-2.false)

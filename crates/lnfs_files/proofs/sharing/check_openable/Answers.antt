@@ -1,21 +1,17 @@
-use Rattle.std.proofs.Common.{refl, ap, sym, ◌∙◌, ℕ, None, []}
-use Rattle.std.specs.Prelude.{cond}
+use Rattle.std.proofs.Common.{refl, ap, sym, ◌∙◌, None, []}
 use Rattle.lnfs_world.specs.World.{Node, World}
-use Rattle.lnfs_world.specs.Outcome.{Place, Outcome, begins_at}
+use Rattle.lnfs_world.specs.Outcome.{Place, begins_at}
 use Rattle.lnfs_site.specs.Site.{site_of}
-use Rattle.lnfs_monitor.specs.Rules.{Write}
 use Rattle.lnfs_operations.specs.declared.Refusal.{Refusal}
-use Rattle.lnfs_operations.specs.Chain.{Answer, refuse}
+use Rattle.lnfs_operations.specs.Chain.{refuse}
 use Rattle.lnfs_operations.specs.Create.{new_inner}
-use Rattle.lnfs_operations.specs.Open.{Arguments, Opened, where_shared}
+use Rattle.lnfs_operations.specs.Open.{Arguments, Opened}
 use Rattle.lnfs_tree.specs.Rows.{kind_of}
-use Rattle.lnfs_nodes.specs.Trees.{denial}
 use Rattle.lnfs_nodes.specs.Acts.{placed}
 use Rattle.lnfs_nodes.proofs.Peeling.{err_checked}
-use Rattle.lnfs_nodes.proofs.Refusing.{asked, asked_denied}
 use Rattle.lnfs_files.specs.Worlds.{with_files}
 use Rattle.lnfs_files.specs.Openings.{args_of}
-use Rattle.lnfs_files.proofs.Openable.{file_off, is_file, undenied, asks, there, to_shares, not_there, in_way, out_of_way}
+use Rattle.lnfs_files.proofs.Openable.{file_off, is_file, asks, there, to_shares, is_denied, to_undenied, not_there, in_way, out_of_way}
 use Rattle.lnfs_files.proofs.sharing.check_openable.Goals as goal
 
 pub returns-in_err-check_file-clause-checked : goal.returns-in_err-check_file-clause-checked
@@ -38,10 +34,8 @@ returns-in_err-check_shared-clause-checked c = λ p rest t n next holds.
     let site = site_of c.args.site.now in
     let args : Arguments = args_of c.args.args.now in
     let w : World = with_files rest t c.args.opens.now in
-    let behind : Outcome (Answer Opened) = asks site args at w c.args.client.number c.args.sized n next in
-    to_shares site args at w c.args.client.number c.args.sized n next (c.in_ok-check_file.ensures at n holds.tells.kind) (sym (c.may_be_there.ensures n holds.tells.verifier) ∙ c.if-not-may_be_there.false)
-    ∙ ap (λ (l : ℕ). where_shared site at args l behind) (sym holds.tells.label)
-    ∙ c.in_err-check_shared.ensures at behind
+    to_shares site args at w c.args.client.number c.args.sized n next _ holds.tells.label (c.in_ok-check_file.ensures at n holds.tells.kind) (sym (c.may_be_there.ensures n holds.tells.verifier) ∙ c.if-not-may_be_there.false)
+    ∙ c.in_err-check_shared.ensures at (asks site args at w c.args.client.number c.args.sized n next)
     ∙ sym (err_checked at c.from_residual-in_err-check_shared.result (λ it. next) why c.from_residual-in_err-check_shared.ensures.1)
 
 pub returns-in_err-check_asked-clause-checked : goal.returns-in_err-check_asked-clause-checked
@@ -51,11 +45,7 @@ returns-in_err-check_asked-clause-checked c = λ p rest t n next holds.
     let site = site_of c.args.site.now in
     let args : Arguments = args_of c.args.args.now in
     let w : World = with_files rest t c.args.opens.now in
-    let behind : Outcome (Answer Opened) = asks site args at w c.args.client.number c.args.sized n next in
-    to_shares site args at w c.args.client.number c.args.sized n next (c.in_ok-check_file.ensures at n holds.tells.kind) (sym (c.may_be_there.ensures n holds.tells.verifier) ∙ c.if-not-may_be_there.false)
-    ∙ ap (λ (l : ℕ). where_shared site at args l behind) (sym holds.tells.label)
-    ∙ c.in_ok-check_shared.ensures at behind
-    ∙ asked_denied c.args.sized site at (Write n.label) (undenied site args at w c.args.client.number c.args.sized n next) why (c.in_err-check_asked.ensures ∙ ap (λ (l : ℕ). cond c.args.sized (denial site at.subject (Write l)) None) holds.tells.label)
+    is_denied site args at w c.args.client.number c.args.sized n next _ holds.tells.label (c.in_ok-check_file.ensures at n holds.tells.kind) (sym (c.may_be_there.ensures n holds.tells.verifier) ∙ c.if-not-may_be_there.false) (c.in_ok-check_shared.ensures at) why c.in_err-check_asked.ensures
     ∙ sym (err_checked at c.from_residual-in_err-check_asked.result (λ it. next) why c.from_residual-in_err-check_asked.ensures.1)
 
 pub returns-then-has_conflict-clause-checked : goal.returns-then-has_conflict-clause-checked
@@ -64,11 +54,7 @@ returns-then-has_conflict-clause-checked c = λ p rest t n next holds.
     let site = site_of c.args.site.now in
     let args : Arguments = args_of c.args.args.now in
     let w : World = with_files rest t c.args.opens.now in
-    let behind : Outcome (Answer Opened) = asks site args at w c.args.client.number c.args.sized n next in
-    to_shares site args at w c.args.client.number c.args.sized n next (c.in_ok-check_file.ensures at n holds.tells.kind) (sym (c.may_be_there.ensures n holds.tells.verifier) ∙ c.if-not-may_be_there.false)
-    ∙ ap (λ (l : ℕ). where_shared site at args l behind) (sym holds.tells.label)
-    ∙ c.in_ok-check_shared.ensures at behind
-    ∙ asked c.args.sized site at (Write n.label) (undenied site args at w c.args.client.number c.args.sized n next) (c.in_ok-check_asked.ensures ∙ ap (λ (l : ℕ). cond c.args.sized (denial site at.subject (Write l)) None) holds.tells.label)
+    to_undenied site args at w c.args.client.number c.args.sized n next _ holds.tells.label (c.in_ok-check_file.ensures at n holds.tells.kind) (sym (c.may_be_there.ensures n holds.tells.verifier) ∙ c.if-not-may_be_there.false) (c.in_ok-check_shared.ensures at) c.in_ok-check_asked.ensures
     ∙ in_way site args at w c.args.client.number c.args.sized n next (sym (c.has_conflict.ensures p rest t n c.requires.level holds.id) ∙ c.if-has_conflict.true)
 
 pub returns-clause-file : goal.returns-clause-file
@@ -83,9 +69,5 @@ returns-clause-checked c = λ p rest t n next holds.
     let site = site_of c.args.site.now in
     let args : Arguments = args_of c.args.args.now in
     let w : World = with_files rest t c.args.opens.now in
-    let behind : Outcome (Answer Opened) = asks site args at w c.args.client.number c.args.sized n next in
-    to_shares site args at w c.args.client.number c.args.sized n next (c.in_ok-check_file.ensures at n holds.tells.kind) (sym (c.may_be_there.ensures n holds.tells.verifier) ∙ c.if-not-may_be_there.false)
-    ∙ ap (λ (l : ℕ). where_shared site at args l behind) (sym holds.tells.label)
-    ∙ c.in_ok-check_shared.ensures at behind
-    ∙ asked c.args.sized site at (Write n.label) (undenied site args at w c.args.client.number c.args.sized n next) (c.in_ok-check_asked.ensures ∙ ap (λ (l : ℕ). cond c.args.sized (denial site at.subject (Write l)) None) holds.tells.label)
+    to_undenied site args at w c.args.client.number c.args.sized n next _ holds.tells.label (c.in_ok-check_file.ensures at n holds.tells.kind) (sym (c.may_be_there.ensures n holds.tells.verifier) ∙ c.if-not-may_be_there.false) (c.in_ok-check_shared.ensures at) c.in_ok-check_asked.ensures
     ∙ out_of_way site args at w c.args.client.number c.args.sized n next (sym (c.has_conflict.ensures p rest t n c.requires.level holds.id) ∙ c.if-has_conflict.false)

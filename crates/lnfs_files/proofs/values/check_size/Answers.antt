@@ -16,11 +16,9 @@ use Rattle.lnfs_files.proofs.values.check_size.Goals as goal
 
 pub byte_room-requires : goal.byte_room-requires
 byte_room-requires c =
-    let rows = c.args.quota.now in
     let t = c.args.tree.now in
     let h = c.args.held.now in
-    let x = is_there t _ h c.requires.held in
-    record { held = is_counted rows t x.0 h h.facts.size x.1 (held_bytes t x.0 h x.1 c.requires.file) (c.totals.ensures.held_bytes rows t.nodes x.0.id x.0 c.requires.counts x.1.node_is) }
+    record { held = is_counted c.args.quota.now t h _ (is_there t _ h c.requires.held) (λ n holds. held_bytes t n h holds c.requires.file) c.requires.counts (c.totals.ensures.held_bytes c.args.quota.now t.nodes) }
 
 pub returns-in-Err-clause-refused : goal.returns-in-Err-clause-refused
 returns-in-Err-clause-refused c = λ n p rest client holds.

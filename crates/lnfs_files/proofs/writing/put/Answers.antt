@@ -29,12 +29,10 @@ unreachable-requires c =
 
 pub byte_room-requires : goal.byte_room-requires
 byte_room-requires c =
-    let rows = c.args.quota.now in
     let t = c.args.tree.now in
     let h = c.args.held.now in
-    let x = is_there t _ h c.requires.held in
-    let is = file_is t x.0 h c.in-Ok.file.now x.1 c.in-Ok.ensures in
-    record { held = is_counted rows t x.0 h _ x.1 (file_bytes x.0 c.in-Ok.file.now is ∙ sym c.len-old.ensures.value) (c.totals.ensures.held_bytes rows t.nodes x.0.id x.0 c.requires.counts x.1.node_is) }
+    let old = c.in-Ok.file.now in
+    record { held = is_counted c.args.quota.now t h _ (is_there t _ h c.requires.held) (λ n holds. file_bytes n old (file_is t n h old holds c.in-Ok.ensures) ∙ sym c.len-old.ensures.value) c.requires.counts (c.totals.ensures.held_bytes c.args.quota.now t.nodes) }
 
 pub returns-then-not-branch-clause-acts : goal.returns-then-not-branch-clause-acts
 returns-then-not-branch-clause-acts c = λ n p rest opens id stable holds.

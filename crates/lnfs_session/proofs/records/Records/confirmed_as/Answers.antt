@@ -1,5 +1,4 @@
-use Rattle.std.proofs.Common.{◌≡◌, true, false, Some, None, cond, find, map, ap, sym, ◌∙◌, arith}
-use Rattle.std.specs.Str.{bytes_eq}
+use Rattle.std.proofs.Common.{◌≡◌, true, false, Some, None, find, map, ap, sym, ◌∙◌, arith}
 use Rattle.lnfs_world.specs.World.{Client}
 use Rattle.lnfs_operations.specs.ExchangeId.{is_confirmed_as}
 use Rattle.lnfs_session.specs.declared.levels.OwnerNumbers.{OwnerNumbers}
@@ -29,9 +28,7 @@ returns-then-ne c =
     let levels = c.self.inside.levels in
     let row : Client = client_of (record { level = c.args.level; number = c.in-Some.number }, c.in-Some-client_at.client.now) in
     let known = ap (λ (n : OwnerNumbers). n.confirmed) (sym c.numbers_at.ensures) ∙ c.in-Some.is in
-    let differs : bytes_eq row.verifier c.args.verifier ≡ false = grind arith in
-    ap (λ b. cond b (Some row) None) (sym differs)
-    ∙ sym (find-verified (map client_of c.self.inside.rows.entries) (lasts_of levels.entries) (last_at levels) (records_at levels) (numbers_at levels) c.self.invariant c.args.level c.args.owner.now c.args.verifier c.in-Some.number known row (sym c.in-Some-client_at.ensures))
+    find-verified (map client_of c.self.inside.rows.entries) (lasts_of levels.entries) (last_at levels) (records_at levels) (numbers_at levels) c.self.invariant c.args.level c.args.owner.now c.args.verifier c.in-Some.number known row c.in-Some-client_at.ensures false (grind arith)
     ∙ ap (λ (lists : ClientLists). find (is_confirmed_as c.args.level c.args.owner.now c.args.verifier) lists.clients) c.self.view_is
 
 pub returns : goal.returns
@@ -39,7 +36,5 @@ returns c =
     let levels = c.self.inside.levels in
     let row : Client = client_of (record { level = c.args.level; number = c.in-Some.number }, c.in-Some-client_at.client.now) in
     let known = ap (λ (n : OwnerNumbers). n.confirmed) (sym c.numbers_at.ensures) ∙ c.in-Some.is in
-    let same : bytes_eq row.verifier c.args.verifier ≡ true = grind arith in
-    ap (λ b. cond b (Some row) None) (sym same)
-    ∙ sym (find-verified (map client_of c.self.inside.rows.entries) (lasts_of levels.entries) (last_at levels) (records_at levels) (numbers_at levels) c.self.invariant c.args.level c.args.owner.now c.args.verifier c.in-Some.number known row (sym c.in-Some-client_at.ensures))
+    find-verified (map client_of c.self.inside.rows.entries) (lasts_of levels.entries) (last_at levels) (records_at levels) (numbers_at levels) c.self.invariant c.args.level c.args.owner.now c.args.verifier c.in-Some.number known row c.in-Some-client_at.ensures true (grind arith)
     ∙ ap (λ (lists : ClientLists). find (is_confirmed_as c.args.level c.args.owner.now c.args.verifier) lists.clients) c.self.view_is
