@@ -26,6 +26,7 @@ use lnfs_format::Codecs;
 use lnfs_gss3::numbers::RPCSEC_GSS_CTXPROBLEM;
 use lnfs_gss3::{ContextError, ContextHandle, Mechanism, put_create_results};
 use lnfs_lists::Octets;
+use lnfs_operations::numbers::MOST_SIZE;
 use lnfs_outside::Event;
 use lnfs_site::Site;
 use lnfs_step::numbers::{GARBAGE_ARGS, SYSTEM_ERR};
@@ -96,7 +97,8 @@ fn run<X: Extra, M: Mechanism>(
 {
     site.policy().is_preordered();
     let size = arrival.event.message.len() as u32;
-    let room = room_of(&run.compound, &engine.extra);
+    // no session grants a longer response, whatever the operations could answer
+    let room = room_of(&run.compound, &engine.extra).min(MOST_SIZE as usize);
     let out = begin_results(alloc, mechanism, &call.wrapping, call.xid, room)?;
     let ran = engine.run(
         site,
