@@ -2,10 +2,11 @@
 use Rattle.std.proofs.Common.{◌≡◌, ◌+◌, ℕ, Bool, true, not, ◌&&◌, List, [], ◌∷◌, ◌++◌, refl, subst, inl, inr}
 use Rattle.std.specs.Prelude.{Result, Ok, Err}
 use Rattle.std.proofs.lemmas.Bool.{cases_Bool}
-use Rattle.lnfs_words.specs.Words.{is_empty, words, is_ascii, is_worded}
+use Rattle.lnfs_words.specs.Words.{is_empty, split, newline, words, is_ascii, is_worded}
 use Rattle.lnfs_policy.specs.Line.{◌>>=◌, demand, Line, line_of, in_order, cause_of}
 use Rattle.lnfs_policy.specs.Fits.{fits}
-use Rattle.lnfs_policy.specs.PolicyText.{version_in_place, said_after, lines_after, is_skipped, is_complete, Refused, told_at, is_end, lines_from}
+use Rattle.lnfs_policy.specs.Policy.{Policy, policy_in}
+use Rattle.lnfs_policy.specs.PolicyText.{version_in_place, said_after, lines_after, is_skipped, is_complete, Refused, told_at, is_end, lines_from, canonical, policy_from, policy_of}
 use Rattle.lnfs_policy.specs.declared.cause.Cause.{Cause}
 use Rattle.lnfs_policy.specs.declared.cause.Cause.TheVariants as because
 use Rattle.lnfs_policy.proofs.Outcomes.{ended, went, same_ok, not_ok}
@@ -64,3 +65,12 @@ module _ (Q : List Line → Type 0) (step : (ls : List Line) (ws : List (List �
           → told_at n r (λ lines. lines_from (n + 1) lines others) ≡ ended Refused lines → Q lines
       next rest (Ok new) h d = rest new (more ls new (not (is_empty others)) text q h) d
       next rest (Err cause) h d = absurd (not_ok _ lines d)
+
+  -- the lines of a policy
+  pub lines_of : (text : List ℕ) (p : Policy) → Q [] → policy_of text ≡ Ok p → (ls : List Line) × Q ls × (policy_in (canonical text) ls ≡ p)
+  unfolding policy_of
+  lines_of text p q e = of (lines_from 1 [] (split newline text)) refl e
+    where
+      of : (r : Result (List Line) Refused) → lines_from 1 [] (split newline text) ≡ r → policy_from (canonical text) r ≡ Ok p → (ls : List Line) × Q ls × (policy_in (canonical text) ls ≡ p)
+      of (Ok ls) h f = (ls, kept_by 1 [] ls (split newline text) q h, cc)
+      of (Err refused) h f = absurd (not_ok refused p f)

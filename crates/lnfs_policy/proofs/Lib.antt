@@ -1,4 +1,5 @@
 pub mod Again
+pub mod DirLines
 pub mod Full
 pub mod Kept
 pub mod Names

@@ -1,12 +1,13 @@
--- The labels of a policy are labels, and its formats are formats.
+-- The labels of a policy are labels, its formats are formats, and dominance of its levels is a preorder.
 use Rattle.std.proofs.Common.{◌≡◌, ◌<◌, ◌≤◌, ◌+◌, ◌^◌, ◌==◌, ℕ, zero, suc, Bool, true, false, not, ◌&&◌, List, [], ◌∷◌, ◌++◌, length, map, filter, nat_le, refl, sym, ap, subst, ◌∙◌, inl, inr, arith}
-use Rattle.std.specs.Prelude.{Result, Ok, Err, Option, Some, None, option_map, All, find, codes}
+use Rattle.std.specs.Prelude.{Ok, Option, Some, None, option_map, All, find, codes}
 use Rattle.std.specs.List.{list_any, filter_map, range_with_len}
 use Rattle.std.proofs.lemmas.Bool.{cases_Bool, and_parts, ltb-true, leb-true, not-true}
 use Rattle.std.proofs.lemmas.List.{length_push}
 use Rattle.std.proofs.lemmas.List.Elements.{All-push, All-nil, All-head, All-tail}
 use Rattle.lnfs_calipso.specs.Levels.{AreFirstLevels}
-use Rattle.lnfs_calipso.specs.Label.{Label, IsLabel, has_comp, compartments, numbers_below}
+use Rattle.lnfs_calipso.specs.Label.{Label, IsLabel, IsPreorderWithBottom, has_comp, compartments, numbers_below, dom_of}
+use Rattle.lnfs_calipso.proofs.Lattices.{preorder_of}
 use Rattle.lnfs_format.specs.Reading.{bare, reads_comps}
 use Rattle.lnfs_format.specs.Laws.{IsFormat, IsComps}
 use Rattle.lnfs_format.specs.Entries.{is_pair, pair_of}
@@ -14,21 +15,19 @@ use Rattle.lnfs_format.specs.Site.{AreFormats}
 use Rattle.lnfs_format.specs.declared.formats.TheConstants.{MAX_SPELLING}
 use Rattle.lnfs_format.specs.declared.formats.FormatEntry.{FormatEntry}
 use Rattle.std.specs.Str.{bytes_eq}
-use Rattle.lnfs_words.specs.Words.{split, newline}
 use Rattle.lnfs_words.specs.Hex.{lower_hex_of}
 use Rattle.lnfs_policy.specs.Line.{Line, level_line, format_line, name_line, line_of}
 use Rattle.lnfs_policy.specs.Rows.{label_of, label_in, spelling_of, format_in, name_in, labels_of, rows_of, names_of, kind_of, entry_in, entries_of, formats_of}
 use Rattle.lnfs_policy.specs.Fits.{fits, is_next, level_fits, name_fits, clashes, is_known, is_table}
-use Rattle.lnfs_policy.specs.Policy.{Policy, policy_in}
-use Rattle.lnfs_policy.specs.PolicyText.{Refused, lines_from, policy_from, policy_of, canonical}
+use Rattle.lnfs_policy.specs.Policy.{Policy, dominance}
+use Rattle.lnfs_policy.specs.PolicyText.{policy_of}
 use Rattle.lnfs_policy.specs.declared.rows.Spelling.{Spelling}
 use Rattle.lnfs_policy.specs.declared.rows.Spelling.TheVariants as spelling
 use Rattle.lnfs_policy.specs.declared.rows.FormatRow.{FormatRow}
 use Rattle.lnfs_policy.specs.declared.rows.LevelName.{LevelName}
 use Rattle.lnfs_words.proofs.Decimals.{same_some}
-use Rattle.lnfs_policy.proofs.Kept.{kept_by}
+use Rattle.lnfs_policy.proofs.Kept.{lines_of}
 use Rattle.lnfs_policy.proofs.Names.{Distinct, distinct_push, table}
-use Rattle.lnfs_policy.proofs.Outcomes.{not_ok}
 use Rattle.lnfs_policy.proofs.Sound.{next_sound}
 use Rattle.lnfs_policy.proofs.Tables.{and_some, one_more}
 
@@ -197,15 +196,18 @@ unfolding entries_of
 formats_are ls good lfs pi entry e = found_is (labels_of ls) (names_of ls) lfs pi entry good.sound good.names good.known (rows_of ls) good.rows e
 
 pub site : IsReader → ((words : List (List ℕ)) (line : Line) → line_of words ≡ Ok line → HasBounds line) → (text : List ℕ) (p : Policy) → policy_of text ≡ Ok p → All IsLabel p.labels × AreFormats p.formats
-unfolding policy_of
-site reader bounded text p e = of (lines_from 1 [] (split newline text)) refl e
-  where
-    both : (ls : List Line) → IsGood ls → All IsLabel (labels_of ls) × AreFormats (formats_of ls)
-    both ls good = (good.labels, formats_are ls good)
+site reader bounded text p e =
+    let lines = lines_of IsGood (λ ls ws line q w t. good_more reader ls line q (bounded ws line w) t) text p nothing_yet e in
+    let good : IsGood lines.0 = lines.1 in
+    subst (λ (x : Policy). All IsLabel x.labels × AreFormats x.formats) lines.2 (good.labels, formats_are lines.0 good)
 
-    of : (r : Result (List Line) Refused) → lines_from 1 [] (split newline text) ≡ r → policy_from (canonical text) r ≡ Ok p → All IsLabel p.labels × AreFormats p.formats
-    of (Ok ls) h f =
-        let is : policy_in (canonical text) ls ≡ p = cc in
-        let good = kept_by IsGood (λ ls ws line q w t. good_more reader ls line q (bounded ws line w) t) 1 [] ls (split newline text) nothing_yet h in
-        subst (λ (x : Policy). All IsLabel x.labels × AreFormats x.formats) is (both ls good)
-    of (Err refused) h f = absurd (not_ok refused p f)
+-- ---- dominance
+
+preordered_of : (labels : List Label) → AreFirstLevels labels → IsPreorderWithBottom (dom_of labels)
+preordered_of [] are = record { reflexive = λ a. refl; transitive = λ a b c ab bc. refl; bottom = λ a. refl }
+preordered_of (label ∷ labels) are = preorder_of (label ∷ labels) (record { some = omega arith; first = are })
+
+pub preordered : (text : List ℕ) (p : Policy) → policy_of text ≡ Ok p → IsPreorderWithBottom (dominance p)
+preordered text p e =
+    let lines = lines_of (λ ls. AreFirstLevels (labels_of ls)) (λ ls ws line s w t. sound_more ls line (label_in line) refl s (λ a e. next_of ls line a t e)) text p nothing_yet.sound e in
+    subst (λ (x : Policy). IsPreorderWithBottom (dominance x)) lines.2 (preordered_of (labels_of lines.0) lines.1)

@@ -11,7 +11,7 @@ use Rattle.lnfs_calipso.specs.declared.lattice.TheConstants.{MAX_LEVELS}
 use Rattle.lnfs_policy.specs.Fits.{is_next}
 
 -- an earlier level keeps its label
-label_kept : (labels : List Label) (label : Label) (a : ℕ) → a < length labels → label_at (labels ++ label ∷ []) a ≡ label_at labels a
+pub label_kept : (labels : List Label) (label : Label) (a : ℕ) → a < length labels → label_at (labels ++ label ∷ []) a ≡ label_at labels a
 label_kept labels label a lt = get_or_append_left labels (label ∷ []) _ a lt ∙ get_or_default labels a _ _ lt
 
 -- the next level has the label

@@ -1,3 +1,4 @@
 pub mod FirstWorlds
+pub mod FirstLines
 pub mod Spelled
 pub mod Readings

@@ -4,6 +4,7 @@
 mod example;
 mod first;
 mod labels;
+mod laws;
 mod reading;
 mod site;
 mod table;
@@ -11,5 +12,6 @@ mod table;
 pub use example::first_world_of_four_lines;
 pub use first::{first_dirs, first_tree, root_label};
 pub use labels::Labels;
+pub use laws::first_world_of_every_policy;
 pub use reading::LabelRead;
 pub use site::Site;

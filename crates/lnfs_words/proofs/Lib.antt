@@ -1,4 +1,5 @@
 pub mod Decimals
 pub mod Digits
 pub mod Fronts
+pub mod PathParts
 pub mod Splits

@@ -54,7 +54,7 @@ module _ (dom : ℕ → ℕ → Bool) (lattice : IsPreorderWithBottom dom) (stor
     held = λ i l is. let only = only_root _ stored i l is in ap (λ b. b || false) ((λ k. only.1 k == (only.0 k).level) ∙ refl);
   }
 
-  root_facts : Facts dom (root_world stored)
+  pub root_facts : Facts dom (root_world stored)
   root_facts = record {
     clients = record { rise = tt; lasts_rise = tt; given = tt; rivals = tt };
     sessions = record { rise = tt; lasts_rise = tt; given = tt; behind = tt };

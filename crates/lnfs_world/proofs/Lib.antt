@@ -28,3 +28,4 @@ pub mod Places
 pub mod Alone
 pub mod WholeWalks
 pub mod FirstTrees
+pub mod FirstDirs

@@ -64,15 +64,19 @@ module _ (dom : ℕ → ℕ → Bool) (s : ℕ) (w : World) (facts : Facts dom w
           )
 
 -- a node comes into a directory under a new name
-pub made_within : (dom : ℕ → ℕ → Bool) (s : ℕ) (w : World) (facts : Facts dom w) (d n : Node) (name : List ℕ) (moment : Moment) → node_at w.nodes d.id ≡ Some d → is_directory d.kind ≡ true → d.label ≡ s → n.id ≡ next_id w.lasts.nodes s → dom n.label s ≡ true → entry_at w.entries d.id name ≡ None →
-    all_within dom s w (Touch d.id (name_added moment d.inner) ∷ Make n (next_entry d name n.id) ∷ []) ≡ true
-made_within dom s w facts d n name moment found directory own id rises new =
+pub added_within : (dom : ℕ → ℕ → Bool) (s : ℕ) (w : World) (facts : Facts dom w) (d n : Node) (name : List ℕ) (inner : Inner) → inner.cookies ≡ d.inner.cookies + 1 → node_at w.nodes d.id ≡ Some d → is_directory d.kind ≡ true → d.label ≡ s → n.id ≡ next_id w.lasts.nodes s → dom n.label s ≡ true → entry_at w.entries d.id name ≡ None →
+    all_within dom s w (Touch d.id inner ∷ Make n (next_entry d name n.id) ∷ []) ≡ true
+added_within dom s w facts d n name inner more found directory own id rises new =
     let label = label_of-found d.id w.nodes d found in
     let cookies : cookies_at w.nodes d.id ≡ Some d.inner.cookies = ap (option_map (λ m. m.inner.cookies)) found in
-    let adds = next_added dom s w facts d found own (name_added moment d.inner) refl name n.id directory new in
+    let adds = next_added dom s w facts d found own inner more name n.id directory new in
     let next : is_new s w.lasts.nodes n.id ≡ true = grind (arith, nat_tests, id) in
-    let touch : is_within dom s w (Touch d.id (name_added moment d.inner)) ≡ true = grind (arith, nat_tests, own, label, cookies) in
+    let touch : is_within dom s w (Touch d.id inner) ≡ true = grind (arith, nat_tests, own, more, label, cookies) in
     λ k. touch k && ((next k && (rises k && (id_itself n.id k && adds k))) && true)
+
+pub made_within : (dom : ℕ → ℕ → Bool) (s : ℕ) (w : World) (facts : Facts dom w) (d n : Node) (name : List ℕ) (moment : Moment) → node_at w.nodes d.id ≡ Some d → is_directory d.kind ≡ true → d.label ≡ s → n.id ≡ next_id w.lasts.nodes s → dom n.label s ≡ true → entry_at w.entries d.id name ≡ None →
+    all_within dom s w (Touch d.id (name_added moment d.inner) ∷ Make n (next_entry d name n.id) ∷ []) ≡ true
+made_within dom s w facts d n name moment found directory own id rises new = added_within dom s w facts d n name (name_added moment d.inner) refl found directory own id rises new
 
 -- a number that wasn't given yet is of no node
 pub next_absent : (dom : ℕ → ℕ → Bool) (nodes : List Node) (entries : List Entry) (lasts : List Id) → NodeFacts dom nodes entries lasts → (level : ℕ) → node_at nodes (next_id lasts level) ≡ None

@@ -1,6 +1,6 @@
 -- The first world of a site: the root, and the directories that stand from the beginning, each behind its parent.
-use Rattle.std.specs.Prelude.{ℕ, ◌+◌, Bool, cond, List, [], ◌∷◌, Option, Some, None, option_and_then}
-use Rattle.std.specs.List.{fold}
+use Rattle.std.specs.Prelude.{◌≡◌, ◌==◌, ◌||◌, ℕ, ◌+◌, Bool, true, false, not, cond, nat_lt, List, [], ◌∷◌, Option, Some, None, option_and_then}
+use Rattle.std.specs.List.{fold, AllByRecursion}
 use Rattle.lnfs_words.specs.Words.{split, slash}
 use Rattle.lnfs_world.specs.declared.numbers.TheConstants.{FIRST_MODE, FIRST_COOKIE}
 use Rattle.lnfs_world.specs.World.{Id, Stored, Inner, Node, Directory, Entry, World, node_at, last_of}
@@ -84,3 +84,40 @@ with_dir dom w dir = made_at dom w dir (below_root w.entries (split slash dir.pa
 -- the root with its stored label, and each directory in turn
 unfoldable pub first_tree : (ℕ → ℕ → Bool) → Option Stored → List FirstDir → World
 first_tree dom stored dirs = fold (with_dir dom) (root_world stored) dirs
+
+-- ---- what stands then
+
+-- the node that names lead to from a directory, each of them in the directory that those before it lead to
+abbrev pub walk : List Entry → Id → List (List ℕ) → Option Id
+walk entries i [] = Some i
+walk entries i (name ∷ names) = option_and_then (λ e. walk entries e.node names) (entry_at entries i name)
+
+abbrev pub walk_below : List Entry → List (List ℕ) → Option Id
+walk_below entries [] = None
+walk_below entries (front ∷ names) = walk entries root names
+
+-- the node that a path leads to; the path without bytes leads to the root
+abbrev pub id_at : World → (path : List ℕ) → Option Id
+id_at w path = walk_below w.entries (split slash path)
+
+-- The path leads to a directory of the level, with the label as it is stored.
+pub record HasDirectory (w : World) (dir : FirstDir) : Type 0 where
+  pub node : Node
+  pub leads : option_and_then (node_at w.nodes) (id_at w dir.path) ≡ Some node
+  pub kind : node.kind ≡ Directory
+  pub level : node.label ≡ dir.level
+  pub stored : node.inner.stored ≡ dir.stored
+
+-- Two nodes are there. They have two homes, or the first has the lower number.
+abbrev pub is_before : Option Id → Option Id → Bool
+is_before (Some a) (Some b) = not (a.level == b.level) || nat_lt a.number b.number
+is_before _ _ = false
+
+-- numbers are given in the order of the paths
+abbrev pub InOrder : World → (paths : List (List ℕ)) → Type 0
+InOrder w [] = Unit {0}
+InOrder w (path ∷ paths) = AllByRecursion (λ later. is_before (id_at w path) (id_at w later) ≡ true) paths × InOrder w paths
+
+-- the root as a directory that is to stand
+abbrev pub root_dir : Option Stored → FirstDir
+root_dir stored = record { path = []; level = 0; stored = stored }
