@@ -47,4 +47,5 @@ pub mod SizeChanges
 pub mod Rooms
 pub mod Bounded
 pub mod SizeLaws
+pub mod AcceptedLaws
 pub mod LabelLaws

@@ -163,9 +163,9 @@ under_again bytes before after x y was now = at (bytes_eq (drop 12 bytes) (0 ∷
     at false e = absurd (grind arith)
 
 -- the same slot is named by the same arguments, with what is kept in it
-named_again : (level : ℕ) (w v : World) (args : Sequence) (sent again : Sent) (x : Session) (slot : SlotRow) (kept : Stored) → Names level w args sent x slot → again.size ≤ x.channel.max_request → again.count ≤ x.channel.max_operations →
+named_again : (level : ℕ) (w v : World) (args : Sequence) (sent again : Sent) (x : Session) (slot : SlotRow) (kept : Stored) → Names level w args sent x slot → again.size ≤ x.channel.max_request →
     v.sessions ≡ inserted session_order (keeping x args.slot args.sequence kept) w.sessions → Names level v args again (keeping x args.slot args.sequence kept) (record { sequence = args.sequence; kept = Some kept })
-named_again level w v args sent again x slot kept names size count sessions =
+named_again level w v args sent again x slot kept names size sessions =
     let y : Session = keeping x args.slot args.sequence kept in
     let id : x.id ≡ session_named args.session = session_at-id (session_named args.session) w.sessions x (session_under-at args.session w.sessions x names.session) in
     let there : session_at v.sessions x.id ≡ Some y = ap (λ xs. session_at xs x.id) sessions ∙ session_at-inserted y w.sessions x.id ∙ ap (λ b. cond b (Some y) (session_at w.sessions x.id)) (id_itself x.id) in
@@ -173,7 +173,6 @@ named_again level w v args sent again x slot kept names size count sessions =
       own = names.own;
       session = under_again args.session w.sessions v.sessions x y names.session (ap (session_at v.sessions) (sym id) ∙ there);
       size = size;
-      count = count;
       slot = slot_set args.slot (record { sequence = args.sequence; kept = Some kept }) x.slots slot names.slot;
     }
 
@@ -181,24 +180,24 @@ named_again level w v args sent again x slot kept names size count sessions =
 
 module _ (X : Extra) (owed : AreLawful X) (site : Site) (lattice : IsPreorderWithBottom site.dom) (sent : Sent) (c : Compound) where
   -- a new COMPOUND on the slot that it names: its operations stand in the session
-  pub new_begins : (level : ℕ) (moment : Moment) (b : Both X.Row) (args : Sequence) (x : Session) (slot : SlotRow) → BothStand X.Fact site.dom (begins_at level moment) b → Names level b.world args sent x slot → args.sequence ≡ next_sequence slot.sequence →
+  pub new_begins : (level : ℕ) (moment : Moment) (b : Both X.Row) (args : Sequence) (x : Session) (slot : SlotRow) → BothStand X.Fact site.dom (begins_at level moment) b → Names level b.world args sent x slot → sent.count ≤ x.channel.max_operations → args.sequence ≡ next_sequence slot.sequence →
       (sequence args sent (begins_at level moment) b.world ≡ done (in_session (begins_at level moment) x) (New x) []) × BothStand X.Fact site.dom (in_session (begins_at level moment) x) b
-  new_begins level moment b args x slot stands names next =
+  new_begins level moment b args x slot stands names few next =
       let p = begins_at level moment in
       let law = operation_lawful X owed site lattice sent c [] (ops.Sequence args) in
-      let done_new : sequence args sent p b.world ≡ done (in_session p x) (New x) [] = on_named level moment b.world args sent x slot names ∙ slot_new p args sent x slot next in
+      let done_new : sequence args sent p b.world ≡ done (in_session p x) (New x) [] = on_named level moment b.world args sent x slot names few ∙ slot_new p args sent x slot next in
       let turned : (operation X site sent c [] (ops.Sequence args) p b).place ≡ in_session p x = ap (λ (o : Outcome (Answered Sequenced)). o.place) done_new in
       let stayed : (operation X site sent c [] (ops.Sequence args) p b).state ≡ b = ap (λ (o : Outcome (Answered Sequenced)). both (done_to b.world o) b.own) done_new in
       (done_new, subst (λ q. BothStand X.Fact site.dom q b) turned (subst (BothStand X.Fact site.dom (operation X site sent c [] (ops.Sequence args) p b).place) stayed (law.stands p b stands)))
 
   pub acts_once : (level : ℕ) (moment later : Moment) (b : Both X.Row) (args : Sequence) (rest : List Op) (x : Session) (slot : SlotRow) (again : Sent) → BothStand X.Fact site.dom (begins_at level moment) b → c.minor ≡ 2 → c.ops ≡ ops.Sequence args ∷ rest →
-      Names level b.world args sent x slot → args.sequence ≡ next_sequence slot.sequence → again.arguments ≡ sent.arguments → again.size ≤ x.channel.max_request → again.count ≤ x.channel.max_operations →
+      Names level b.world args sent x slot → sent.count ≤ x.channel.max_operations → args.sequence ≡ next_sequence slot.sequence → again.arguments ≡ sent.arguments → again.size ≤ x.channel.max_request → again.count ≤ x.channel.max_operations →
       served X site again c (begins_at level later) (served X site sent c (begins_at level moment) b).state
       ≡ record { answer = record { result = (served X site sent c (begins_at level moment) b).answer.result; denial = None }; place = begins_at level later; state = (served X site sent c (begins_at level moment) b).state }
   unfolding served begun
-  acts_once level moment later b args rest x slot again stands minor is names next same size count =
+  acts_once level moment later b args rest x slot again stands minor is names few next same size count =
       let p = begins_at level moment in
-      let started = new_begins level moment b args x slot stands names next in
+      let started = new_begins level moment b args x slot stands names few next in
       let done_new = started.0 in
       let inside = started.1 in
       let o : Outcome (Answered Sequenced) = done (in_session p x) (New x) [] in
@@ -213,7 +212,7 @@ module _ (X : Extra) (owed : AreLawful X) (site : Site) (lattice : IsPreorderWit
       let kept : Stored = record { arguments = sent.arguments; reply = (kept_after sent c r).answer.result } in
       let sessions = kept_sessions r.place r.state.world level x args.slot args.sequence kept behind.1 subject own (ap (λ xs. session_at xs x.id) behind.0 ∙ there)
       ∙ ap (inserted session_order (keeping x args.slot args.sequence kept)) behind.0 in
-      let named = named_again level b.world (kept_after sent c r).state.world args sent again x slot kept names size count sessions in
+      let named = named_again level b.world (kept_after sent c r).state.world args sent again x slot kept names size sessions in
       let slot_now : record { sequence = args.sequence; kept = Some kept } ≡ record { sequence = args.sequence; kept = Some (record { arguments = again.arguments; reply = (kept_after sent c r).answer.result }) } = (λ i. record { sequence = args.sequence; kept = Some (record { arguments = sym same i; reply = (kept_after sent c r).answer.result }) }) in
-      let retry = answered_again X site again c level later (kept_after sent c r).state args rest (keeping x args.slot args.sequence kept) (record { sequence = args.sequence; kept = Some kept }) (kept_after sent c r).answer.result minor is named slot_now in
+      let retry = answered_again X site again c level later (kept_after sent c r).state args rest (keeping x args.slot args.sequence kept) (record { sequence = args.sequence; kept = Some kept }) (kept_after sent c r).answer.result minor is named count slot_now in
       subst (λ t. served X site again c (begins_at level later) t.state ≡ record { answer = record { result = t.answer.result; denial = None }; place = begins_at level later; state = t.state }) (sym first) retry

@@ -1,5 +1,5 @@
 -- A COMPOUND that comes again on its slot gets its first result, and nothing changes.
-use Rattle.std.proofs.Common.{◌≡◌, ℕ, Bool, true, false, cond, List, [], ◌∷◌, Option, Some, None, refl, ap, ◌∙◌, arith}
+use Rattle.std.proofs.Common.{◌≡◌, ◌≤◌, ◌<◌, ℕ, Bool, true, false, cond, List, [], ◌∷◌, Option, Some, None, refl, ap, ◌∙◌, arith}
 use Rattle.std.specs.Prelude.{◌==◌, nat_le}
 use Rattle.std.specs.Str.{bytes_eq}
 use Rattle.std.proofs.lemmas.Bool.Decides.{nat_tests}
@@ -23,6 +23,7 @@ use Rattle.lnfs_operations.specs.Sequence.{Sent, Sequenced, New, Again, in_sessi
 use Rattle.lnfs_operations.specs.Extra.{Extra}
 use Rattle.lnfs_operations.specs.Served.{operation, reply_of, sequence_reply}
 use Rattle.lnfs_operations.specs.SlotRule.{Ran, followed, run_behind, run_all, kept_after, served}
+use Rattle.lnfs_operations.specs.Accepted.{too_many}
 use Rattle.lnfs_operations.specs.Retries.{Names}
 use Rattle.lnfs_world.specs.Lawful.{deed_of}
 use Rattle.lnfs_world.specs.Both.{on_world}
@@ -41,18 +42,33 @@ pub chosen_true : {A : Type 0} (b : Bool) (x y : A) → b ≡ true → cond b x 
 chosen_true true x y e = refl
 chosen_true false x y e = absurd (grind arith)
 
+chosen_false : {A : Type 0} (b : Bool) (x y : A) → b ≡ false → cond b x y ≡ y
+chosen_false true x y e = absurd (grind arith)
+chosen_false false x y e = refl
+
 equal_itself : (n : ℕ) → n == n ≡ true
 equal_itself n = grind (arith, nat_tests)
 
--- what SEQUENCE comes to on the slot that it names
-pub on_named : (level : ℕ) (moment : Moment) (w : World) (args : Sequence) (sent : Sent) (x : Session) (slot : SlotRow) → Names level w args sent x slot → sequence args sent (begins_at level moment) w ≡ on_slot args sent (begins_at level moment) x slot
-on_named level moment w args sent x slot names =
+-- what SEQUENCE comes to on the slot that it names, by how many operations its COMPOUND counts
+counted : (level : ℕ) (moment : Moment) (w : World) (args : Sequence) (sent : Sent) (x : Session) (slot : SlotRow) → Names level w args sent x slot →
+    sequence args sent (begins_at level moment) w
+    ≡ demand (nat_le sent.count x.channel.max_operations) (refuse (begins_at level moment) gates.Session NFS4ERR_TOO_MANY_OPS) (on_slot args sent (begins_at level moment) x slot)
+counted level moment w args sent x slot names =
     let p = begins_at level moment in
     chosen_true ((session_named args.session).level == level) _ (refuse p (gates.Monitor M9) NFS4ERR_BADSESSION) (grind (arith, nat_tests, names.own))
     ∙ ap (λ o. where_there o (under_session args sent p) (refuse p gates.Session NFS4ERR_BADSESSION)) names.session
     ∙ chosen_true (nat_le sent.size x.channel.max_request) _ (refuse p gates.Session NFS4ERR_REQ_TOO_BIG) (grind (arith, nat_tests, names.size))
-    ∙ chosen_true (nat_le sent.count x.channel.max_operations) _ (refuse p gates.Session NFS4ERR_TOO_MANY_OPS) (grind (arith, nat_tests, names.count))
-    ∙ ap (λ o. where_there o (on_slot args sent p x) (refuse p gates.Session NFS4ERR_BADSLOT)) names.slot
+    ∙ ap (λ o. demand (nat_le sent.count x.channel.max_operations) (refuse p gates.Session NFS4ERR_TOO_MANY_OPS) (where_there o (on_slot args sent p x) (refuse p gates.Session NFS4ERR_BADSLOT))) names.slot
+
+pub on_named : (level : ℕ) (moment : Moment) (w : World) (args : Sequence) (sent : Sent) (x : Session) (slot : SlotRow) → Names level w args sent x slot → sent.count ≤ x.channel.max_operations → sequence args sent (begins_at level moment) w ≡ on_slot args sent (begins_at level moment) x slot
+on_named level moment w args sent x slot names few =
+    counted level moment w args sent x slot names
+    ∙ chosen_true (nat_le sent.count x.channel.max_operations) _ (refuse (begins_at level moment) gates.Session NFS4ERR_TOO_MANY_OPS) (grind (arith, nat_tests, few))
+
+on_many : (level : ℕ) (moment : Moment) (w : World) (args : Sequence) (sent : Sent) (x : Session) (slot : SlotRow) → Names level w args sent x slot → x.channel.max_operations < sent.count → sequence args sent (begins_at level moment) w ≡ refuse (begins_at level moment) gates.Session NFS4ERR_TOO_MANY_OPS
+on_many level moment w args sent x slot names many =
+    counted level moment w args sent x slot names
+    ∙ chosen_false (nat_le sent.count x.channel.max_operations) (on_slot args sent (begins_at level moment) x slot) _ (grind (arith, nat_tests, many))
 
 in_order_again : {R : Type 0} (p : Place) (last next : ℕ) (k : Stored) (sequence : ℕ) (arguments : List ℕ) (again : List ℕ → Outcome (Answered R)) (new : Outcome (Answered R)) → (sequence == last) ≡ true → bytes_eq k.arguments arguments ≡ true → in_order p last next (Some k) sequence arguments again new ≡ again k.reply
 in_order_again {R} p last next k sequence arguments again new same bytes = at (sequence == last) same
@@ -103,11 +119,18 @@ module _ (X : Extra) (site : Site) (sent : Sent) (c : Compound) where
   by_sequence level moment b args rest minor is = of_version (begins_at level moment) b (ops.Sequence args ∷ rest) minor is
 
   -- a retry on the slot that keeps its result
-  pub answered_again : (level : ℕ) (moment : Moment) (b : Both X.Row) (args : Sequence) (rest : List Op) (x : Session) (slot : SlotRow) (reply : List ℕ) → c.minor ≡ 2 → c.ops ≡ ops.Sequence args ∷ rest → Names level b.world args sent x slot → slot ≡ record { sequence = args.sequence; kept = Some (record { arguments = sent.arguments; reply = reply }) } →
+  pub answered_again : (level : ℕ) (moment : Moment) (b : Both X.Row) (args : Sequence) (rest : List Op) (x : Session) (slot : SlotRow) (reply : List ℕ) → c.minor ≡ 2 → c.ops ≡ ops.Sequence args ∷ rest → Names level b.world args sent x slot → sent.count ≤ x.channel.max_operations → slot ≡ record { sequence = args.sequence; kept = Some (record { arguments = sent.arguments; reply = reply }) } →
       served X site sent c (begins_at level moment) b ≡ record { answer = record { result = reply; denial = None }; place = begins_at level moment; state = b }
   unfolding served begun
-  answered_again level moment b args rest x slot reply minor is names same =
-      ap (kept_after sent c) (by_sequence level moment b args rest minor is ∙ ap (begun args rest b) (on_named level moment b.world args sent x slot names ∙ slot_again (begins_at level moment) args sent x reply slot same))
+  answered_again level moment b args rest x slot reply minor is names few same =
+      ap (kept_after sent c) (by_sequence level moment b args rest minor is ∙ ap (begun args rest b) (on_named level moment b.world args sent x slot names few ∙ slot_again (begins_at level moment) args sent x reply slot same))
+
+  -- one that counts more operations than its session grants
+  pub refused_again : (level : ℕ) (moment : Moment) (b : Both X.Row) (args : Sequence) (rest : List Op) (x : Session) (slot : SlotRow) → c.minor ≡ 2 → c.ops ≡ ops.Sequence args ∷ rest → Names level b.world args sent x slot → x.channel.max_operations < sent.count →
+      served X site sent c (begins_at level moment) b ≡ record { answer = too_many c args; place = begins_at level moment; state = b }
+  unfolding served begun
+  refused_again level moment b args rest x slot minor is names many =
+      ap (kept_after sent c) (by_sequence level moment b args rest minor is ∙ ap (begun args rest b) (on_many level moment b.world args sent x slot names many))
 
 -- ---- a CREATE_SESSION
 

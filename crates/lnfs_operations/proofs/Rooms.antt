@@ -1,5 +1,5 @@
 -- A result on an accepted slot leaves room for its wrapping in a response of its session.
-use Rattle.std.proofs.Common.{◌≡◌, ◌≤◌, ◌+◌, ◌-◌, ℕ, Bool, true, false, cond, List, [], ◌∷◌, ◌++◌, length, Option, Some, None, refl, sym, ap, ◌∙◌, subst, arith, drop}
+use Rattle.std.proofs.Common.{◌≡◌, ◌≤◌, ◌<◌, ◌+◌, ◌-◌, ℕ, Bool, true, false, cond, List, [], ◌∷◌, ◌++◌, length, Option, Some, None, refl, sym, ap, ◌∙◌, subst, arith, drop}
 use Rattle.std.specs.Prelude.{nat_le, ◌==◌, if◌then◌else◌}
 use Rattle.std.proofs.lemmas.Bool.Decides.{nat_tests}
 use Rattle.lnfs_calipso.specs.Label.{IsPreorderWithBottom}
@@ -9,7 +9,7 @@ use Rattle.lnfs_arguments.specs.declared.types.Op.{Op}
 use Rattle.lnfs_arguments.specs.declared.types.Op.TheVariants as ops
 use Rattle.lnfs_arguments.specs.declared.types.Compound.{Compound}
 use Rattle.lnfs_arguments.specs.declared.types.Sequence.{Sequence}
-use Rattle.lnfs_arguments.specs.declared.statuses.TheConstants.{NFS4ERR_NOTSUPP, NFS4ERR_NOT_ONLY_OP, NFS4ERR_SEQUENCE_POS, NFS4ERR_REP_TOO_BIG, NFS4ERR_MINOR_VERS_MISMATCH}
+use Rattle.lnfs_arguments.specs.declared.statuses.TheConstants.{NFS4ERR_NOTSUPP, NFS4ERR_NOT_ONLY_OP, NFS4ERR_SEQUENCE_POS, NFS4ERR_REP_TOO_BIG, NFS4ERR_TOO_MANY_OPS, NFS4ERR_MINOR_VERS_MISMATCH}
 use Rattle.lnfs_compound.specs.Bounds.{op_bound}
 use Rattle.lnfs_results.specs.declared.types.OpResult.{OpResult}
 use Rattle.lnfs_results.specs.declared.types.OpResult.TheVariants as results
@@ -29,12 +29,12 @@ use Rattle.lnfs_operations.specs.Extra.{Extra, AreLawful}
 use Rattle.lnfs_operations.specs.Results.{failed, status_said}
 use Rattle.lnfs_operations.specs.Admission.{used, fits, unless, session_behind, room_refusal}
 use Rattle.lnfs_operations.specs.Served.{Keeper, Nowhere, Slot, Record, Reply, Own, Kept, success, failure, reply_of, further_reply, row, row_in, admitted, where_admitted, operation}
-use Rattle.lnfs_operations.specs.SlotRule.{Ran, kept_by, own_reply, followed, run_behind, new_result, result_of, served}
+use Rattle.lnfs_operations.specs.SlotRule.{Answer, Ran, kept_by, own_reply, followed, run_behind, new_result, result_of, served}
 use Rattle.lnfs_operations.specs.Retries.{Names}
 use Rattle.lnfs_operations.specs.Sizes.{Sizes, SpellsShortly}
 use Rattle.lnfs_operations.proofs.ServedLaws.{operation_lawful}
 use Rattle.lnfs_operations.proofs.SessionLaws.{session_at-id, session_under-at}
-use Rattle.lnfs_operations.proofs.Retries.{begun, by_sequence}
+use Rattle.lnfs_operations.proofs.Retries.{begun, by_sequence, refused_again}
 use Rattle.lnfs_operations.proofs.ReadingRows.{is_reading}
 use Rattle.lnfs_operations.proofs.ShortRows.{Short, ShortBy, row_short}
 use Rattle.lnfs_operations.proofs.ChangingRows.{is_changing}
@@ -42,7 +42,7 @@ use Rattle.lnfs_operations.proofs.ShortChanges.{changing_short}
 use Rattle.lnfs_operations.proofs.SizeChanges.{operation_sizes}
 use Rattle.lnfs_operations.proofs.Once.{reclaim_any, operation_stays, new_begins, behind_stays, behind_subject}
 use Rattle.lnfs_xdr.proofs.Sizes.{length-opaque}
-use Rattle.lnfs_operations.proofs.Lengths.{used_more, text_length, failed_short, said_short, reclaimed_short, sequence_short}
+use Rattle.lnfs_operations.proofs.Lengths.{used_more, text_length, one_short, failed_short, said_short, reclaimed_short, sequence_short}
 use Rattle.std.specs.Str.{bytes_eq}
 use Rattle.std.proofs.lemmas.List.{length-drop}
 use Rattle.lnfs_world.proofs.Keys.{bytes_same}
@@ -204,14 +204,14 @@ module _ (X : Extra) (owed : AreLawful X) (site : Site) (lattice : IsPreorderWit
 
   -- the run behind a SEQUENCE that names a slot under its next sequence: what it keeps leaves room in a response
   pub slot_ends : (level : ℕ) (moment : Moment) (b : Both X.Row) (args : Sequence) (rest : List Op) (x : Session) (slot : SlotRow) → BothStand X.Fact site.dom (begins_at level moment) b → Sizes b.world →
-      Names level b.world args sent x slot → args.sequence ≡ next_sequence slot.sequence → length c.tag ≤ 1024 → LEAST_SIZE ≤ x.channel.max_response →
+      Names level b.world args sent x slot → sent.count ≤ x.channel.max_operations → args.sequence ≡ next_sequence slot.sequence → length c.tag ≤ 1024 → LEAST_SIZE ≤ x.channel.max_response →
       let r = begun X site sent c args rest b (done (in_session (begins_at level moment) x) (New x) []) in
       (length (result_of c r.results r.again) + LARGEST_WRAPPING ≤ x.channel.max_response) × (session_behind r.place r.place.session r.state.world.sessions ≡ Some x)
   unfolding begun
-  slot_ends level moment b args rest x slot stands sizes names next tag least =
+  slot_ends level moment b args rest x slot stands sizes names few next tag least =
       let p = begins_at level moment in
       let result = results.Sequence args.session args.sequence args.slot (x.channel.max_requests - 1) (x.channel.max_requests - 1) 0 in
-      let started = new_begins X owed site lattice sent c level moment b args x slot stands names next in
+      let started = new_begins X owed site lattice sent c level moment b args x slot stands names few next in
       let id : x.id ≡ session_named args.session = session_at-id (session_named args.session) b.world.sessions x (session_under-at args.session b.world.sessions x names.session) in
       let found : session_at b.world.sessions x.id ≡ Some x = ap (session_at b.world.sessions) id ∙ session_under-at args.session b.world.sessions x names.session in
       let own : x.id.level ≡ level = ap (λ (i : Id). i.level) id ∙ names.own in
@@ -225,12 +225,28 @@ module _ (X : Extra) (owed : AreLawful X) (site : Site) (lattice : IsPreorderWit
         stays_in c x.channel.max_response X owed site lattice spells sent x refl (in_session p x) r.place b r.state inside stays.0 stays.1 subject,
       )
 
+  -- the refusal of one that counts too many operations is short
+  pub refused_fits : (level : ℕ) (moment : Moment) (b : Both X.Row) (args : Sequence) (rest : List Op) (x : Session) (slot : SlotRow) → c.minor ≡ 2 → c.ops ≡ ops.Sequence args ∷ rest →
+      Names level b.world args sent x slot → x.channel.max_operations < sent.count → length c.tag ≤ 1024 → LEAST_SIZE ≤ x.channel.max_response →
+      length (served X site sent c (begins_at level moment) b).answer.result + LARGEST_WRAPPING ≤ x.channel.max_response
+  refused_fits level moment b args rest x slot minor is names many tag least =
+      let op = ops.Sequence args in
+      let result = failed op NFS4ERR_TOO_MANY_OPS in
+      let same = ap (λ (t : Turn Answer (Both X.Row)). length t.answer.result) (refused_again X site sent c level moment b args rest x slot minor is names many) in
+      let one = one_short (if c.minor == 2 then status_of_all (result ∷ []) else NFS4ERR_MINOR_VERS_MISMATCH) c.tag result tag (omega (arith, failed_short op NFS4ERR_TOO_MANY_OPS)) in
+      omega (arith, least, same, one)
+
   pub fits_on_slot : (level : ℕ) (moment : Moment) (b : Both X.Row) (args : Sequence) (rest : List Op) (x : Session) (slot : SlotRow) → BothStand X.Fact site.dom (begins_at level moment) b → Sizes b.world → c.minor ≡ 2 → c.ops ≡ ops.Sequence args ∷ rest →
       Names level b.world args sent x slot → args.sequence ≡ next_sequence slot.sequence → length c.tag ≤ 1024 → LEAST_SIZE ≤ x.channel.max_response →
       length (served X site sent c (begins_at level moment) b).answer.result + LARGEST_WRAPPING ≤ x.channel.max_response
   unfolding served
-  fits_on_slot level moment b args rest x slot stands sizes minor is names next tag least =
-      let started = new_begins X owed site lattice sent c level moment b args x slot stands names next in
-      let ran = by_sequence X site sent c level moment b args rest minor is ∙ ap (begun X site sent c args rest b) started.0 in
-      subst (λ (r : Ran (Both X.Row)). length (result_of c r.results r.again) + LARGEST_WRAPPING ≤ x.channel.max_response) (sym ran)
-      (slot_ends level moment b args rest x slot stands sizes names next tag least).0
+  fits_on_slot level moment b args rest x slot stands sizes minor is names next tag least = at (nat_le sent.count x.channel.max_operations) refl
+    where
+      at : (b′ : Bool) → nat_le sent.count x.channel.max_operations ≡ b′ → length (served X site sent c (begins_at level moment) b).answer.result + LARGEST_WRAPPING ≤ x.channel.max_response
+      at true is-few =
+          let few : sent.count ≤ x.channel.max_operations = grind (arith, nat_tests, is-few) in
+          let started = new_begins X owed site lattice sent c level moment b args x slot stands names few next in
+          let ran = by_sequence X site sent c level moment b args rest minor is ∙ ap (begun X site sent c args rest b) started.0 in
+          subst (λ (r : Ran (Both X.Row)). length (result_of c r.results r.again) + LARGEST_WRAPPING ≤ x.channel.max_response) (sym ran)
+          (slot_ends level moment b args rest x slot stands sizes names few next tag least).0
+      at false is-many = refused_fits level moment b args rest x slot minor is names (grind (arith, nat_tests, is-many)) tag least

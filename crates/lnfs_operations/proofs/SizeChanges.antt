@@ -81,15 +81,23 @@ module _ (X : Extra) (owed : AreLawful X) (site : Site) (lattice : IsPreorderWit
 
 -- ---- the keeping of a result
 
--- what a result has to fit where it is kept
-abbrev pub FitsIn : {Row : Type 0} → Keeper → (result : List ℕ) → Place → Both Row → Type 0
-FitsIn Nowhere result p b = Unit {0}
-FitsIn (Slot slot sequence) result p b = IfSome (session_behind p p.session b.world.sessions) (λ x. length result + LARGEST_WRAPPING ≤ x.channel.max_response)
-FitsIn (Record client) result p b = length result ≤ MOST_CREATED
+-- what a result has to fit in a slot of a session, and how many operations its COMPOUND may count
+pub record FitsSlot (count : ℕ) (result : List ℕ) (x : Session) : Type 0 where
+  pub short : length result + LARGEST_WRAPPING ≤ x.channel.max_response
+  pub few : count ≤ x.channel.max_operations
 
-module _ {Row : Type 0} (p : Place) (b : Both Row) (sizes : Sizes b.world) (kept : world.Kept) where
-  pub keep_sizes : (keeper : Keeper) → FitsIn keeper kept.reply p b → Sizes (done_to b.world (keep_in keeper kept p b.world))
+-- what a result has to fit where it is kept
+abbrev pub FitsIn : {Row : Type 0} → (count : ℕ) → Keeper → (result : List ℕ) → Place → Both Row → Type 0
+FitsIn count Nowhere result p b = Unit {0}
+FitsIn count (Slot slot sequence) result p b = IfSome (session_behind p p.session b.world.sessions) (FitsSlot count result)
+FitsIn count (Record client) result p b = length result ≤ MOST_CREATED
+
+-- in the session in which the place stands
+pub fits_slot : (count : ℕ) (result : List ℕ) (p : Place) (sessions : List Session) (number : ℕ) (x : Session) → p.session ≡ Some number → session_at sessions (record { level = p.subject; number = number }) ≡ Some x → IfSome (session_behind p p.session sessions) (FitsSlot count result) → FitsSlot count result x
+fits_slot count result p sessions number x named found fits = subst (λ (o : Option Session). IfSome o (FitsSlot count result)) (ap (λ (o : Option ℕ). session_behind p o sessions) named ∙ found) fits
+
+module _ {Row : Type 0} (p : Place) (b : Both Row) (sizes : Sizes b.world) (count : ℕ) (kept : world.Kept) where
+  pub keep_sizes : (keeper : Keeper) → FitsIn count keeper kept.reply p b → Sizes (done_to b.world (keep_in keeper kept p b.world))
   keep_sizes Nowhere fits = sizes
-  keep_sizes (Slot slot sequence) fits = keep_left (sizes_walk (Unit {0}) tt) p b.world sizes kept (Slot slot sequence) (λ number x named found.
-      subst (λ (o : Option Session). IfSome o (λ x. length kept.reply + LARGEST_WRAPPING ≤ x.channel.max_response)) (ap (λ (o : Option ℕ). session_behind p o b.world.sessions) named ∙ found) fits)
+  keep_sizes (Slot slot sequence) fits = keep_left (sizes_walk (Unit {0}) tt) p b.world sizes kept (Slot slot sequence) (λ number x named found. (fits_slot count kept.reply p b.world.sessions number x named found fits).short)
   keep_sizes (Record client) fits = keep_left (sizes_walk (Unit {0}) tt) p b.world sizes kept (Record client) fits

@@ -43,8 +43,8 @@ use Rattle.lnfs_operations.proofs.Lengths.{failed_short, told_short, created_sho
 use Rattle.lnfs_operations.proofs.Chains.{demand_any, where_any, in_order_any}
 use Rattle.lnfs_operations.proofs.ExchangeIdLaws.{exchange_id_any}
 use Rattle.lnfs_operations.proofs.CreateSessionLaws.{created_any}
-use Rattle.lnfs_operations.proofs.Rooms.{slot_ends}
-use Rattle.lnfs_operations.proofs.SizeChanges.{client_fits, session_fits, slot_fits, run_sizes, FitsIn, keep_sizes}
+use Rattle.lnfs_operations.proofs.Rooms.{slot_ends, refused_fits}
+use Rattle.lnfs_operations.proofs.SizeChanges.{client_fits, session_fits, slot_fits, run_sizes, FitsSlot, FitsIn, keep_sizes}
 
 -- ---- SEQUENCE
 
@@ -52,7 +52,7 @@ use Rattle.lnfs_operations.proofs.SizeChanges.{client_fits, session_fits, slot_f
 pub sequence_any : (P : Outcome (Answer Sequenced) → Type 0) (level : ℕ) (moment : Moment) (w : World) (args : Sequence) (sent : Sent) →
     ((gate : Gate) (status : ℕ) → P (refuse (begins_at level moment) gate status)) →
     ((x : Session) (slot : SlotRow) (k : world.Kept) → Names level w args sent x slot → slot.kept ≡ Some k → P (done (begins_at level moment) (Again k.reply) [])) →
-    ((x : Session) (slot : SlotRow) → Names level w args sent x slot → args.sequence ≡ next_sequence slot.sequence → P (done (in_session (begins_at level moment) x) (New x) [])) →
+    ((x : Session) (slot : SlotRow) → Names level w args sent x slot → sent.count ≤ x.channel.max_operations → args.sequence ≡ next_sequence slot.sequence → P (done (in_session (begins_at level moment) x) (New x) [])) →
     P (sequence args sent (begins_at level moment) w)
 sequence_any P level moment w args sent refused told is =
     let p = begins_at level moment in
@@ -61,13 +61,13 @@ sequence_any P level moment w args sent refused told is =
     demand_any P (nat_le sent.size x.channel.max_request) _ _ (refused gates.Session NFS4ERR_REQ_TOO_BIG) (λ short.
     demand_any P (nat_le sent.count x.channel.max_operations) _ _ (refused gates.Session NFS4ERR_TOO_MANY_OPS) (λ few.
     where_any P (slice_get x.slots args.slot) _ _ (λ slot there.
-    let names : Names level w args sent x slot = record { own = grind (arith, nat_tests, own); session = found; size = grind (arith, nat_tests, short); count = grind (arith, nat_tests, few); slot = there } in
-    in_order_any P p slot.sequence (next_sequence slot.sequence) slot.kept args.sequence sent.arguments (λ reply. done p (Again reply) []) (done (in_session p x) (New x) []) (λ status. refused gates.Session status) (λ k kept. told x slot k names kept) (λ next. is x slot names (grind (arith, nat_tests, next))))
+    let names : Names level w args sent x slot = record { own = grind (arith, nat_tests, own); session = found; size = grind (arith, nat_tests, short); slot = there } in
+    in_order_any P p slot.sequence (next_sequence slot.sequence) slot.kept args.sequence sent.arguments (λ reply. done p (Again reply) []) (done (in_session p x) (New x) []) (λ status. refused gates.Session status) (λ k kept. told x slot k names kept) (λ next. is x slot names (grind (arith, nat_tests, few)) (grind (arith, nat_tests, next))))
     (refused gates.Session NFS4ERR_BADSLOT)))) (refused gates.Session NFS4ERR_BADSESSION))
 
 -- ---- operations that stand alone
 
-module _ (c : Compound) (read : IsRead c) where
+module _ (c : Compound) (read : IsRead c) (sent : Sent) where
   -- a short result, which no slot keeps
   abbrev Lone : Reply → Type 0
   Lone (Own own Nowhere) = length (result_text own.result) ≤ 96
@@ -78,7 +78,7 @@ module _ (c : Compound) (read : IsRead c) where
   -- what holds at the end of a run: its result is short, and fits where it is kept
   record Fits {Row : Type 0} (r : Ran (Both Row)) : Type 0 where
     short : length (result_of c r.results r.again) + LARGEST_WRAPPING ≤ MOST_SIZE
-    kept : FitsIn r.keeper (result_of c r.results r.again) r.place r.state
+    kept : FitsIn sent.count r.keeper (result_of c r.results r.again) r.place r.state
 
   lone_under : (b : Bool) (number : ℕ) (x : Reply) → Lone x → Lone (under (cond b (Record number) Nowhere) x)
   lone_under true number (Own own Nowhere) lone = lone
@@ -128,8 +128,8 @@ module _ (c : Compound) (read : IsRead c) where
   exchange_id_lone op args p w = exchange_id_any (λ o. Lone (reply_of op (told_reply p.subject) o.answer)) args p w
       (λ gate status. refused_lone op (record { gate = gate; status = status })) (λ t. told_short p.subject t) (told_short p.subject (record { number = last_of p.subject w.lasts.clients + 1; sequence = 1; confirmed = false }))
 
-  create_session_lone : (sent : Sent) (args : CreateSession) (p : Place) (w : World) → Sizes w → Lone (create_session_in sent args p w).answer
-  create_session_lone sent args p w sizes =
+  create_session_lone : (args : CreateSession) (p : Place) (w : World) → Sizes w → Lone (create_session_in sent args p w).answer
+  create_session_lone args p w sizes =
       let op = ops.CreateSession args in
       let P = λ (o : Outcome (Answer Created)). Lone (reply_of op (created_reply p.subject args) o.answer) in
       lone_under (is_next_created args p w) (client_named args.client).number (reply_of op (created_reply p.subject args) (create_session args sent.arguments p w).answer)
@@ -156,7 +156,7 @@ module _ (c : Compound) (read : IsRead c) where
 
   -- ---- a COMPOUND
 
-  module _ (X : Extra) (owed : AreLawful X) (site : Site) (lattice : IsPreorderWithBottom site.dom) (spells : SpellsShortly site) (sent : Sent) (level : ℕ) (moment : Moment) (b : Both X.Row) (stands : BothStand X.Fact site.dom (begins_at level moment) b) (sizes : Sizes b.world) where
+  module _ (X : Extra) (owed : AreLawful X) (site : Site) (lattice : IsPreorderWithBottom site.dom) (spells : SpellsShortly site) (level : ℕ) (moment : Moment) (b : Both X.Row) (stands : BothStand X.Fact site.dom (begins_at level moment) b) (sizes : Sizes b.world) where
     abbrev deeds : (so_far : List OpResult) → Op → Deed Reply (Both X.Row)
     deeds = operation X site sent c
 
@@ -168,25 +168,25 @@ module _ (c : Compound) (read : IsRead c) where
         let known = session_fits b.world sizes (session_named args.session) x (session_under-at args.session b.world.sessions x names.session) in
         let fits = subst (λ (o : Option world.Kept). IfSome o (λ kept. length kept.reply + LARGEST_WRAPPING ≤ x.channel.max_response)) kept (slot_fits x.channel.max_response args.slot x.slots slot known.kept names.slot) in
         record { short = omega (arith, fits, known.granted.response.1); kept = tt })
-        (λ x slot names next.
+        (λ x slot names few next.
         let known = session_fits b.world sizes (session_named args.session) x (session_under-at args.session b.world.sessions x names.session) in
-        let ends = slot_ends X owed site lattice spells sent c level moment b args rest x slot stands sizes names next read.tag known.granted.response.0 in
+        let ends = slot_ends X owed site lattice spells sent c level moment b args rest x slot stands sizes names few next read.tag known.granted.response.0 in
         let r = begun X site sent c args rest b (done (in_session (begins_at level moment) x) (New x) []) in
-        record { short = omega (arith, ends.0, known.granted.response.1); kept = subst (λ (o : Option Session). IfSome o (λ y. length (result_of c r.results r.again) + LARGEST_WRAPPING ≤ y.channel.max_response)) (sym ends.1) ends.0 })
+        record { short = omega (arith, ends.0, known.granted.response.1); kept = subst (λ (o : Option Session). IfSome o (FitsSlot sent.count (result_of c r.results r.again))) (sym ends.1) (record { short = ends.0; few = few }) })
 
     -- on a slot that is named a result leaves room in a response of its session, be the COMPOUND new, a retry or
     -- out of order
-    named_fits : (args : Sequence) (rest : List Op) (x : Session) (slot : SlotRow) → Names level b.world args sent x slot →
+    named_fits : (args : Sequence) (rest : List Op) (x : Session) (slot : SlotRow) → Names level b.world args sent x slot → sent.count ≤ x.channel.max_operations →
         let r = begun X site sent c args rest b (on_slot args sent (begins_at level moment) x slot) in
         length (result_of c r.results r.again) + LARGEST_WRAPPING ≤ x.channel.max_response
     unfolding begun
-    named_fits args rest x slot names =
+    named_fits args rest x slot names few =
         let p = begins_at level moment in
         let known = session_fits b.world sizes (session_named args.session) x (session_under-at args.session b.world.sessions x names.session) in
         in_order_any (λ o. let r = begun X site sent c args rest b o in length (result_of c r.results r.again) + LARGEST_WRAPPING ≤ x.channel.max_response) p slot.sequence (next_sequence slot.sequence) slot.kept args.sequence sent.arguments (λ reply. done p (Again reply) []) (done (in_session p x) (New x) [])
         (λ status. omega (arith, known.granted.response.0, one_fits (failed (ops.Sequence args) status) (omega (arith, failed_short (ops.Sequence args) status))))
         (λ k kept. subst (λ (o : Option world.Kept). IfSome o (λ kept. length kept.reply + LARGEST_WRAPPING ≤ x.channel.max_response)) kept (slot_fits x.channel.max_response args.slot x.slots slot known.kept names.slot))
-        (λ next. (slot_ends X owed site lattice spells sent c level moment b args rest x slot stands sizes names (grind (arith, nat_tests, next)) read.tag known.granted.response.0).0)
+        (λ next. (slot_ends X owed site lattice spells sent c level moment b args rest x slot stands sizes names few (grind (arith, nat_tests, next)) read.tag known.granted.response.0).0)
 
     -- one that has to stand behind a SEQUENCE
     behind_sequence : (op : Op) (rest : List Op) → Fits (followed [] op (begins_at level moment) b (failure op (record { gate = gates.Session; status = NFS4ERR_OP_NOT_IN_SESSION })) (λ results. run_behind deeds results rest (begins_at level moment) b))
@@ -200,7 +200,7 @@ module _ (c : Compound) (read : IsRead c) where
         let op = ops.ExchangeId verifier owner flags implementation in
         alone_fits deeds op rest (begins_at level moment) b (row_in X site sent op (begins_at level moment) b) few (exchange_id_lone op (record { verifier = verifier; owner = owner; flags = flags }) (begins_at level moment) b.world) (c.count == 1) refl
     from_fits (ops.CreateSession args ∷ rest) few =
-        alone_fits deeds (ops.CreateSession args) rest (begins_at level moment) b (row_in X site sent (ops.CreateSession args) (begins_at level moment) b) few (create_session_lone sent args (begins_at level moment) b.world sizes) (c.count == 1) refl
+        alone_fits deeds (ops.CreateSession args) rest (begins_at level moment) b (row_in X site sent (ops.CreateSession args) (begins_at level moment) b) few (create_session_lone args (begins_at level moment) b.world sizes) (c.count == 1) refl
     from_fits (ops.DestroySession session ∷ rest) few =
         alone_fits deeds (ops.DestroySession session) rest (begins_at level moment) b (row_in X site sent (ops.DestroySession session) (begins_at level moment) b) few (destroy_session_lone session (begins_at level moment) b.world) (c.count == 1) refl
     from_fits (ops.DestroyClientId client ∷ rest) few =
@@ -247,16 +247,27 @@ module _ (X : Extra) (owed : AreLawful X) (site : Site) (lattice : IsPreorderWit
   unfolding served
   served_sizes =
       let r = run_all (operation X site sent c) c (begins_at level moment) b in
-      keep_sizes r.place r.state (run_sizes X owed site lattice spells sent c (begins_at level moment) b stands sizes) (record { arguments = sent.arguments; reply = result_of c r.results r.again }) r.keeper (run_fits c read X owed site lattice spells sent level moment b stands sizes).kept
+      keep_sizes r.place r.state (run_sizes X owed site lattice spells sent c (begins_at level moment) b stands sizes) sent.count (record { arguments = sent.arguments; reply = result_of c r.results r.again }) r.keeper (run_fits c read sent X owed site lattice spells level moment b stands sizes).kept
+
+  -- where the result is kept, it fits, and its COMPOUND counts few operations
+  pub kept_fits : let r = run_all (operation X site sent c) c (begins_at level moment) b in FitsIn sent.count r.keeper (result_of c r.results r.again) r.place r.state
+  kept_fits = (run_fits c read sent X owed site lattice spells level moment b stands sizes).kept
 
   pub served_short : length (served X site sent c (begins_at level moment) b).answer.result + LARGEST_WRAPPING ≤ MOST_SIZE
   unfolding served
-  served_short = (run_fits c read X owed site lattice spells sent level moment b stands sizes).short
+  served_short = (run_fits c read sent X owed site lattice spells level moment b stands sizes).short
 
   pub fits_named : (args : Sequence) (rest : List Op) (x : Session) (slot : SlotRow) → c.minor ≡ 2 → c.ops ≡ ops.Sequence args ∷ rest → Names level b.world args sent x slot →
       length (served X site sent c (begins_at level moment) b).answer.result + LARGEST_WRAPPING ≤ x.channel.max_response
   unfolding served
-  fits_named args rest x slot minor is names =
-      let ran = by_sequence X site sent c level moment b args rest minor is ∙ ap (begun X site sent c args rest b) (on_named level moment b.world args sent x slot names) in
-      subst (λ (r : Ran (Both X.Row)). length (result_of c r.results r.again) + LARGEST_WRAPPING ≤ x.channel.max_response) (sym ran)
-      (named_fits c read X owed site lattice spells sent level moment b stands sizes args rest x slot names)
+  fits_named args rest x slot minor is names = at (nat_le sent.count x.channel.max_operations) refl
+    where
+      at : (b′ : Bool) → nat_le sent.count x.channel.max_operations ≡ b′ → length (served X site sent c (begins_at level moment) b).answer.result + LARGEST_WRAPPING ≤ x.channel.max_response
+      at true is-few =
+          let few : sent.count ≤ x.channel.max_operations = grind (arith, nat_tests, is-few) in
+          let ran = by_sequence X site sent c level moment b args rest minor is ∙ ap (begun X site sent c args rest b) (on_named level moment b.world args sent x slot names few) in
+          subst (λ (r : Ran (Both X.Row)). length (result_of c r.results r.again) + LARGEST_WRAPPING ≤ x.channel.max_response) (sym ran)
+          (named_fits c read sent X owed site lattice spells level moment b stands sizes args rest x slot names few)
+      at false is-many =
+          let known = session_fits b.world sizes (session_named args.session) x (session_under-at args.session b.world.sessions x names.session) in
+          refused_fits X owed site lattice spells sent c level moment b args rest x slot minor is names (grind (arith, nat_tests, is-many)) read.tag known.granted.response.0

@@ -39,4 +39,5 @@ pub mod Admission
 pub mod Served
 pub mod SlotRule
 pub mod Retries
+pub mod Accepted
 pub mod Bounded

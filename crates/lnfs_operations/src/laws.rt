@@ -36,6 +36,7 @@ ghost use Rattle.lnfs_operations.specs.Identifiers.{client_named};
 ghost use Rattle.lnfs_operations.specs.InOrder.{sequence_before};
 ghost use Rattle.lnfs_operations.specs.Served.{operation};
 ghost use Rattle.lnfs_operations.specs.SlotRule.{served};
+ghost use Rattle.lnfs_operations.specs.Accepted.{IsSent, AllAccepted, too_many};
 ghost use Rattle.lnfs_operations.specs.Retries.{Names};
 ghost use Rattle.lnfs_operations.specs.Sizes.{Sizes, SpellsShortly, IsRead};
 ghost use Rattle.lnfs_operations.specs.Bounded.{IsBounded};
@@ -169,7 +170,8 @@ pub fn compounds_are_lawful<X: ExtraRows>()
 /// (RFC 8881 section 2.10.6.1).
 pub fn retries_are_answered_again<X: ExtraRows>()
     ensures kept { (site : Site) (sent : Sent) (c : Compound) (level : ℕ) (moment : Moment) (b : Both X.extra.Row) (args : Sequence) (rest : List Op) (x : Session) (slot : Slot) (reply : List ℕ) →
-        c.minor ≡ 2 → c.ops ≡ ops.Sequence args ∷ rest → Names level b.world args sent x slot →
+        c.minor ≡ 2 → c.ops ≡ ops.Sequence args ∷ rest → IsSent X.extra.grammar sent c → AllAccepted X.extra.grammar b.world →
+        Names level b.world args sent x slot →
         slot ≡ record { sequence = args.sequence; kept = Some (record { arguments = sent.arguments; reply = reply }) } →
         served X.extra site sent c (begins_at level moment) b ≡ record { answer = record { result = reply; denial = None }; place = begins_at level moment; state = b } }
     // So does a CREATE_SESSION under the last sequence of its client's record (RFC 8881 section 18.36.4).
@@ -178,11 +180,11 @@ pub fn retries_are_answered_again<X: ExtraRows>()
         (client_named args.client).level ≡ level → client_at b.world.clients (client_named args.client) ≡ Some client →
         args.sequence ≡ sequence_before client.sequence → client.kept ≡ Some (record { arguments = sent.arguments; reply = reply }) →
         served X.extra site sent c (begins_at level moment) b ≡ record { answer = record { result = reply; denial = None }; place = begins_at level moment; state = b } }
-    // A new COMPOUND under the next sequence of its slot acts once: with the same arguments it gets its first
-    // result, and leaves what the first one left.
+    // A new COMPOUND under the next sequence of its slot, of no more operations than its session grants, acts once:
+    // with the same arguments it gets its first result, and leaves what the first one left.
     ensures once { (site : Site) → IsPreorderWithBottom site.dom → (sent again : Sent) (c : Compound) (level : ℕ) (moment later : Moment) (b : Both X.extra.Row) (args : Sequence) (rest : List Op) (x : Session) (slot : Slot) →
         BothStand X.extra.Fact site.dom (begins_at level moment) b → c.minor ≡ 2 → c.ops ≡ ops.Sequence args ∷ rest →
-        Names level b.world args sent x slot → args.sequence ≡ next_sequence slot.sequence →
+        Names level b.world args sent x slot → sent.count ≤ x.channel.max_operations → args.sequence ≡ next_sequence slot.sequence →
         again.arguments ≡ sent.arguments → again.size ≤ x.channel.max_request → again.count ≤ x.channel.max_operations →
         let first = served X.extra site sent c (begins_at level moment) b in
         served X.extra site again c (begins_at level later) first.state
@@ -195,6 +197,15 @@ pub fn retries_are_answered_again<X: ExtraRows>()
         let first = served X.extra site sent c (begins_at level moment) b in
         served X.extra site again c (begins_at level later) first.state
         ≡ record { answer = record { result = first.answer.result; denial = None }; place = begins_at level later; state = first.state } }
+    // A COMPOUND that counts more operations than its session grants is refused each time that it comes, and changes
+    // nothing (RFC 8881 section 18.36.3).
+    ensures refused { (site : Site) (sent : Sent) (c : Compound) (level : ℕ) (moment : Moment) (b : Both X.extra.Row) (args : Sequence) (rest : List Op) (x : Session) (slot : Slot) →
+        c.minor ≡ 2 → c.ops ≡ ops.Sequence args ∷ rest → Names level b.world args sent x slot → x.channel.max_operations < sent.count →
+        served X.extra site sent c (begins_at level moment) b ≡ record { answer = too_many c args; place = begins_at level moment; state = b } }
+    // So what a slot keeps was accepted: its arguments are read as a COMPOUND of no more operations than the session grants.
+    ensures accepted { (site : Site) → IsPreorderWithBottom site.dom → SpellsShortly site → (sent : Sent) (c : Compound) (level : ℕ) (moment : Moment) (b : Both X.extra.Row) →
+        BothStand X.extra.Fact site.dom (begins_at level moment) b → Sizes b.world → IsRead c → IsSent X.extra.grammar sent c → AllAccepted X.extra.grammar b.world →
+        AllAccepted X.extra.grammar (served X.extra site sent c (begins_at level moment) b).state.world }
 {}
 
 /// The result of each operation behind the results so far of its COMPOUND is no longer than its bound, by which the

@@ -28,6 +28,7 @@ use Rattle.lnfs_step.specs.Request.{Call, Task, Garbled, Run, MakeContext, EndCo
 use Rattle.lnfs_step.specs.Contexts.{is_there, make_context}
 use Rattle.lnfs_step.specs.Step.{Step, granted, made, done_for, step_of, step_with, sent_of}
 use Rattle.lnfs_step.specs.Journal.{state_after, first_state, reply_with, state_from, Holds}
+use Rattle.lnfs_step.proofs.Compounds.{compound_read}
 use Rattle.lnfs_step.proofs.ContextLaws.{Beside}
 use Rattle.lnfs_step.proofs.FirstSizes.{spells_shortly, first_sizes}
 use Rattle.lnfs_step.proofs.Requests.{IsTask, Reads, request_reads}
@@ -64,13 +65,13 @@ sizes_beside a b beside sizes = record {
 }
 
 module _ (X : Extra) (owed : AreLawful X) (m : Signing) (p : Policy) (lattice : IsPreorderWithBottom (dominance p)) where
-  task_sizes : (event : Event) (call : Call) (task : Task) (b : Both X.Row) → IsTask task → Holds X p b → Sizes b.world → Sizes (done_for X m p b event call task).state.world
+  task_sizes : (event : Event) (call : Call) (task : Task) (b : Both X.Row) → IsTask X.grammar task → Holds X p b → Sizes b.world → Sizes (done_for X m p b event call task).state.world
   task_sizes event call Garbled b read holds sizes = sizes
-  task_sizes event call (Run arguments c) b read holds sizes = served_sizes X owed (site_of p) lattice (spells_shortly p) (sent_of event arguments c) c call.level event.moment b (begins X owed m p lattice call.level event.moment b holds) sizes read.0
+  task_sizes event call (Run arguments c) b read holds sizes = served_sizes X owed (site_of p) lattice (spells_shortly p) (sent_of event arguments c) c call.level event.moment b (begins X owed m p lattice call.level event.moment b holds) sizes (compound_read X.grammar arguments c read)
   task_sizes event call (MakeContext parent assertion) b read holds sizes = sizes_beside _ _ (made_beside X m p b event call parent assertion) sizes
   task_sizes event call (EndContext number) b read holds sizes = sizes_beside _ _ (ended_beside X m p b event call number) sizes
 
-  of_sizes : (event : Event) (r : Request) (b : Both X.Row) → Reads r → Holds X p b → Sizes b.world → Sizes (step_of X m p b event r).state.world
+  of_sizes : (event : Event) (r : Request) (b : Both X.Row) → Reads X.grammar r → Holds X p b → Sizes b.world → Sizes (step_of X m p b event r).state.world
   of_sizes event Silent b read holds sizes = sizes
   of_sizes event (Refused xid w cause) b read holds sizes = sizes
   of_sizes event (Nothing xid) b read holds sizes = sizes
@@ -96,17 +97,17 @@ module _ (X : Extra) (owed : AreLawful X) (m : Signing) (p : Policy) (lattice : 
     made_short call parent assertion None s short = refusal_length m sized call.wrapping call.xid (called SYSTEM_ERR)
     made_short call parent assertion (Some number) s short = omega (arith, answer_length m sized call.wrapping call.xid (granted call parent assertion number), granted_length call parent assertion number short)
 
-    task_short : (event : Event) (call : Call) (task : Task) (b : Both X.Row) → IsTask task → Holds X p b → Sizes b.world → IsShort (done_for X m p b event call task).reply
+    task_short : (event : Event) (call : Call) (task : Task) (b : Both X.Row) → IsTask X.grammar task → Holds X p b → Sizes b.world → IsShort (done_for X m p b event call task).reply
     task_short event call Garbled b read holds sizes = refusal_length m sized call.wrapping call.xid (called GARBAGE_ARGS)
     task_short event call (Run arguments c) b read holds sizes =
         let t = served X (site_of p) (sent_of event arguments c) c (begins_at call.level event.moment) b in
-        omega (arith, answer_length m sized call.wrapping call.xid t.answer.result, served_short X owed (site_of p) lattice (spells_shortly p) (sent_of event arguments c) c call.level event.moment b (begins X owed m p lattice call.level event.moment b holds) sizes read.0)
+        omega (arith, answer_length m sized call.wrapping call.xid t.answer.result, served_short X owed (site_of p) lattice (spells_shortly p) (sent_of event arguments c) c call.level event.moment b (begins X owed m p lattice call.level event.moment b holds) sizes (compound_read X.grammar arguments c read))
     task_short event call (MakeContext parent assertion) b read holds sizes =
         let t = on_world (deed_of (make_context parent)) (begins_at call.level event.moment) b in
         made_short call parent assertion t.answer t.state read
     task_short event call (EndContext number) b read holds sizes = bare_length m sized call.wrapping call.xid
 
-    of_short : (event : Event) (r : Request) (b : Both X.Row) → Reads r → Holds X p b → Sizes b.world → IsShort (step_of X m p b event r).reply
+    of_short : (event : Event) (r : Request) (b : Both X.Row) → Reads X.grammar r → Holds X p b → Sizes b.world → IsShort (step_of X m p b event r).reply
     of_short event Silent b read holds sizes = tt
     of_short event (Refused xid w cause) b read holds sizes = refusal_length m sized w xid cause
     of_short event (Nothing xid) b read holds sizes = bare_length m sized Plain xid

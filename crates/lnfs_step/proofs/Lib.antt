@@ -8,6 +8,7 @@ pub mod Steps
 pub mod FirstSizes
 pub mod Wrappings
 pub mod Lengths
+pub mod Accepted
 pub mod Labels
 pub mod Slots
 pub mod Keeping

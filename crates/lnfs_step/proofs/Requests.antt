@@ -35,35 +35,35 @@ null_level : (xid : ℕ) (bytes : List ℕ) → level_in (null_call xid bytes) �
 null_level xid [] = refl
 null_level xid (b ∷ bytes) = refl
 
-abbrev pub IsTask : Task → Type 0
-IsTask Garbled = Unit {0}
-IsTask (Run arguments c) = IsRead c × AllByRecursion OutsideIs c.ops
-IsTask (MakeContext parent assertion) = length assertion.label ≤ MAX_SPELLING
-IsTask (EndContext number) = Unit {0}
+abbrev pub IsTask : Further → Task → Type 0
+IsTask g Garbled = Unit {0}
+IsTask g (Run arguments c) = parse (compound g) arguments ≡ Ok c
+IsTask g (MakeContext parent assertion) = length assertion.label ≤ MAX_SPELLING
+IsTask g (EndContext number) = Unit {0}
 
-abbrev pub Reads : Request → Type 0
-Reads Silent = Unit {0}
-Reads (Refused xid w cause) = Unit {0}
-Reads (Nothing xid) = Unit {0}
-Reads (Asked call task) = IsTask task
-
-null_reads : (xid : ℕ) (bytes : List ℕ) → Reads (null_call xid bytes)
-null_reads xid [] = tt
-null_reads xid (b ∷ bytes) = tt
+abbrev pub Reads : Further → Request → Type 0
+Reads g Silent = Unit {0}
+Reads g (Refused xid w cause) = Unit {0}
+Reads g (Nothing xid) = Unit {0}
+Reads g (Asked call task) = IsTask g task
 
 module _ (g : Further) where
-  as_task : (arguments : List ℕ) (r : Result Compound (List ℕ)) → parse (compound g) arguments ≡ r → IsTask (run_as arguments r)
-  as_task arguments (Ok c) e = (compound_read g arguments c e, compound_outside g arguments c e)
+  null_reads : (xid : ℕ) (bytes : List ℕ) → Reads g (null_call xid bytes)
+  null_reads xid [] = tt
+  null_reads xid (b ∷ bytes) = tt
+
+  as_task : (arguments : List ℕ) (r : Result Compound (List ℕ)) → parse (compound g) arguments ≡ r → IsTask g (run_as arguments r)
+  as_task arguments (Ok c) e = e
   as_task arguments (Err stuck) e = tt
 
-  of_task : (arguments : List ℕ) → IsTask (run_of g arguments)
+  of_task : (arguments : List ℕ) → IsTask g (run_of g arguments)
   of_task arguments = as_task arguments (parse (compound g) arguments) refl
 
-  in_task : (o : Option Body) → IsTask (run_in g o)
+  in_task : (o : Option Body) → IsTask g (run_in g o)
   in_task None = tt
   in_task (Some b) = of_task b.content
 
-  signed_task : (aligned : Bool) (bytes : List ℕ) → IsTask (run_signed g aligned bytes)
+  signed_task : (aligned : Bool) (bytes : List ℕ) → IsTask g (run_signed g aligned bytes)
   signed_task true bytes = in_task (body bytes)
   signed_task false bytes = tt
 
@@ -77,8 +77,8 @@ module _ (g : Further) where
     by_level call (Data level parent number sequence aligned) = refl
     by_level call (Destroy level parent number) = refl
 
-    by_reads : (class : ℕ) (call : CallMessage) → Reads (asked_by g p call (who m p class call))
-    by_reads class call = who_any (λ c. Reads (asked_by g p call c)) p (record {
+    by_reads : (class : ℕ) (call : CallMessage) → Reads g (asked_by g p call (who m p class call))
+    by_reads class call = who_any (λ c. Reads g (asked_by g p call c)) p (record {
       null = null_reads call.xid call.arguments;
       guests = λ level. of_task call.arguments;
       gss = record {
@@ -97,7 +97,7 @@ module _ (g : Further) where
     of_level class (Err (BadProgram xid stat)) = refl
     of_level class (Ok call) = by_level call (who m p class call)
 
-    of_reads : (class : ℕ) (r : Result CallMessage CallError) → Reads (asked_of g m p class r)
+    of_reads : (class : ℕ) (r : Result CallMessage CallError) → Reads g (asked_of g m p class r)
     of_reads class (Err NotACall) = tt
     of_reads class (Err (BadHeader xid)) = tt
     of_reads class (Err (BadVersion xid)) = tt
@@ -108,12 +108,16 @@ module _ (g : Further) where
     unfolding request_with
     request_level class bytes = of_level class (call_of bytes)
 
-    pub request_reads : (class : ℕ) (bytes : List ℕ) → Reads (request_with g m p class bytes)
+    pub request_reads : (class : ℕ) (bytes : List ℕ) → Reads g (request_with g m p class bytes)
     unfolding request_with
     request_reads class bytes = of_reads class (call_of bytes)
 
+    -- a COMPOUND that is asked is what its arguments are read as
+    pub asked_parsed : (event : Event) (call : Call) (arguments : List ℕ) (c : Compound) → request_with g m p event.class event.message ≡ Asked call (Run arguments c) → parse (compound g) arguments ≡ Ok c
+    asked_parsed event call arguments c asked = subst (Reads g) asked (request_reads event.class event.message)
+
     pub asked_read : (event : Event) (call : Call) (arguments : List ℕ) (c : Compound) → request_with g m p event.class event.message ≡ Asked call (Run arguments c) → IsRead c
-    asked_read event call arguments c asked = (subst Reads asked (request_reads event.class event.message)).0
+    asked_read event call arguments c asked = compound_read g arguments c (asked_parsed event call arguments c asked)
 
     pub asked_outside : (event : Event) (call : Call) (arguments : List ℕ) (c : Compound) → request_with g m p event.class event.message ≡ Asked call (Run arguments c) → AllByRecursion OutsideIs c.ops
-    asked_outside event call arguments c asked = (subst Reads asked (request_reads event.class event.message)).1
+    asked_outside event call arguments c asked = compound_outside g arguments c (asked_parsed event call arguments c asked)

@@ -44,11 +44,15 @@ pub record ComesToClient (X : Extra) (m : Signing) (p : Policy) (journal : List 
   pub own : (client_named args.client).level ≡ call.level
   pub record_of : client_at (state_after X m p journal).world.clients (client_named args.client) ≡ Some client
 
--- After a journal an event gets a result, wrapped as its own call asks; the world stays, with the rows of further operations,
--- and nothing is refused.
-pub record IsAnswered (X : Extra) (m : Signing) (p : Policy) (journal : List Event) (event : Event) (call : Call) (result : List ℕ) : Type 0 where
+-- After a journal an event gets a result, wrapped as its own call asks, and the world stays, with the rows of further
+-- operations.
+pub record IsGiven (X : Extra) (m : Signing) (p : Policy) (journal : List Event) (event : Event) (call : Call) (result : List ℕ) : Type 0 where
   pub reply : reply_with X m p journal event ≡ Some (answer_text m call.wrapping call.xid result)
   pub state : state_after X m p (journal ++ event ∷ []) ≡ state_after X m p journal
+
+-- An event that is given a result is refused nothing.
+pub record IsAnswered (X : Extra) (m : Signing) (p : Policy) (journal : List Event) (event : Event) (call : Call) (result : List ℕ) : Type 0 where
+  pub given : IsGiven X m p journal event call result
   pub line : line_with X m p journal event ≡ None
 
 -- An event of a journal asked these arguments at a level, and got this result, however it was wrapped.

@@ -22,7 +22,7 @@ pub retried : (X : Extra) (m : Signing) (old new : Kept) (event : Event) (call :
     new.policy ≡ old.policy → new.journal ≡ old.journal ++ event ∷ [] → HasOrigin X m old.policy old.journal call.level (record { arguments = arguments; reply = first }) → IsAnswered X m old.policy old.journal event call first → IsRetried X m old new call arguments first served
 retried X m old new event call arguments first served reply line policy journal origin answered = record {
   origin = origin;
-  reply = reply ∙ answered.reply;
+  reply = reply ∙ answered.given.reply;
   line = no_line (length old.journal + 1) (line_with X m old.policy old.journal event) served.line line answered.line;
-  state = (λ i. state_after X m (policy i) (journal i)) ∙ answered.state;
+  state = (λ i. state_after X m (policy i) (journal i)) ∙ answered.given.state;
 }

@@ -87,7 +87,7 @@ returns-clause-retry g c = λ call arguments compound args x slot first comes sa
     (ap (λ (k : Kept). k.policy) c.self.view_is)
     (c.in_ok-served.ensures.ok ∙ ap (λ (k : Kept). k.journal ++ c.args.event ∷ []) c.self.view_is)
     (subst (λ l. HasOrigin X m old.policy old.journal l kept) names.own origin)
-    (c.sessions.ensures.retry old.policy old.journal c.args.event call arguments compound args x slot first comes same)
+    (c.sessions.ensures.retry old.policy lattice old.journal c.args.event call arguments compound args x slot first comes same)
 
 pub returns-clause-created : goal.returns-clause-created
 returns-clause-created g c = λ call arguments compound args client first comes last kept.
