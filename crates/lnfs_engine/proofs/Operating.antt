@@ -9,7 +9,7 @@ use Rattle.lnfs_world.specs.Outcome.{Site, Place}
 use Rattle.lnfs_world.specs.Lawful.{Turn, Deed, deed_of}
 use Rattle.lnfs_world.specs.Both.{Both, both, on_world}
 use Rattle.lnfs_operations.specs.Chain.{Refusal}
-use Rattle.lnfs_operations.specs.Extra.{Extra}
+use Rattle.lnfs_operations.specs.Extra.{Extra, further_deed}
 use Rattle.lnfs_operations.specs.Sequence.{Sent}
 use Rattle.lnfs_operations.specs.Admission.{admission}
 use Rattle.lnfs_operations.specs.Served.{Reply, failure, row, further_reply, row_in, admitted, operation}
@@ -30,14 +30,14 @@ is_other false x y f is = refl
 module _ (X : Extra) (site : Site) (sent : Sent) where
   -- one of the table
   pub own_row : (o : Op) (p : Place) (b : Both X.Row) → None ≡ further_in X.grammar o → row_in X site sent o p b ≡ on_world (deed_of (row site sent o)) p b
-  own_row (ops.Extra number arguments) p b is = ap (λ (deed : Deed Reply (Both X.Row)). deed p b) (is_other (X.grammar.serves number) (further_reply number (X.outcome site number arguments)) (on_world (deed_of (row site sent (ops.Extra number arguments)))) (number, arguments) is)
+  own_row (ops.Extra number arguments) p b is = ap (λ (deed : Deed Reply (Both X.Row)). deed p b) (is_other (X.grammar.serves number) (further_reply number (further_deed X site number arguments)) (on_world (deed_of (row site sent (ops.Extra number arguments)))) (number, arguments) is)
   own_row o p b is = refl
 
   -- a further one
-  pub further_row : (o : Op) (n : ℕ) (args : List ℕ) (p : Place) (b : Both X.Row) → Some (n, args) ≡ further_in X.grammar o → row_in X site sent o p b ≡ further_reply n (X.outcome site n args) p b
+  pub further_row : (o : Op) (n : ℕ) (args : List ℕ) (p : Place) (b : Both X.Row) → Some (n, args) ≡ further_in X.grammar o → row_in X site sent o p b ≡ further_reply n (further_deed X site n args) p b
   further_row (ops.Extra number arguments) n args p b is =
-      let f = is_first (X.grammar.serves number) (further_reply number (X.outcome site number arguments)) (on_world (deed_of (row site sent (ops.Extra number arguments)))) (number, arguments) (n, args) is in
-      ap (λ (deed : Deed Reply (Both X.Row)). deed p b) f.0 ∙ ap (λ (told : ℕ × List ℕ). further_reply told.0 (X.outcome site told.0 told.1) p b) f.1
+      let f = is_first (X.grammar.serves number) (further_reply number (further_deed X site number arguments)) (on_world (deed_of (row site sent (ops.Extra number arguments)))) (number, arguments) (n, args) is in
+      ap (λ (deed : Deed Reply (Both X.Row)). deed p b) f.0 ∙ ap (λ (told : ℕ × List ℕ). further_reply told.0 (further_deed X site told.0 told.1) p b) f.1
   further_row o n args p b is = absurd (cc)
 
   module _ (c : Compound) (so_far : List OpResult) (op : Op) (p : Place) (b : Both X.Row) where

@@ -11,7 +11,6 @@ use Rattle.lnfs_engine.specs.declared.reply.Came.{Came}
 use Rattle.lnfs_engine.specs.Places.{keeper_of, Stands}
 use Rattle.lnfs_engine.specs.Replies.{Says}
 use Rattle.lnfs_engine.specs.Performs.{Performs}
-use Rattle.lnfs_engine.specs.Further.{further_turn}
 use Rattle.lnfs_engine.proofs.Acting.{first_nowhere}
 
 -- at a place with other file handles
@@ -20,11 +19,13 @@ with_handles p current saved sessions keepers.Nowhere stands = record { client =
 with_handles p current saved sessions (keepers.Client client) stands = record { own = stands.own; outside = record { client = stands.outside.client; session = stands.outside.session } }
 with_handles p current saved sessions (keepers.Session s) stands = record { level = stands.level; client_level = stands.client_level; client = stands.client; session = stands.session; room = stands.room }
 
-pub stays : (p q : Place) (before after : List Session) (keeper : code.Keeper) → after ≡ before → q ≡ record p { current = q.current; saved = q.saved } → Stands p before keeper → Stands q after keeper
-stays p q before after keeper same moved stands =
-    subst (λ r. Stands r after keeper) (sym moved) (with_handles p q.current q.saved after keeper (subst (λ s. Stands p s keeper) (sym same) stands))
+pub stays : (p : Place) (current saved : Option Id) (before after : List Session) (keeper : code.Keeper) → after ≡ before → Stands p before keeper → Stands (record p { current = current; saved = saved }) after keeper
+stays p current saved before after keeper same stands = with_handles p current saved after keeper (subst (λ s. Stands p s keeper) (sym same) stands)
 
 -- one whose outcome is told
+abbrev pub further_turn : {S : Type 0} → Said → Place → S → Turn Said S
+further_turn said place state = record { answer = said; place = place; state = state }
+
 pub further_performs : {S : Type 0} (begin : ℕ) (old new : List ℕ) (keeper : code.Keeper) (number : ℕ) (said : Said) (next : Place) (after : S) (outcome : Turn Said S) (came : Came) → further_turn said next after ≡ outcome → Says begin old new (said_reply number said) came →
     Performs begin old new keeper keeper next after (record { answer = said_reply number outcome.answer; place = outcome.place; state = outcome.state }) came
 further_performs {S = S} begin old new keeper number said next after outcome came is says =

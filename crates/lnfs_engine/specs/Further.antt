@@ -1,17 +1,27 @@
 -- What the code says of a further operation that ran.
 use Rattle.std.specs.Prelude.{ℕ, List, option_map}
-use Rattle.lnfs_world.specs.Outcome.{Place}
-use Rattle.lnfs_world.specs.Lawful.{Turn}
-use Rattle.lnfs_operations.specs.Extra.{Said}
+use Rattle.lnfs_operations.specs.Extra.{Said, After}
+use Rattle.lnfs_operations.specs.Extra as operations
+use Rattle.lnfs_tree.specs.Rows.{id_of}
 use Rattle.lnfs_engine.specs.declared.extra.ExtraRan.{ExtraRan}
+use Rattle.lnfs_engine.specs.declared.extra.Spot.{Spot}
 use Rattle.lnfs_engine.specs.declared.further.Asked.{Asked}
 use Rattle.lnfs_nodes.specs.Trees.{refusal_of}
 
 abbrev pub said_of : ExtraRan → Said
 said_of ran = record { refusal = option_map refusal_of ran.refusal; bytes = ran.bytes }
 
-abbrev pub further_turn : {S : Type 0} → Said → Place → S → Turn Said S
-further_turn said place state = record { answer = said; place = place; state = state }
+abbrev pub spot_of : Spot → operations.Spot
+spot_of at = record {
+  subject = at.subject.0;
+  moment = at.moment;
+  client = at.client;
+  current = option_map id_of at.current;
+  saved = option_map id_of at.saved;
+}
+
+abbrev pub after_of : {S : Type 0} → ExtraRan → Spot → S → After S
+after_of ran at state = record { said = said_of ran; current = option_map id_of at.current; saved = option_map id_of at.saved; state = state }
 
 -- the number and the arguments
 abbrev pub asked_of : Asked → ℕ × List ℕ

@@ -1,20 +1,22 @@
 //! Operations beside those of the table.
-ghost use Rattle.std.specs.Prelude.{◌≡◌, IfOk, option_map};
+ghost use Rattle.std.specs.Prelude.{◌≡◌, IfOk};
 ghost use Rattle.lnfs_policy.specs.Policy.{dominance};
-ghost use Rattle.lnfs_world.specs.Both.{Both, both, BothStand};
-ghost use Rattle.lnfs_world.specs.Lawful.{Turn};
+ghost use Rattle.lnfs_world.specs.Both.{both, BothStand};
 ghost use Rattle.lnfs_site.specs.Site.{site_of};
-ghost use Rattle.lnfs_operations.specs.Extra.{Said};
-ghost use Rattle.lnfs_engine.specs.Places.{place_of};
-ghost use Rattle.lnfs_engine.specs.Further.{said_of, further_turn};
+ghost use Rattle.lnfs_nodes.specs.Acts.{placed};
+ghost use Rattle.lnfs_operations.specs.Extra.{place_at};
+ghost use Rattle.lnfs_engine.specs.Further.{spot_of, after_of};
 
-use crate::place::Place;
 use crate::store::Store;
 use lnfs_arguments::statuses::NFS4ERR_NOTSUPP;
 use lnfs_arguments::{ExtraGrammar, NoExtraGrammar};
+use lnfs_calipso::Level;
 use lnfs_lists::Octets;
+use lnfs_nodes::Caller;
 use lnfs_operations::{ExtraRows, Gate, Refusal};
+use lnfs_outside::Moment;
 use lnfs_site::Site;
+use lnfs_tree::NodeId;
 use lnfs_xdr::XdrError;
 use std::alloc::{AllocError, Global};
 
@@ -25,21 +27,47 @@ pub struct ExtraRan {
     pub bytes: Octets,
 }
 
+/// Where a further operation stands: the site, with its lattice and its mode; who asks, and when; the client under which it
+/// came, a number of the subject's level; and the two file handles (RFC 8881 section 16.2.3.1). It may set the file handles:
+/// nothing else is read of it afterwards.
+#[derive(Clone, Copy)]
+pub struct Spot<'a> {
+    pub site: &'a Site<'a>,
+    pub subject: Level,
+    pub moment: Moment,
+    pub client: Option<u32>,
+    pub current: Option<NodeId>,
+    pub saved: Option<NodeId>,
+}
+
+impl<'a> Spot<'a> {
+    /// Who calls, as the operations of the table are told it.
+    pub fn caller(&self) -> Caller
+        ensures { placed (place_at (spot_of self.now)) result ≡ place_at (spot_of self.now) }
+    {
+        Caller {
+            subject: self.subject,
+            moment: self.moment,
+            current: self.current,
+            saved: self.saved,
+        }
+    }
+}
+
 /// What serves operations beside those of the table.
 pub trait Extra: ExtraRows + ExtraGrammar + Drop {
-    /// Runs one by its number and its arguments: what it answers and leaves is its outcome at that place.
+    /// Runs one by its number and its arguments: what it answers and leaves is its outcome there.
     fn run(
         &mut self,
         alloc: Global,
-        site: &Site<'_>,
         store: &mut Store,
-        at: &mut Place,
+        at: &mut Spot<'_>,
         number: u32,
         args: &[u8],
     ) -> Result<ExtraRan, AllocError>
-        requires stands { BothStand Self.extra.Fact (dominance site.now) (place_of at.old) (both store.old (Self.rows self.old)) }
-        ensures turn { IfOk result (λ ran. further_turn (said_of ran) (place_of at.new) (both store.new (Self.rows self.new))
-            ≡ Self.extra.outcome (site_of site.now) number args.now (place_of at.old) (both store.old (Self.rows self.old))) };
+        requires stands { BothStand Self.extra.Fact (dominance at.old.site.now) (place_at (spot_of at.old)) (both store.old (Self.rows self.old)) }
+        ensures outcome { IfOk result (λ ran. after_of ran at.new (both store.new (Self.rows self.new))
+            ≡ Self.extra.outcome (site_of at.old.site.now) number args.now (spot_of at.old) (both store.old (Self.rows self.old))) };
 
     /// The grammar by which they are read is the one of their definition.
     ghost same_grammar: { Self.grammar ≡ Self.extra.grammar };
@@ -88,9 +116,8 @@ impl Extra for NoExtra {
     fn run(
         &mut self,
         alloc: Global,
-        _site: &Site<'_>,
         _store: &mut Store,
-        _at: &mut Place,
+        _at: &mut Spot<'_>,
         _number: u32,
         _args: &[u8],
     ) -> Result<ExtraRan, AllocError> {

@@ -2,20 +2,23 @@
 ghost use Rattle.std.specs.Prelude.{◌≡◌, ℕ, List, IfOk, option_map};
 ghost use Rattle.lnfs_world.specs.World.{Session};
 ghost use Rattle.lnfs_world.specs.Both.{both, BothStand};
+ghost use Rattle.lnfs_operations.specs.Extra as operations;
+ghost use Rattle.lnfs_operations.specs.Extra.{further_deed};
 ghost use Rattle.lnfs_operations.specs.Served.{said_reply, further_reply};
 ghost use Rattle.lnfs_engine.specs.declared.place.Keeper.{Keeper};
 ghost use Rattle.lnfs_engine.specs.Places.{place_of, further_in, Stands};
 ghost use Rattle.lnfs_engine.specs.Replies.{Says};
 ghost use Rattle.lnfs_engine.specs.Performs.{site_in, Performs};
-ghost use Rattle.lnfs_engine.specs.Further.{said_of, asked_of};
+ghost use Rattle.lnfs_engine.specs.Further.{said_of, spot_of, asked_of};
 
-use crate::extra::{Extra, ExtraRan};
+use crate::extra::{Extra, ExtraRan, Spot};
 use crate::place::{Place, Request};
 use crate::reply::{Came, append};
 use crate::store::Store;
 use lnfs_arguments::statuses::NFS4_OK;
 use lnfs_arguments::{ExtraGrammar, Op};
 use lnfs_results::OpResult;
+use lnfs_site::Site;
 use lnfs_xdr::XdrWriter;
 use std::alloc::AllocError;
 
@@ -62,7 +65,22 @@ fn tell(out: &mut XdrWriter, number: u32, ran: ExtraRan) -> Result<Came, AllocEr
     }
 }
 
-/// Runs a further operation, and appends its result.
+/// Where a further operation stands.
+fn spot_at<'a>(site: &'a Site<'a>, place: &Place) -> Spot<'a>
+    ensures site { result.site.now ≡ site.now }
+    ensures spot { spot_of result ≡ operations.spot_of (place_of place.now) }
+{
+    Spot {
+        site,
+        subject: place.subject,
+        moment: place.moment,
+        client: place.client,
+        current: place.current,
+        saved: place.saved,
+    }
+}
+
+/// Runs a further operation, and appends its result. Its place keeps all but the file handles.
 pub fn further<X: Extra>(
     request: &Request<'_>,
     store: &mut Store,
@@ -74,18 +92,14 @@ pub fn further<X: Extra>(
     requires facts { BothStand X.extra.Fact (site_in request.now).dom (place_of place.old) (both store.old (X.rows extra.old)) }
     ensures performs { IfOk result (λ came. (keeper : Keeper) →
         Performs request.now.begin out.old out.new keeper keeper (place_of place.new) (both store.new (X.rows extra.new))
-        (further_reply asked.now.number (X.extra.outcome (site_in request.now) asked.now.number asked.now.args.now) (place_of place.old) (both store.old (X.rows extra.old))) came) }
+        (further_reply asked.now.number (further_deed X.extra (site_in request.now) asked.now.number asked.now.args.now) (place_of place.old) (both store.old (X.rows extra.old))) came) }
     // It leaves the sessions, and the place in them.
     ensures stands { IfOk result (λ came. (keeper : Keeper) → Stands (place_of place.old) store.old.sessions keeper → Stands (place_of place.new) store.new.sessions keeper) }
 {
     request.site.policy().is_preordered();
-    let ran = extra.run(
-        request.alloc,
-        request.site,
-        store,
-        place,
-        asked.number,
-        asked.args,
-    )?;
+    let mut at = spot_at(request.site, place);
+    let ran = extra.run(request.alloc, store, &mut at, asked.number, asked.args)?;
+    place.current = at.current;
+    place.saved = at.saved;
     tell(out, asked.number, ran)
 }

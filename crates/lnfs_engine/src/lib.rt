@@ -25,8 +25,7 @@ mod sessions;
 mod store;
 
 pub use engine::{Engine, Ran};
-pub use extra::{Extra, ExtraRan, NoExtra};
-pub use place::Place;
+pub use extra::{Extra, ExtraRan, NoExtra, Spot};
 pub use room::room_of;
 pub use run::Denial;
 pub use store::Store;

@@ -2,6 +2,10 @@
 ghost use Rattle.std.specs.Prelude.{◌≡◌, IfOk};
 ghost use Rattle.std.specs.List.{AllByRecursion};
 ghost use Rattle.lnfs_world.specs.Usage.{bytes_of};
+ghost use Rattle.lnfs_quota.specs.Totals.{AreTotals};
+ghost use Rattle.lnfs_session.specs.Standing as sessions;
+ghost use Rattle.lnfs_tree.specs.Rows.{rows_of};
+ghost use Rattle.lnfs_open.specs.Lists as opens;
 ghost use Rattle.lnfs_gss3.specs.Contexts.{has_context, ended};
 ghost use Rattle.lnfs_engine.specs.Stores.{only_tree};
 ghost use Rattle.lnfs_engine.specs.Contexts.{MakesContext, without_context};
@@ -58,6 +62,34 @@ impl Store {
             contexts: Contexts::new(alloc),
             quota,
         })
+    }
+
+    /// The clients with their sessions.
+    pub fn clients(&self) -> &Clients
+        ensures { result.now ≡ sessions.lists_of self.now }
+    {
+        &self.clients
+    }
+
+    /// The nodes with their names.
+    pub fn tree(&self) -> &Tree
+        ensures { result.now ≡ rows_of self.now }
+    {
+        &self.tree
+    }
+
+    /// The opens.
+    pub fn opens(&self) -> &Opens
+        ensures { result.now ≡ opens.lists_of self.now }
+    {
+        &self.opens
+    }
+
+    /// What each level uses.
+    pub fn quota(&self) -> &Quota
+        ensures { AreTotals result.now self.now.nodes }
+    {
+        &self.quota
     }
 
     /// Whether a level has a context of a number under a parent.

@@ -26,7 +26,7 @@ use Rattle.lnfs_operations.specs.ExchangeId.{Told}
 use Rattle.lnfs_operations.specs.CreateSession.{Created, create_session}
 use Rattle.lnfs_operations.specs.DestroyClientId.{is_busy}
 use Rattle.lnfs_operations.specs.Sequence.{Sent, Sequenced, New, Again, in_session}
-use Rattle.lnfs_operations.specs.Extra.{Extra, AreLawful, Said}
+use Rattle.lnfs_operations.specs.Extra.{Extra, AreLawful, Said, further_deed}
 use Rattle.lnfs_operations.specs.Results.{failed, told_result, server_name, status_said}
 use Rattle.lnfs_operations.specs.Admission.{admission}
 use Rattle.lnfs_operations.specs.Served.{Keeper, Nowhere, Reply, Own, Kept, success, failure, told_reply, created_reply, created_keeper, sequence_reply, reply_of, under, said_reply, further_reply, row, row_in, admitted, operation}
@@ -168,8 +168,8 @@ module _ (X : Extra) (owed : AreLawful X) (site : Site) (lattice : IsPreorderWit
       at None = said_short number (status_said said.refusal) said.bytes (X.grammar.bound number arguments) within
       at (Some why) = said_short number (status_said said.refusal) said.bytes (X.grammar.bound number arguments) within
 
-  extra_bounded : (serves : Bool) (number : ℕ) (arguments : List ℕ) → IsBounded X.grammar (ops.Extra number arguments) (cond serves (further_reply number (X.outcome site number arguments)) (on_world (deed_of (row site sent (ops.Extra number arguments)))) p b).answer
-  extra_bounded true number arguments = said_bounded number arguments (X.outcome site number arguments p b).answer (owed.tame site lattice number arguments p b stands).bound
+  extra_bounded : (serves : Bool) (number : ℕ) (arguments : List ℕ) → IsBounded X.grammar (ops.Extra number arguments) (cond serves (further_reply number (further_deed X site number arguments)) (on_world (deed_of (row site sent (ops.Extra number arguments)))) p b).answer
+  extra_bounded true number arguments = said_bounded number arguments (further_deed X site number arguments p b).answer (owed.tame site lattice number arguments p b stands).bound
   extra_bounded false number arguments = row_bounded X.grammar site spells sent p b.world sizes (ops.Extra number arguments) (has_room (ops.Extra number arguments))
 
   row_in_bounded : (op : Op) → IsBounded X.grammar op (row_in X site sent op p b).answer

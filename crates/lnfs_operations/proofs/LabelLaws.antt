@@ -15,7 +15,7 @@ use Rattle.lnfs_world.specs.Tame.{Tame}
 use Rattle.lnfs_world.proofs.Labels.{Raised, given_later, raised_itself, raised_through, act_raised}
 use Rattle.lnfs_operations.specs.declared.Gate.TheVariants as gates
 use Rattle.lnfs_operations.specs.Sequence.{Sent}
-use Rattle.lnfs_operations.specs.Extra.{Untouched, Extra, AreLawful}
+use Rattle.lnfs_operations.specs.Extra.{Untouched, Extra, AreLawful, further_deed}
 use Rattle.lnfs_operations.specs.Admission.{admission}
 use Rattle.lnfs_operations.specs.Served.{Reply, Nowhere, row, row_in, further_reply, operation}
 use Rattle.lnfs_operations.specs.SlotRule.{run_behind, run_all, result_of, keep_in, served}
@@ -47,7 +47,7 @@ module _ (X : Extra) (owed : AreLawful X) (site : Site) (lattice : IsPreorderWit
   row_in_raised : (op : Op) (p : Place) (b : Both X.Row) → BothStand X.Fact site.dom p b → Rise b (row_in X site sent op p b).state
   row_in_raised (ops.Extra number arguments) p b stands =
       let tame = owed.tame site lattice number arguments p b stands in
-      chosen_raised (X.grammar.serves number) (further_reply number (X.outcome site number arguments)) (on_world (deed_of (row site sent (ops.Extra number arguments)))) p b
+      chosen_raised (X.grammar.serves number) (further_reply number (further_deed X site number arguments)) (on_world (deed_of (row site sent (ops.Extra number arguments)))) p b
       (untouched_raised site.dom lattice b.world _ tame.untouched tame.tame) (table_raised (ops.Extra number arguments) p b stands)
   row_in_raised op p b stands = table_raised op p b stands
 

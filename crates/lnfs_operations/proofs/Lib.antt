@@ -39,6 +39,7 @@ pub mod ShortChanges
 pub mod ServedLaws
 pub mod SlotRules
 pub mod NoExtra
+pub mod Spots
 pub mod Retries
 pub mod Once
 pub mod CreatedOnce

@@ -23,7 +23,7 @@ use Rattle.lnfs_operations.specs.Identifiers.{session_named, session_under}
 use Rattle.lnfs_operations.specs.Keeping.{next_sequence, with_slot, kept_in, kept_under, keep_result}
 use Rattle.lnfs_operations.specs.Sequence.{Sent, Sequenced, New, in_session, sequence}
 use Rattle.lnfs_operations.specs.ReclaimComplete.{client_under, reclaimed, reclaim_complete}
-use Rattle.lnfs_operations.specs.Extra.{Extra, AreLawful}
+use Rattle.lnfs_operations.specs.Extra.{Extra, AreLawful, further_deed}
 use Rattle.lnfs_operations.specs.Admission.{admission}
 use Rattle.lnfs_operations.specs.Served.{Reply, row, row_in, further_reply, admitted, operation}
 use Rattle.lnfs_operations.specs.SlotRule.{run_behind, kept_after, served}
@@ -63,13 +63,13 @@ module _ (X : Extra) (owed : AreLawful X) (site : Site) (lattice : IsPreorderWit
   abbrev Stays : Place → Both X.Row → Place → Both X.Row → Type 0
   Stays p b q v = (v.world.sessions ≡ b.world.sessions) × (q.session ≡ p.session)
 
-  further_stays : (number : ℕ) (arguments : List ℕ) (p : Place) (b : Both X.Row) → BothStand X.Fact site.dom p b → Stays p b (X.outcome site number arguments p b).place (X.outcome site number arguments p b).state
+  further_stays : (number : ℕ) (arguments : List ℕ) (p : Place) (b : Both X.Row) → BothStand X.Fact site.dom p b → Stays p b (further_deed X site number arguments p b).place (further_deed X site number arguments p b).state
   further_stays number arguments p b stands =
       let tame = owed.tame site lattice number arguments p b stands in
-      (tame.untouched.sessions, ap (λ (q : Place). q.session) tame.moved.rest)
+      (tame.untouched.sessions, refl)
 
   extra_stays : (serves : Bool) (number : ℕ) (arguments : List ℕ) (p : Place) (b : Both X.Row) → BothStand X.Fact site.dom p b →
-      let t = cond serves (further_reply number (X.outcome site number arguments)) (on_world (deed_of (row site sent (ops.Extra number arguments)))) p b in
+      let t = cond serves (further_reply number (further_deed X site number arguments)) (on_world (deed_of (row site sent (ops.Extra number arguments)))) p b in
       Stays p b t.place t.state
   extra_stays true number arguments p b stands = further_stays number arguments p b stands
   extra_stays false number arguments p b stands = (refl, refl)

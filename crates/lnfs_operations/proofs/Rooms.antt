@@ -25,7 +25,7 @@ use Rattle.lnfs_operations.specs.Chain.{Refusal, done}
 use Rattle.lnfs_operations.specs.Identifiers.{session_named, session_under}
 use Rattle.lnfs_operations.specs.Keeping.{next_sequence}
 use Rattle.lnfs_operations.specs.Sequence.{Sent, New, in_session}
-use Rattle.lnfs_operations.specs.Extra.{Extra, AreLawful}
+use Rattle.lnfs_operations.specs.Extra.{Extra, AreLawful, further_deed}
 use Rattle.lnfs_operations.specs.Results.{failed, status_said}
 use Rattle.lnfs_operations.specs.Admission.{used, fits, unless, session_behind, room_refusal}
 use Rattle.lnfs_operations.specs.Served.{Keeper, Nowhere, Slot, Record, Reply, Own, Kept, success, failure, reply_of, further_reply, row, row_in, admitted, where_admitted, operation}
@@ -111,11 +111,11 @@ module _ (c : Compound) (most : ℕ) where
         (roomy rs op p b t (op_bound X.grammar op) x is before good (nat_le (RESERVED_ROOM + used c rs + op_bound X.grammar op) x.channel.max_response) refl)
 
     extra_good : (serves : Bool) (r : OpResult) (rs : List OpResult) (number : ℕ) (arguments : List ℕ) (p : Place) (b : Both X.Row) → BothStand X.Fact site.dom p b → In p b → RESERVED_ROOM + used c (r ∷ rs) ≤ most →
-        let own = cond serves (further_reply number (X.outcome site number arguments)) (on_world (deed_of (row site sent (ops.Extra number arguments)))) in
+        let own = cond serves (further_reply number (further_deed X site number arguments)) (on_world (deed_of (row site sent (ops.Extra number arguments)))) in
         Good (r ∷ rs) (where_admitted X c (r ∷ rs) (ops.Extra number arguments) own p b).answer
     extra_good true r rs number arguments p b stands inside before =
-        behind_room (r ∷ rs) (ops.Extra number arguments) p b (further_reply number (X.outcome site number arguments) p b) inside before (λ room.
-        let said = (X.outcome site number arguments p b).answer in
+        behind_room (r ∷ rs) (ops.Extra number arguments) p b (further_reply number (further_deed X site number arguments) p b) inside before (λ room.
+        let said = (further_deed X site number arguments p b).answer in
         let tame = owed.tame site lattice number arguments p b stands in
         by_good (r ∷ rs) (results.Extra number (status_said said.refusal) said.bytes) said.refusal (omega (arith, room, said_short number (status_said said.refusal) said.bytes (X.grammar.bound number arguments) tame.bound)))
     extra_good false r rs number arguments p b stands inside before =

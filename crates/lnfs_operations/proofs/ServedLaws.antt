@@ -25,7 +25,7 @@ use Rattle.lnfs_operations.specs.Identifiers.{client_named}
 use Rattle.lnfs_operations.specs.CreateSession.{is_next_of}
 use Rattle.lnfs_operations.specs.Sequence.{Sent}
 use Rattle.lnfs_operations.specs.Close.{closed}
-use Rattle.lnfs_operations.specs.Extra.{Said, Extra, AreLawful}
+use Rattle.lnfs_operations.specs.Extra.{Said, Extra, AreLawful, further_deed}
 use Rattle.lnfs_operations.specs.Admission.{unless, used, fits, session_behind, or_else, place_refusal, admission}
 use Rattle.lnfs_operations.specs.Served.{Record, Nowhere, Reply, success, created_reply, sequence_reply, told_reply, replied, under, created_keeper, create_session_in, plainly, zeros, opened_reply, row, said_reply, further_reply, row_in, admitted, operation}
 use Rattle.lnfs_operations.proofs.Chains.{seen_view, unchanged_footprint}
@@ -198,8 +198,8 @@ module _ (X : Extra) (owed : AreLawful X) (site : Site) (lattice : IsPreorderWit
 
   row_in_lawful : (op : Op) → Lawful site.dom (both_seen X.level_of site.dom) (BothStand X.Fact site.dom) (row_in X site sent op)
   row_in_lawful (ops.Extra number arguments) =
-      chosen_lawful site.dom (both_seen X.level_of site.dom) (BothStand X.Fact site.dom) (X.grammar.serves number) (further_reply number (X.outcome site number arguments)) (on_world (deed_of (row site sent (ops.Extra number arguments))))
-      (further_lawful site.dom (both_seen X.level_of site.dom) (BothStand X.Fact site.dom) number (X.outcome site number arguments) (owed.laws site lattice number arguments))
+      chosen_lawful site.dom (both_seen X.level_of site.dom) (BothStand X.Fact site.dom) (X.grammar.serves number) (further_reply number (further_deed X site number arguments)) (on_world (deed_of (row site sent (ops.Extra number arguments))))
+      (further_lawful site.dom (both_seen X.level_of site.dom) (BothStand X.Fact site.dom) number (further_deed X site number arguments) (owed.laws site lattice number arguments))
       (table_lawful (ops.Extra number arguments))
   row_in_lawful op = table_lawful op
 

@@ -27,7 +27,7 @@ use Rattle.lnfs_operations.specs.CreateSession.{create_session, is_large_enough,
 use Rattle.lnfs_operations.specs.DestroyClientId.{destroy_clientid, is_busy}
 use Rattle.lnfs_operations.specs.DestroySession.{destroy_session}
 use Rattle.lnfs_operations.specs.ExchangeId.{Arguments, exchange_id, is_pending, dropped}
-use Rattle.lnfs_operations.specs.Extra.{Extra, AreLawful}
+use Rattle.lnfs_operations.specs.Extra.{Extra, AreLawful, further_deed}
 use Rattle.lnfs_operations.specs.Identifiers.{client_named, session_named, session_under}
 use Rattle.lnfs_operations.specs.Keeping.{next_sequence, with_slot, kept_in, kept_under, kept_of}
 use Rattle.lnfs_operations.specs.ReclaimComplete.{client_under, reclaimed}
@@ -220,7 +220,7 @@ module _ (site : Site) (W : Walk (SpellsShortly site)) (sent : Sent) where
     row_in_left : (op : Op) (p : Place) (b : Both X.Row) → BothStand X.Fact site.dom p b → W.Holds b.world → W.Holds (row_in X site sent op p b).state.world
     row_in_left (ops.Extra number arguments) p b stands holds =
         let tame = owed.tame site lattice number arguments p b stands in
-        chosen_left (X.grammar.serves number) (further_reply number (X.outcome site number arguments)) (on_world (deed_of (row site sent (ops.Extra number arguments)))) p b
+        chosen_left (X.grammar.serves number) (further_reply number (further_deed X site number arguments)) (on_world (deed_of (row site sent (ops.Extra number arguments)))) p b
         (beside W b.world _ holds tame.untouched.sessions tame.untouched.clients (λ spells. tame.sizes)) holds
     row_in_left op p b stands holds = row_left p b.world holds op
 

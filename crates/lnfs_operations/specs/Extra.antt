@@ -1,6 +1,7 @@
 -- Further operations beside those of the table, and what they owe.
 use Rattle.std.specs.Prelude.{◌≡◌, ◌≢◌, ◌≤◌, ◌+◌, ◌⊎◌, ℕ, Bool, true, false, List, [], length, Option, Some, None, is_some}
 use Rattle.std.specs.List.{AllByRecursion}
+use Rattle.lnfs_outside.specs.declared.event.Moment.{Moment}
 use Rattle.lnfs_calipso.specs.Label.{IsPreorderWithBottom}
 use Rattle.lnfs_arguments.specs.declared.statuses.TheConstants.{NFS4ERR_NOTSUPP}
 use Rattle.lnfs_arguments.specs.Further.{Further, nothing_further}
@@ -18,13 +19,46 @@ pub record Said : Type 0 where
   pub refusal : Option Refusal
   pub bytes : List ℕ
 
+-- Where a further operation stands, and all that it may look at of its place: who asks, and when; the client under which it
+-- came, a number of the subject's level; and the two file handles. In which session it came isn't told.
+pub record Spot : Type 0 where
+  pub subject : ℕ
+  pub moment : Moment
+  pub client : Option ℕ
+  pub current : Option Id
+  pub saved : Option Id
+
+-- What it comes to: what it says, and the two file handles and the state afterwards. All else of its place stays.
+pub record After (S : Type 0) : Type 0 where
+  pub said : Said
+  pub current : Option Id
+  pub saved : Option Id
+  pub state : S
+
 -- Rows of a level each, the outcome of an operation by its number and its arguments, and a fact.
 pub record Extra : Type 1 where
   pub grammar : Further
   pub Row : Type 0
   pub level_of : Row → ℕ
-  pub outcome : Site → (number : ℕ) (arguments : List ℕ) → Deed Said (Both Row)
+  pub outcome : Site → (number : ℕ) (arguments : List ℕ) → Spot → Both Row → After (Both Row)
   pub Fact : World → List Row → Type 0
+
+-- ---- at a place of a COMPOUND
+
+abbrev pub spot_of : Place → Spot
+spot_of p = record { subject = p.subject; moment = p.moment; client = p.client; current = p.current; saved = p.saved }
+
+-- a place there, in no session
+abbrev pub place_at : Spot → Place
+place_at at = record { subject = at.subject; moment = at.moment; client = at.client; session = None; current = at.current; saved = at.saved }
+
+abbrev pub turned : {S : Type 0} → Place → After S → Turn Said S
+turned p after = record { answer = after.said; place = record p { current = after.current; saved = after.saved }; state = after.state }
+
+abbrev pub further_deed : (X : Extra) → Site → (number : ℕ) (arguments : List ℕ) → Deed Said (Both X.Row)
+further_deed X site number arguments p a = turned p (X.outcome site number arguments (spot_of p) a)
+
+-- ---- what is owed
 
 -- What stays of a world: clients, sessions and contexts, their last numbers, and each label. A new node has an
 -- identifier that wasn't given before.
@@ -43,9 +77,8 @@ abbrev pub MayBecome : (ℕ → ℕ → Bool) → ℕ → World → Option Id �
 MayBecome dom s w before after =
     (after ≡ before) ⊎ ((i : Id) × (after ≡ Some i) × (dom s i.level ≡ true) × (is_some (label_at w.nodes i) ≡ true))
 
--- only the file handles of a place change
+-- what the file handles of a place become
 pub record IsMoved (dom : ℕ → ℕ → Bool) (w : World) (p q : Place) : Type 0 where
-  pub rest : q ≡ record p { current = q.current; saved = q.saved }
   pub current : MayBecome dom p.subject w p.current q.current
   pub saved : MayBecome dom p.subject w p.saved q.saved
 
@@ -71,9 +104,9 @@ pub record AreLawful (X : Extra) : Type 0 where
   pub bears : (a b : World) (rows : List X.Row) → Tame a b → X.Fact a rows → X.Fact b rows
   -- both laws of erasure, and what has to stand stands afterwards
   pub laws : (site : Site) → IsPreorderWithBottom site.dom → (number : ℕ) (arguments : List ℕ) →
-      Lawful site.dom (both_seen X.level_of site.dom) (BothStand X.Fact site.dom) (X.outcome site number arguments)
+      Lawful site.dom (both_seen X.level_of site.dom) (BothStand X.Fact site.dom) (further_deed X site number arguments)
   pub tame : (site : Site) → IsPreorderWithBottom site.dom → (number : ℕ) (arguments : List ℕ) (p : Place) (a : Both X.Row) →
-      BothStand X.Fact site.dom p a → IsTame X site.dom (X.grammar.bound number arguments) p a (X.outcome site number arguments p a)
+      BothStand X.Fact site.dom p a → IsTame X site.dom (X.grammar.bound number arguments) p a (further_deed X site number arguments p a)
 
 -- no further operations, and no rows
 abbrev pub no_extra : Extra
@@ -81,6 +114,11 @@ no_extra = record {
   grammar = nothing_further;
   Row = ⊥;
   level_of = λ r. 0;
-  outcome = λ site number arguments p a. record { answer = record { refusal = Some (record { gate = Outside; status = NFS4ERR_NOTSUPP }); bytes = [] }; place = p; state = a };
+  outcome = λ site number arguments at a. record {
+    said = record { refusal = Some (record { gate = Outside; status = NFS4ERR_NOTSUPP }); bytes = [] };
+    current = at.current;
+    saved = at.saved;
+    state = a;
+  };
   Fact = λ w rows. Unit {0};
 }

@@ -39,7 +39,7 @@ use Rattle.lnfs_operations.specs.Open.{Opened, open_file}
 use Rattle.lnfs_operations.specs.Close.{closed, close}
 use Rattle.lnfs_operations.specs.Read.{read}
 use Rattle.lnfs_operations.specs.Write.{write, commit}
-use Rattle.lnfs_operations.specs.Extra.{Said, Extra}
+use Rattle.lnfs_operations.specs.Extra.{Said, Extra, further_deed}
 use Rattle.lnfs_operations.specs.Results.{Answered, failed, told_result, said_result}
 use Rattle.lnfs_operations.specs.Admission.{admission}
 use Rattle.lnfs_operations.specs.declared.numbers.TheConstants.{FILE_SYNC4}
@@ -171,7 +171,7 @@ further_reply number deed p a = record { answer = said_reply number (deed p a).a
 
 abbrev pub row_in : (X : Extra) → Site → Sent → Op → Deed Reply (Both X.Row)
 row_in X site sent (ops.Extra number arguments) =
-    cond (X.grammar.serves number) (further_reply number (X.outcome site number arguments)) (on_world (deed_of (row site sent (ops.Extra number arguments))))
+    cond (X.grammar.serves number) (further_reply number (further_deed X site number arguments)) (on_world (deed_of (row site sent (ops.Extra number arguments))))
 row_in X site sent op = on_world (deed_of (row site sent op))
 
 -- ---- in a COMPOUND

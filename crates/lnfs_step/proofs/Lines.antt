@@ -29,7 +29,7 @@ use Rattle.lnfs_operations.specs.declared.Gate.TheVariants as gates
 use Rattle.lnfs_operations.specs.declared.numbers.TheConstants.{SESSIONS_OF_A_LEVEL}
 use Rattle.lnfs_operations.specs.Chain.{Answer as Answered, Refusal, Done, Refused, refuse, done, demand, where_there}
 use Rattle.lnfs_operations.specs.CreateSession.{Created, New as Made, Again as MadeBefore, is_large_enough, sessions_of, made, create_session}
-use Rattle.lnfs_operations.specs.Extra.{Extra, Said, AreLawful, IsRefused}
+use Rattle.lnfs_operations.specs.Extra.{Extra, Said, AreLawful, IsRefused, further_deed}
 use Rattle.lnfs_operations.specs.Identifiers.{client_named, session_named, session_under}
 use Rattle.lnfs_operations.specs.InOrder.{sequence_before, in_order}
 use Rattle.lnfs_operations.specs.Keeping.{next_sequence}
@@ -182,13 +182,13 @@ module _ (X : Extra) (site : Site) (sent : Sent) (p : Place) (w : World) where
   row_status op outside is = absurd (grind arith)
 
 module _ (X : Extra) (owed : AreLawful X) (site : Site) (lattice : IsPreorderWithBottom site.dom) (sent : Sent) (c : Compound) where
-  said_status : (number : ℕ) (arguments : List ℕ) (p : Place) (b : Both X.Row) (said : Said) (o : Option Refusal) → said.refusal ≡ o → X.grammar.serves number ≡ true → IsRefused p b (X.outcome site number arguments p b) o → StatusIs X (ops.Extra number arguments) Never (said_reply number said)
+  said_status : (number : ℕ) (arguments : List ℕ) (p : Place) (b : Both X.Row) (said : Said) (o : Option Refusal) → said.refusal ≡ o → X.grammar.serves number ≡ true → IsRefused p b (further_deed X site number arguments p b) o → StatusIs X (ops.Extra number arguments) Never (said_reply number said)
   said_status number arguments p b said None is serves refused = rw is refl
   said_status number arguments p b said (Some why) is serves refused = rw is (refl, (refused.0, λ not. absurd (grind (arith, serves, not))))
 
-  extra_status : (serves : Bool) (number : ℕ) (arguments : List ℕ) (p : Place) (b : Both X.Row) → BothStand X.Fact site.dom p b → X.grammar.serves number ≡ serves → StatusIs X (ops.Extra number arguments) Never (cond serves (further_reply number (X.outcome site number arguments)) (on_world (deed_of (row site sent (ops.Extra number arguments)))) p b).answer
+  extra_status : (serves : Bool) (number : ℕ) (arguments : List ℕ) (p : Place) (b : Both X.Row) → BothStand X.Fact site.dom p b → X.grammar.serves number ≡ serves → StatusIs X (ops.Extra number arguments) Never (cond serves (further_reply number (further_deed X site number arguments)) (on_world (deed_of (row site sent (ops.Extra number arguments)))) p b).answer
   extra_status true number arguments p b stands is =
-      let said = (X.outcome site number arguments p b).answer in
+      let said = (further_deed X site number arguments p b).answer in
       said_status number arguments p b said said.refusal refl is (owed.tame site lattice number arguments p b stands).refused
   extra_status false number arguments p b stands is = row_status X site sent p b.world (ops.Extra number arguments) tt refl
 
