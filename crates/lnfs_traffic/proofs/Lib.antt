@@ -2,6 +2,7 @@
 pub mod Cutting
 pub mod Fronts
 pub mod Whole
+pub mod Put
 pub mod Counting
 pub mod Lengths
 pub mod Making

@@ -23,4 +23,4 @@ pub use generator::generate;
 pub use laws::recordings;
 pub use pieces::TrafficReader;
 pub use reading::read_traffic;
-pub use writing::write_traffic;
+pub use writing::{put_traffic, write_traffic};

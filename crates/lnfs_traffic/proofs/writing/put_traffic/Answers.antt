@@ -1,0 +1,13 @@
+use Rattle.std.proofs.Common.{rules}
+use Rattle.lnfs_outside.proofs.Parts.{puts_then, puts_first, cause_then}
+use Rattle.lnfs_traffic.specs.Recording.{beginning}
+use Rattle.lnfs_traffic.proofs.writing.put_traffic.Goals as goal
+
+pub returns-in_err-put_all-clause-bytes : goal.returns-in_err-put_all-clause-bytes
+returns-in_err-put_all-clause-bytes g c = puts_first beginning _ c.in_err-put_all.ensures.bytes (search rules)
+
+pub returns-clause-bytes : goal.returns-clause-bytes
+returns-clause-bytes g c = puts_then beginning _ c.in_ok-put_all.ensures.bytes.whole c.put_events.ensures.bytes
+
+pub returns-clause-cause : goal.returns-clause-cause
+returns-clause-cause g c = cause_then c.in_ok-put_all.ensures.cause.later c.in_ok-put_all.ensures.cause.within c.put_events.ensures.cause
