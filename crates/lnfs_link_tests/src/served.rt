@@ -91,7 +91,7 @@ fn served_of<M: Mechanism + Drop, L: Drop>(
 }
 
 /// Serves links in a new vault, at the times of a clock.
-fn serve_at<
+pub fn serve_at<
     M: Mechanism + Send + Drop,
     L: Link + Send + Drop,
     C: Clock + Sync,
