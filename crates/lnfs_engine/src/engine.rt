@@ -100,24 +100,19 @@ fn serve<X: Extra>(
 }
 
 impl<X: Extra> Engine<X> {
-    /// The nodes of a tree without bytes, no client, no open and no context. What each level of a site uses is counted.
+    /// The nodes of a tree without bytes, no client, no open and no context. What each level uses is counted.
     ///
     /// # Errors
     ///
     /// `AllocError` where there is no memory.
-    pub fn new(
-        alloc: Global,
-        site: &Site<'_>,
-        tree: Tree,
-        extra: X,
-    ) -> Result<Engine<X>, AllocError>
+    pub fn new(alloc: Global, tree: Tree, extra: X) -> Result<Engine<X>, AllocError>
         requires empty { AllByRecursion (λ n. bytes_of n n.kind ≡ 0) tree.nodes }
         ensures store { IfOk result (λ engine. engine.store ≡ only_tree tree) }
         ensures extra { IfOk result (λ engine. engine.extra ≡ extra) }
     {
         Ok(Engine {
             alloc,
-            store: Store::new(alloc, site, tree)?,
+            store: Store::new(alloc, tree)?,
             extra,
         })
     }

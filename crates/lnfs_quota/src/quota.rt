@@ -2,7 +2,7 @@
 ghost use Rattle.std.specs.Prelude.{◌≡◌, ◌+◌, ◌-◌, ◌^◌, ◌<◌, ◌≤◌, length, nat_lt, replicate, IfOk};
 ghost use Rattle.lnfs_quota.specs.Quota.{row_at, unused, node_charged, node_credited, resized, moved};
 
-use lnfs_calipso::Level;
+use lnfs_calipso::{Level, MAX_LEVELS};
 use std::alloc::{AllocError, Global};
 use std::marker::Model;
 
@@ -15,7 +15,7 @@ pub struct Row {
     pub bytes: u64,
 }
 
-/// What each level uses, in the order of levels. Its value is their rows.
+/// What each level uses, in the order of levels: a row for each that a policy may list. Its value is their rows.
 #[derive(Drop)]
 pub struct Quota {
     rows: Vec<Row>,
@@ -28,19 +28,32 @@ impl Model for Quota {
     ghost Value = { List Row };
 
     ghost view = { λ q. q.rows.items };
+
+    ghost use Rattle.std.specs.Prelude.{◌≡◌, length};
+    ghost use Rattle.lnfs_calipso.specs.declared.lattice.TheConstants.{MAX_LEVELS};
+
+    ghost invariant = { λ q. length q.rows.items ≡ MAX_LEVELS };
 }
 
 impl Quota {
-    /// Nothing is used yet, by so many levels.
+    /// Nothing is used yet.
     ///
     /// # Errors
     ///
     /// `AllocError` where there is no memory.
-    pub fn new(alloc: Global, levels: usize) -> Result<Quota, AllocError>
-        ensures { IfOk result (λ quota. quota ≡ replicate levels unused) }
+    pub fn new(alloc: Global) -> Result<Quota, AllocError>
+        ensures { IfOk result (λ quota. quota ≡ replicate MAX_LEVELS unused) }
     {
-        let rows = vec![in alloc; Row { nodes: 0, bytes: 0 }; levels]?;
+        let rows = vec![in alloc; Row { nodes: 0, bytes: 0 }; MAX_LEVELS]?;
         Ok(Quota { rows })
+    }
+
+    /// How many levels are counted: as many as a policy may list.
+    pub fn levels(&self) -> usize
+        ensures value { result ≡ length self.now }
+        ensures all { result ≡ MAX_LEVELS }
+    {
+        self.rows.len()
     }
 
     /// Whether a level is one of those that are counted.

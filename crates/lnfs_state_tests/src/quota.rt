@@ -14,17 +14,17 @@ fn used(quota: &Quota, level: u32) -> Option<(u64, u64)> {
     Some(quota.used(level))
 }
 
-/// What each of three levels uses, and that there is no fourth.
+/// What each of three levels uses, and that no level stands past the last that a policy may list.
 fn ask(rt: &impl Abort, quota: &Quota, due: [(u64, u64); 3]) {
     same(rt, used(quota, 0), Some(due[0]));
     same(rt, used(quota, 1), Some(due[1]));
     same(rt, used(quota, 2), Some(due[2]));
-    same(rt, used(quota, 3), None);
+    same(rt, used(quota, 32), None);
 }
 
 #[test]
 fn three_levels(rt: HostRuntime) -> Result<(), AllocError> {
-    let mut quota = Quota::new(rt.alloc(), 3)?;
+    let mut quota = Quota::new(rt.alloc())?;
     ask(&rt, &quota, [(0, 0), (0, 0), (0, 0)]);
     // Nodes of a level are no other level's.
     quota.charge_node(Level(0));
@@ -57,15 +57,16 @@ fn three_levels(rt: HostRuntime) -> Result<(), AllocError> {
 fn ask_of_homes(rt: &impl Abort, quota: &Quota) {
     same(rt, used(quota, 0), Some((2, 0)));
     same(rt, used(quota, 1), Some((1, 0)));
-    same(rt, quota.knows(Level(1)), true);
-    same(rt, quota.knows(Level(2)), false);
+    same(rt, quota.levels(), 32);
+    same(rt, quota.knows(Level(31)), true);
+    same(rt, quota.knows(Level(32)), false);
 }
 
 #[test]
 fn homes(rt: HostRuntime) -> Result<(), AllocError> {
-    // One home is none of the levels.
-    let homes = [Level(0), Level(1), Level(0), Level(2)];
-    let quota = Quota::counted(rt.alloc(), 2, &homes)?;
+    // One home is past the levels that a policy may list.
+    let homes = [Level(0), Level(1), Level(0), Level(32)];
+    let quota = Quota::counted(rt.alloc(), &homes)?;
     ask_of_homes(&rt, &quota);
     Ok(())
 }

@@ -1,5 +1,5 @@
 //! The vault.
-ghost use Rattle.std.specs.Prelude.{◌≡◌, ◌+◌, ◌≤◌, ℕ, List, [], ◌∷◌, ◌++◌, Some, true, false, length, IfOk, IfSome, OnOk, OnErr, IsErr};
+ghost use Rattle.std.specs.Prelude.{◌≡◌, ◌+◌, ◌<◌, ◌≤◌, ℕ, List, [], ◌∷◌, ◌++◌, Some, true, false, length, IfOk, IfSome, OnOk, OnErr, IsErr};
 ghost use Rattle.lnfs_lists.specs.declared.limits.TheConstants.{RECORD_LIMIT};
 ghost use Rattle.lnfs_outside.specs.Moments.{Fits};
 ghost use Rattle.lnfs_policy.specs.Policy.{dominance};
@@ -7,6 +7,7 @@ ghost use Rattle.lnfs_arguments.specs.declared.types.Compound.{Compound};
 ghost use Rattle.lnfs_arguments.specs.declared.types.CreateSession.{CreateSession};
 ghost use Rattle.lnfs_arguments.specs.declared.types.Sequence.{Sequence};
 ghost use Rattle.lnfs_world.specs.World.{Client, Session, Slot};
+ghost use Rattle.lnfs_world.specs.Usage.{nodes_used, bytes_used};
 ghost use Rattle.lnfs_world.specs.Both.{both};
 ghost use Rattle.lnfs_world.specs.Labels.{LabelsRise};
 ghost use Rattle.lnfs_operations.specs.InOrder.{sequence_before};
@@ -24,6 +25,7 @@ ghost use Rattle.lnfs_vault.specs.Says.{SaysServed};
 
 use crate::audit::AuditLine;
 use crate::step::{Arrival, say};
+use lnfs_calipso::Level;
 use lnfs_engine::{Engine, Extra, NoExtra};
 use lnfs_format::Codecs;
 use lnfs_gss3::Mechanism;
@@ -52,7 +54,7 @@ fn first_engine<X: Extra>(alloc: Global, site: &Site<'_>, extra: X) -> Result<En
     ensures extra { IfOk result (λ engine. engine.extra ≡ extra) }
 {
     let tree = first_tree(alloc, site)?;
-    Engine::new(alloc, site, tree, extra)
+    Engine::new(alloc, tree, extra)
 }
 
 /// Makes the step of an event, and puts it into the journal. The journal's place is reserved first.
@@ -158,6 +160,20 @@ impl<M: Mechanism + Drop, X: Extra> VaultOf<M, X> {
         ensures { result.now ≡ self.now.journal }
     {
         &self.journal
+    }
+
+    /// What a level uses: the nodes whose home it is, then the bytes of the files whose label it is. Both are kept as totals,
+    /// one of each for each level of the policy.
+    pub fn used(&self, level: Level) -> (u64, u64)
+        requires { level.0 < length self.now.policy.labels }
+        ensures nodes { self.now.stopped ≡ false →
+            result.0 ≡ nodes_used (state_after X.extra M.signing self.now.policy self.now.journal).world.nodes level.0 }
+        ensures bytes { self.now.stopped ≡ false →
+            result.1 ≡ bytes_used (state_after X.extra M.signing self.now.policy self.now.journal).world.nodes level.0 }
+    {
+        // The call says that a policy lists at most 32 levels.
+        let _levels = self.policy.lattice().len();
+        self.engine.store.used(level)
     }
 
     /// Serves an event: makes its step on the state after the journal, and adds it to the journal. The codecs read labels that

@@ -1,17 +1,18 @@
 use Rattle.std.proofs.Common.{◌+◌, List, take, sym, ◌∙◌, subst}
 use Rattle.std.proofs.lemmas.List.{take_all}
 use Rattle.lnfs_calipso.specs.declared.Level.{Level}
+use Rattle.lnfs_calipso.specs.declared.lattice.TheConstants.{MAX_LEVELS}
 use Rattle.lnfs_quota.specs.declared.quota.Row.{Row}
 use Rattle.lnfs_quota.proofs.FromHomes.{IsCounted, counted-none, counted-more, counted-passed, counted-totals}
 use Rattle.lnfs_quota.proofs.quota.Quota.counted.Goals.{then-knows, else-knows}
 use Rattle.lnfs_quota.proofs.quota.Quota.counted.Goals as goal
 
 pub loop-home-init : goal.loop-home-init
-loop-home-init c = subst (λ (rows : List Row). IsCounted c.args.levels (take 0 c.args.homes.now) rows) (sym c.in_ok-quota.ensures) (counted-none c.args.levels c.args.homes.now)
+loop-home-init c = subst (λ (rows : List Row). IsCounted MAX_LEVELS (take 0 c.args.homes.now) rows) (sym c.in_ok-quota.ensures) (counted-none MAX_LEVELS c.args.homes.now)
 
 pub loop-home-preserved : goal.loop-home-preserved
 loop-home-preserved c =
-    let levels = c.args.levels in
+    let levels = MAX_LEVELS in
     let homes = c.args.homes.now in
     let i = c.loop-home.home-index in
     let d : Level = record { 0 = 0 } in
@@ -20,5 +21,5 @@ loop-home-preserved c =
       | else-knows w ↦ subst (λ (rows : List Row). IsCounted levels (take (i + 1) homes) rows) (sym w.quota-is) (counted-passed levels homes c.loop-home.quota i d c.loop-home-test.true (sym c.knows.ensures ∙ w.if-knows.false) c.loop-home.invariant)
     ]
 
-pub returns-clause-totals : goal.returns-clause-totals
-returns-clause-totals c nodes are empty = counted-totals c.args.levels c.args.homes.now c.loop-home.quota nodes (subst (λ (homes : List Level). IsCounted c.args.levels homes c.loop-home.quota) (take_all c.loop-home.home-index c.args.homes.now c.loop-home-test.false) c.loop-home.invariant) are empty
+pub returns : goal.returns
+returns c nodes are empty = counted-totals MAX_LEVELS c.args.homes.now c.loop-home.quota nodes (subst (λ (homes : List Level). IsCounted MAX_LEVELS homes c.loop-home.quota) (take_all c.loop-home.home-index c.args.homes.now c.loop-home-test.false) c.loop-home.invariant) are empty
