@@ -17,7 +17,6 @@ mod LookedUp
 pub mod Stages
 mod Creates
 pub mod Inserts
-pub mod Done
 mod ValuesTold
 pub mod TreeSteps
 pub mod Acting

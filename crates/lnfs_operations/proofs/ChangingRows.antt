@@ -43,7 +43,7 @@ use Rattle.lnfs_operations.specs.Write.{Arguments as WriteArguments, write}
 use Rattle.lnfs_operations.specs.Sequence.{Sent}
 use Rattle.lnfs_operations.specs.Served.{row}
 use Rattle.lnfs_operations.specs.Sizes.{NodeFits, SpellsShortly}
-use Rattle.lnfs_operations.proofs.ChangedNames.{applied_joined, Beside}
+use Rattle.lnfs_world.proofs.ChangedNames.{applied_joined, Beside}
 use Rattle.lnfs_operations.proofs.GivenLaws.{IsGiven}
 use Rattle.lnfs_operations.proofs.CreateLaws.{create_any}
 use Rattle.lnfs_operations.proofs.Namings.{renamed, link_any, remove_any, rename_any}

@@ -33,7 +33,7 @@ use Rattle.lnfs_operations.proofs.Chains.{demand_alike, demand_any, standing_vie
 use Rattle.lnfs_operations.proofs.CurrentLaws.{with_current-seen, accessed_footprint}
 use Rattle.lnfs_operations.proofs.Ends.{current_any, allowed_any}
 use Rattle.lnfs_operations.proofs.TakingLaws.{own_above, own_whole}
-use Rattle.lnfs_operations.proofs.ChangedNames.{place_left, touch_within, own_label, own_cookies}
+use Rattle.lnfs_world.proofs.ChangedNames.{place_left, touch_within, own_label, own_cookies}
 use Rattle.lnfs_operations.proofs.StateIdLaws.{where_open-seen, where_usable-seen, IsNamedBy, named_open_any, usable_any}
 
 -- ---- what is looked at

@@ -18,12 +18,9 @@ pub mod GivenLaws
 pub mod CreateLaws
 pub mod SetAttrLaws
 pub mod Namings
-pub mod ChangedNames
-pub mod FreeNames
 pub mod TakingLaws
 pub mod LinkLaws
 pub mod RemoveLaws
-pub mod RenameChanges
 pub mod RenameLaws
 pub mod StateIdLaws
 pub mod FileLaws

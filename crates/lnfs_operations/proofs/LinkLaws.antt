@@ -1,18 +1,16 @@
 -- What LINK looks at, and what it changes.
-use Rattle.std.proofs.Common.{◌≡◌, ℕ, Bool, true, false, not, List, [], ◌∷◌, None, refl, ap, ◌∙◌, arith}
+use Rattle.std.proofs.Common.{◌≡◌, ℕ, Bool, not, List, [], ◌∷◌, None, refl, ap}
 use Rattle.std.specs.Prelude.{◌==◌, nat_lt}
-use Rattle.std.proofs.lemmas.Bool.Decides.{nat_tests}
 use Rattle.lnfs_calipso.specs.Label.{IsPreorderWithBottom}
 use Rattle.lnfs_world.specs.declared.numbers.TheConstants.{MOST_NAMES}
-use Rattle.lnfs_world.specs.World.{Inner, Node, World, is_directory}
+use Rattle.lnfs_world.specs.World.{Node, World, is_directory}
 use Rattle.lnfs_world.specs.Names.{entry_at}
 use Rattle.lnfs_world.specs.Erased.{erased}
 use Rattle.lnfs_world.specs.Effects.{attributes_changed, name_added, next_entry, has_cookie}
-use Rattle.lnfs_world.specs.Change.{Touch, Link, apply, apply_all}
-use Rattle.lnfs_world.specs.Within.{all_within}
+use Rattle.lnfs_world.specs.Change.{Touch, Link, apply_all}
 use Rattle.lnfs_world.specs.Outcome.{Site, Place, Stands, View, Footprint, IsFootprint}
-use Rattle.lnfs_world.proofs.Keys.{id_turned}
-use Rattle.lnfs_world.proofs.NewNames.{next_free}
+use Rattle.lnfs_world.proofs.ChangedNames.{place_left, own_label}
+use Rattle.lnfs_world.proofs.LinkedNames.{linked_within}
 use Rattle.lnfs_world.proofs.Seen.{entry_at-seen, names_of-seen}
 use Rattle.lnfs_arguments.specs.declared.statuses.TheConstants.{NFS4ERR_EXIST, NFS4ERR_MLINK, NFS4ERR_NOSPC}
 use Rattle.lnfs_operations.specs.declared.Gate.TheVariants.{Namespace, Quota}
@@ -24,8 +22,6 @@ use Rattle.lnfs_operations.proofs.Chains.{demand_alike, standing_view, unchanged
 use Rattle.lnfs_operations.proofs.CurrentLaws.{saved_held, with_node-seen, with_current-seen}
 use Rattle.lnfs_operations.proofs.TakingLaws.{own_whole, own_seen}
 use Rattle.lnfs_operations.proofs.Namings.{IsOwnDirectory, Links, linked, link_any}
-use Rattle.lnfs_operations.proofs.ChangedNames.{place_left, untouched, touched_too, touch_within, own_label, own_kind, own_cookies, kinds_differ, cookies_own, cookies_other}
-use Rattle.lnfs_operations.proofs.FreeNames.{adds_within}
 
 module _ (site : Site) (lattice : IsPreorderWithBottom site.dom) where
   link_seen : (name : List ℕ) (p : Place) (w : World) → Stands site.dom p w → link site name p (erased site.dom p.subject w) ≡ link site name p w
@@ -49,31 +45,13 @@ module _ (site : Site) (lattice : IsPreorderWithBottom site.dom) where
   pub link_view : (name : List ℕ) → View site.dom (link site name)
   link_view name = standing_view site.dom (link site name) (link_seen name)
 
--- the changes of LINK, in order
+-- the changes of LINK are those that its subject may make
 module _ (dom : ℕ → ℕ → Bool) (p : Place) (w : World) (stands : Stands dom p w) (name : List ℕ) (n d : Node) (is : IsOwnDirectory p w d) (links : Links p w n d) (free : entry_at w.entries d.id name ≡ None) where
-  linked_within : all_within dom p.subject w (Touch d.id (name_added p.moment d.inner) ∷ Touch n.id (attributes_changed p.moment n.inner) ∷ Link (next_entry d name n.id) ∷ []) ≡ true
-  linked_within =
-      let d_inner : Inner = name_added p.moment d.inner in
-      let n_inner : Inner = attributes_changed p.moment n.inner in
-      let d_label = own_label p.subject w.nodes d.id d is.there is.own in
-      let n_label = own_label p.subject w.nodes n.id n links.there links.own in
-      let d_kind = own_kind w.nodes d.id d true is.there is.directory in
-      let n_kind = own_kind w.nodes n.id n false links.there links.other in
-      let d_cookies = own_cookies w.nodes d.id d is.there in
-      let n_cookies = own_cookies w.nodes n.id n links.there in
-      let apart = kinds_differ w.nodes d.id n.id d_kind n_kind in
-      let v : World = apply (Touch d.id d_inner) w in
-      let once = touched_too w w d.id d_inner (untouched w) in
-      let twice = touched_too w v n.id n_inner once in
-      let first = touch_within dom p.subject w d.id d_inner d.inner.cookies d_label d_cookies (grind (arith, nat_tests)) in
-      let then = touch_within dom p.subject v n.id n_inner n.inner.cookies (once.labels n.id ∙ n_label) (cookies_other d.id d_inner w.nodes n.id (id_turned n.id d.id ∙ apart) ∙ n_cookies) (grind (arith, nat_tests)) in
-      let cookies = cookies_other n.id n_inner v.nodes d.id apart ∙ cookies_own d.id d_inner w.nodes d.inner.cookies d_cookies in
-      let adds = adds_within p.subject (apply (Touch n.id n_inner) v) d name n.id (twice.labels d.id ∙ d_label) (twice.kinds d.id ∙ d_kind) cookies (next_free dom p.subject w stands.facts d is.there name n.id free) in
-      grind (arith, nat_tests, first, then, adds, twice.labels n.id ∙ n_label, twice.kinds n.id ∙ n_kind)
-
   linked_footprint : IsFootprint dom p w (linked p name n d)
   linked_footprint = record {
-    within = linked_within;
+    within =
+        linked_within dom p.subject w stands.facts p.moment d is.there is.directory (own_label p.subject w.nodes d.id d is.there is.own) name n
+        links.there links.other (own_label p.subject w.nodes n.id n links.there links.own) free;
     place = place_left dom p w (apply_all (linked p name n d).changes w) (record { clients = refl; sessions = refl }) stands.place;
     subject = refl;
   }

@@ -25,7 +25,7 @@ use Rattle.lnfs_operations.specs.Chain.{done}
 use Rattle.lnfs_operations.specs.Open.{Arguments, Opened, Wanted, new_open, own_open, joined, new_file, made, opened_with, open_file}
 use Rattle.lnfs_operations.proofs.Chains.{unchanged_footprint}
 use Rattle.lnfs_operations.proofs.CurrentLaws.{current_held}
-use Rattle.lnfs_operations.proofs.ChangedNames.{Beside, within_joined, place_left}
+use Rattle.lnfs_world.proofs.ChangedNames.{Beside, within_joined, place_left}
 use Rattle.lnfs_operations.proofs.FileLaws.{data_within}
 use Rattle.lnfs_operations.proofs.Openings.{MayMake, IsReached, Handed, Named, MayOpen, open_any}
 use Rattle.lnfs_operations.proofs.Owners.{none_found}

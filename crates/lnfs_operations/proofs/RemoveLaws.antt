@@ -1,16 +1,15 @@
 -- What REMOVE looks at, and what it changes.
-use Rattle.std.proofs.Common.{◌≡◌, ℕ, Bool, true, not, List, ◌∷◌, refl, sym, ap, ◌∙◌, arith}
+use Rattle.std.proofs.Common.{◌≡◌, ℕ, Bool, not, List, ◌∷◌, refl, sym, ap, ◌∙◌}
 use Rattle.std.specs.Prelude.{◌==◌}
-use Rattle.std.proofs.lemmas.Bool.Decides.{nat_tests}
 use Rattle.lnfs_calipso.specs.Label.{IsPreorderWithBottom}
-use Rattle.lnfs_world.specs.World.{Inner, Node, Entry, World, node_at, is_directory}
-use Rattle.lnfs_world.specs.Tree.{holds_names}
+use Rattle.lnfs_world.specs.World.{Node, Entry, World, node_at, is_directory}
 use Rattle.lnfs_world.specs.Erased.{erased, sees}
 use Rattle.lnfs_world.specs.Effects.{names_changed}
 use Rattle.lnfs_world.specs.Change.{Touch, apply}
 use Rattle.lnfs_world.specs.Outcome.{Site, Place, Stands, View, Footprint, IsFootprint}
-use Rattle.lnfs_world.proofs.Keys.{id_turned}
 use Rattle.lnfs_world.proofs.Seen.{node_at-id, holds_names-seen}
+use Rattle.lnfs_world.proofs.ChangedNames.{beside_both, place_left, own_label, taken_out-without}
+use Rattle.lnfs_world.proofs.LinkedNames.{removed_within}
 use Rattle.lnfs_arguments.specs.declared.statuses.TheConstants.{NFS4ERR_NOTEMPTY}
 use Rattle.lnfs_operations.specs.declared.Gate.TheVariants.{Namespace}
 use Rattle.lnfs_operations.specs.Chain.{refuse, done, demand}
@@ -21,7 +20,6 @@ use Rattle.lnfs_operations.proofs.Chains.{demand_alike, standing_view, unchanged
 use Rattle.lnfs_operations.proofs.CurrentLaws.{with_current-seen}
 use Rattle.lnfs_operations.proofs.TakingLaws.{own_whole, own_seen, where_old-seen, taken_out-seen}
 use Rattle.lnfs_operations.proofs.Namings.{IsOwnDirectory, IsNamed, Leaves, removed, remove_any}
-use Rattle.lnfs_operations.proofs.ChangedNames.{beside_both, place_left, untouched, touched_too, touch_within, own_label, own_kind, own_cookies, kinds_differ, cookies_other, taken_out-without, taken_out_within}
 
 module _ (site : Site) (lattice : IsPreorderWithBottom site.dom) where
   remove_seen : (name : List ℕ) (p : Place) (w : World) → Stands site.dom p w → remove site name p (erased site.dom p.subject w) ≡ remove site name p w
@@ -41,24 +39,16 @@ module _ (site : Site) (lattice : IsPreorderWithBottom site.dom) where
   pub remove_view : (name : List ℕ) → View site.dom (remove site name)
   remove_view name = standing_view site.dom (remove site name) (remove_seen name)
 
--- the changes of REMOVE, in order
+-- the changes of REMOVE are those that its subject may make
 module _ (dom : ℕ → ℕ → Bool) (p : Place) (w : World) (stands : Stands dom p w) (name : List ℕ) (d n : Node) (e : Entry) (is : IsOwnDirectory p w d) (named : IsNamed w d name e n) (leaves : Leaves p w n) where
   removed_footprint : IsFootprint dom p w (removed p w d e n)
   removed_footprint =
-      let inner : Inner = names_changed p.moment d.inner in
-      let v : World = apply (Touch d.id inner) w in
       let id = node_at-id e.node w.nodes n named.there in
-      let label = own_label p.subject w.nodes d.id d is.there is.own in
-      let kind = own_kind w.nodes d.id d true is.there is.directory in
-      let cookies = own_cookies w.nodes d.id d is.there in
-      let first = touch_within dom p.subject w d.id inner d.inner.cookies label cookies (grind (arith, nat_tests)) in
-      let then = taken_out_within dom w stands.facts p.subject p.moment v d.id name e n (touched_too w w d.id inner (untouched w)) label named.named named.there id
-      (own_label p.subject w.nodes e.node n named.there leaves.own)
-      (ap (holds_names w.entries) (sym id) ∙ leaves.empty)
-      (λ other. cookies_other d.id inner w.nodes e.node (id_turned e.node d.id ∙ kinds_differ w.nodes d.id e.node kind other)) in
       record {
-        within = grind (arith, first, then);
-        place = place_left dom p w _ (beside_both w v _ (record { clients = refl; sessions = refl }) (taken_out-without p.moment w.entries e n v id).beside) stands.place;
+        within =
+            removed_within dom p.subject w stands.facts p.moment d is.there is.directory (own_label p.subject w.nodes d.id d is.there is.own) name n
+            e named.named named.there (own_label p.subject w.nodes e.node n named.there leaves.own) leaves.empty;
+        place = place_left dom p w _ (beside_both w (apply (Touch d.id (names_changed p.moment d.inner)) w) _ (record { clients = refl; sessions = refl }) (taken_out-without p.moment w.entries e n _ id).beside) stands.place;
         subject = refl;
       }
 

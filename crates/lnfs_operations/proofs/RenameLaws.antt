@@ -9,6 +9,8 @@ use Rattle.lnfs_world.specs.Effects.{next_entry, has_cookie, taken_out, may_give
 use Rattle.lnfs_world.specs.Change.{Change, Move}
 use Rattle.lnfs_world.specs.Outcome.{Site, Place, Stands, View, Footprint, IsFootprint}
 use Rattle.lnfs_world.proofs.Seen.{node_at-id, entry_at-seen, holds_names-seen}
+use Rattle.lnfs_world.proofs.ChangedNames.{place_left, own_label}
+use Rattle.lnfs_world.proofs.MovedNames.{MayMove, AreWithin, moved_free, moved_onto as moved_onto_within}
 use Rattle.lnfs_arguments.specs.declared.statuses.TheConstants.{NFS4ERR_INVAL, NFS4ERR_EXIST, NFS4ERR_NOSPC}
 use Rattle.lnfs_operations.specs.declared.Gate.TheVariants.{Namespace, Quota}
 use Rattle.lnfs_operations.specs.Chain.{refuse, done, demand}
@@ -18,8 +20,7 @@ use Rattle.lnfs_operations.specs.Rename.{Mover, moved, moved_onto, rename}
 use Rattle.lnfs_operations.proofs.Chains.{demand_alike, standing_view, unchanged_footprint}
 use Rattle.lnfs_operations.proofs.CurrentLaws.{saved_held, with_node-seen, with_current-seen}
 use Rattle.lnfs_operations.proofs.TakingLaws.{own_whole, own_seen, where_old-seen, taken_out-seen, goes_under-seen}
-use Rattle.lnfs_operations.proofs.Namings.{rename_any}
-use Rattle.lnfs_operations.proofs.RenameChanges.{free_footprint, onto_footprint}
+use Rattle.lnfs_operations.proofs.Namings.{IsOwnDirectory, IsNamed, Moves, GivesWay, renamed, rename_any}
 
 module _ (site : Site) (lattice : IsPreorderWithBottom site.dom) (p : Place) (w : World) (stands : Stands site.dom p w) where
   abbrev shown_world : World
@@ -78,6 +79,36 @@ module _ (site : Site) (lattice : IsPreorderWithBottom site.dom) (p : Place) (w 
 
 pub rename_view : (site : Site) → IsPreorderWithBottom site.dom → (old new : List ℕ) → View site.dom (rename site old new)
 rename_view site lattice old new = standing_view site.dom (rename site old new) (λ p w stands. rename_seen site lattice p w stands old new)
+
+-- the changes of RENAME are those that its subject may make
+module _ (site : Site) (lattice : IsPreorderWithBottom site.dom) (p : Place) (w : World) (stands : Stands site.dom p w) (old new : List ℕ) (m : Mover) (from : IsOwnDirectory p w m.from) (to : IsOwnDirectory p w m.to) (named : IsNamed w m.from old m.entry m.node) (moves : Moves site p w m) where
+  may : MayMove site.dom p.subject w m.from old m.to m.entry m.node
+  may = record {
+    from_there = from.there;
+    from_own = own_label p.subject w.nodes m.from.id m.from from.there from.own;
+    to_there = to.there;
+    to_own = own_label p.subject w.nodes m.to.id m.to to.there to.own;
+    directory = to.directory;
+    named = named.named;
+    there = named.there;
+    clear = moves.clear;
+  }
+
+  renamed_footprint : (room : List Change) → AreWithin site.dom p.subject w (renamed p new m room).changes → IsFootprint site.dom p w (renamed p new m room)
+  renamed_footprint room are = record { within = are.within; place = place_left site.dom p w _ are.beside stands.place; subject = refl }
+
+  free_footprint : entry_at w.entries m.to.id new ≡ None → IsFootprint site.dom p w (renamed p new m [])
+  free_footprint free = renamed_footprint [] (moved_free site.dom lattice p.subject w stands.facts p.moment m.from old m.to new m.entry m.node may free)
+
+  onto_footprint : (e : Entry) (n : Node) → IsNamed w m.to new e n → GivesWay p w m e n → IsFootprint site.dom p w (renamed p new m (taken_out p.moment w.entries e n))
+  onto_footprint e n onto gives =
+      renamed_footprint (taken_out p.moment w.entries e n) (moved_onto_within site.dom lattice p.subject w stands.facts p.moment m.from old m.to new m.entry m.node may e n (record {
+        named = onto.named;
+        there = onto.there;
+        own = own_label p.subject w.nodes e.node n onto.there gives.own;
+        differs = gives.differs;
+        gives = gives.gives;
+      }))
 
 pub rename_footprint : (site : Site) → IsPreorderWithBottom site.dom → (old new : List ℕ) → Footprint site.dom (rename site old new)
 rename_footprint site lattice old new p w stands = rename_any site p w (IsFootprint site.dom p w) old new (record {

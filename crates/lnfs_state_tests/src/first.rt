@@ -49,7 +49,6 @@ pub(crate) fn tree_of(
     ensures { IfOk result (λ tree. HasFacts tree) }
 {
     let lines = lines_of(alloc, told)?;
-    lattice.is_preordered();
     Tree::new(alloc, lattice, &lines, root)
 }
 

@@ -1,7 +1,8 @@
-//! A directory of many names.
+//! A directory of many names: calls of a tree, one after the other, each of which keeps the facts that the next one needs.
 
 ghost use Rattle.std.specs.Prelude.{◌≡◌, IfOk};
-ghost use Rattle.lnfs_tree.specs.Changed.{IsSound};
+ghost use Rattle.lnfs_calipso.specs.Label.{dom_of};
+ghost use Rattle.lnfs_tree.specs.Changed.{FactsFor, HasFacts};
 
 use crate::compare::same;
 use lnfs_calipso::{Label, Lattice, Level};
@@ -21,14 +22,24 @@ const ROOT: NodeId = NodeId {
     number: 1,
 };
 
-/// The root alone.
-pub(crate) fn root_alone(alloc: Global) -> Result<Tree, Fail>
-    ensures { IfOk result (λ tree. IsSound tree) }
-{
+fn one_level(alloc: Global) -> Result<Lattice, Fail> {
     let bottom = Label::new(alloc, 1, 0, &[])?;
-    let lattice = Lattice::new(alloc, &[bottom])?;
-    lattice.is_preordered();
-    Ok(Tree::new(alloc, &lattice, &[], None)?)
+    Ok(Lattice::new(alloc, &[bottom])?)
+}
+
+/// The root alone.
+fn root_of(alloc: Global, lattice: &Lattice) -> Result<Tree, Fail>
+    ensures { IfOk result (λ tree. FactsFor (dom_of lattice.now) tree) }
+{
+    Ok(Tree::new(alloc, lattice, &[], None)?)
+}
+
+/// The same over a lattice of one level.
+pub(crate) fn root_alone(alloc: Global) -> Result<Tree, Fail>
+    ensures { IfOk result (λ tree. HasFacts tree) }
+{
+    let lattice = one_level(alloc)?;
+    root_of(alloc, &lattice)
 }
 
 fn empty_file(alloc: Global) -> Fresh
@@ -47,10 +58,11 @@ fn empty_file(alloc: Global) -> Fresh
 }
 
 /// Makes an empty file in the root.
-fn make(alloc: Global, tree: &mut Tree, name: &[u8]) -> Result<NodeId, Fail>
-    requires { IsSound tree.old }
-    ensures { IfOk result (λ _. IsSound tree.new) }
+fn make(alloc: Global, lattice: &Lattice, tree: &mut Tree, name: &[u8]) -> Result<NodeId, Fail>
+    requires { FactsFor (dom_of lattice.now) tree.old }
+    ensures { IfOk result (λ _. FactsFor (dom_of lattice.now) tree.new) }
 {
+    lattice.is_preordered();
     let Some(root) = tree.node(ROOT) else {
         return Err(Fail::new("no root"));
     };
@@ -62,21 +74,21 @@ fn make(alloc: Global, tree: &mut Tree, name: &[u8]) -> Result<NodeId, Fail>
 }
 
 /// Makes a file under the digits of a number.
-fn make_numbered(alloc: Global, tree: &mut Tree, number: u32) -> Result<(), Fail>
-    requires { IsSound tree.old }
-    ensures { IfOk result (λ _. IsSound tree.new) }
+fn make_numbered(alloc: Global, lattice: &Lattice, tree: &mut Tree, number: u32) -> Result<(), Fail>
+    requires { FactsFor (dom_of lattice.now) tree.old }
+    ensures { IfOk result (λ _. FactsFor (dom_of lattice.now) tree.new) }
 {
     let name = format!(in alloc; "{number}")?;
-    make(alloc, tree, name.as_bytes())?;
+    make(alloc, lattice, tree, name.as_bytes())?;
     Ok(())
 }
 
 /// Makes a file for each number.
-fn fill(alloc: Global, tree: &mut Tree) -> Result<(), Fail>
-    requires { IsSound tree.old }
+fn fill(alloc: Global, lattice: &Lattice, tree: &mut Tree) -> Result<(), Fail>
+    requires { FactsFor (dom_of lattice.now) tree.old }
 {
     for number in 0..NAMES {
-        make_numbered(alloc, tree, number)?;
+        make_numbered(alloc, lattice, tree, number)?;
     }
     Ok(())
 }
@@ -122,8 +134,9 @@ fn list(rt: &impl Abort, alloc: Global, tree: &Tree) -> Result<(), Fail> {
 
 #[test]
 fn many_names(rt: HostRuntime) -> Result<(), Fail> {
-    let mut tree = root_alone(rt.alloc())?;
-    fill(rt.alloc(), &mut tree)?;
+    let lattice = one_level(rt.alloc())?;
+    let mut tree = root_of(rt.alloc(), &lattice)?;
+    fill(rt.alloc(), &lattice, &mut tree)?;
     look_up(&rt, rt.alloc(), &tree)?;
     list(&rt, rt.alloc(), &tree)
 }

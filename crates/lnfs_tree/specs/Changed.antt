@@ -1,10 +1,9 @@
 -- What each change of a tree does to its rows, what it answers, and when it is refused. A refusal leaves the rows.
 use Rattle.std.specs.Prelude.{◌≡◌, ℕ, ◌&&◌, nat_le, Bool, not, cond, List, [], ◌∷◌, ◌++◌, length, Option, Some, None, option_map, Result, Ok, Err, is_some, nat_lt, if◌then◌else◌}
 use Rattle.lnfs_words.specs.Words.{is_empty}
-use Rattle.lnfs_calipso.specs.Label.{IsPreorderWithBottom}
 use Rattle.lnfs_outside.specs.declared.event.Moment.{Moment}
 use Rattle.lnfs_world.specs.declared.numbers.TheConstants.{FIRST_COOKIE, MOST_NAMES}
-use Rattle.lnfs_world.specs.World.{Id, Kind, Stored as StoredLabel, Inner, Node, Entry as NameRow, same_id, node_at, is_directory}
+use Rattle.lnfs_world.specs.World.{Id, Kind, Stored as StoredLabel, Inner, Node, Entry as NameRow, same_id, node_at, label_at, is_directory}
 use Rattle.lnfs_world.specs.Names.{entry_at, names_of, size_of}
 use Rattle.lnfs_world.specs.Tree.{parent_of, holds_names, has_other_name, is_above}
 use Rattle.lnfs_world.specs.Change.{Change, Make, Touch, Relabel, Link, Move, apply_all}
@@ -21,13 +20,21 @@ use Rattle.lnfs_tree.specs.Rows.{Rows, rows_of, id_of, kind_of, stored_of, in_di
 use Rattle.lnfs_tree.specs.Flat.{content_of}
 use Rattle.lnfs_tree.specs.Places.{world_of}
 
--- the facts of a world hold of the rows, whatever dominance is
-abbrev pub HasFacts : Rows → Type 0
-HasFacts t = (dom : ℕ → ℕ → Bool) × NodeFacts dom t.nodes t.entries t.lasts
+-- The facts of a world hold of the rows: directories are a tree, names in one of them differ, and a node's label dominates
+-- its home and the label of each directory that names it, which is its home or its own label.
+abbrev pub FactsFor : (ℕ → ℕ → Bool) → Rows → Type 0
+FactsFor dom t = NodeFacts dom t.nodes t.entries t.lasts
 
--- and a preorder of levels is, so that a subject's changes keep them
-abbrev pub IsSound : Rows → Type 0
-IsSound t = (dom : ℕ → ℕ → Bool) × (IsPreorderWithBottom dom × NodeFacts dom t.nodes t.entries t.lasts)
+-- whatever dominance is
+abbrev pub HasFacts : Rows → Type 0
+HasFacts t = (dom : ℕ → ℕ → Bool) × FactsFor dom t
+
+-- ---- labels that are as they have to be for the facts to hold again
+
+-- what a name names, where it names anything, has the label of a directory
+abbrev pub HasLabelOf : Rows → Id → Option NameRow → Type 0
+HasLabelOf t dir None = Unit {0}
+HasLabelOf t dir (Some e) = label_at t.nodes e.node ≡ label_at t.nodes dir
 
 -- what is answered, and the changes that are made
 pub record Doing (A : Type 0) : Type 0 where

@@ -25,6 +25,10 @@ pub mod Parents
 pub mod Usage
 pub mod NewNames
 pub mod Places
+pub mod ChangedNames
+pub mod FreeNames
+pub mod LinkedNames
+pub mod MovedNames
 pub mod Alone
 pub mod WholeWalks
 pub mod FirstTrees

@@ -15,7 +15,7 @@ use Rattle.lnfs_tree.specs.Changed.{ran, new_node}
 use Rattle.lnfs_open.specs.Opening.{own_open, new_open}
 use Rattle.lnfs_open.specs.Listed.{node_id}
 use Rattle.lnfs_nodes.specs.Acts.{placed}
-use Rattle.lnfs_nodes.proofs.Done.{kept}
+use Rattle.lnfs_tree.proofs.Kept.{kept}
 use Rattle.lnfs_nodes.proofs.Inserts.{seen, inserted, spent, only_spent}
 use Rattle.lnfs_quota.specs.declared.quota.Row.{Row}
 use Rattle.lnfs_quota.specs.Totals.{AreTotals}
@@ -87,7 +87,7 @@ returns-in-Spent-clause-acts c = λ p rest d holds.
     let fresh = c.in_ok-fresh.fresh in
     let home : fresh.home.0 ≡ d.label = ap (λ (l : Level). l.0) c.in_ok-fresh.ensures.home ∙ holds.tells.label in
     let x = absent_in t c.args.dir.now name c.requires.there d holds in
-    let there = spent t c.insert.new.self (id_of c.args.dir.now.id) d name fresh at.moment (ap (λ (i : Id). node_at t.nodes i) holds.id ∙ holds.node_is) x.0 x.1 (rw c.in-Spent.is at c.in-Err-insert.ensures) in
+    let there = spent t c.insert.new.self (id_of c.args.dir.now.id) d name fresh at.moment (ap (λ (i : Id). node_at t.nodes i) holds.id ∙ holds.node_is) x.0 x.1 (rw c.in-Spent.is at c.in-Err-insert.ensures.does) in
     record {
       outcome =
           by_label site args at rest t s number d name wanted making _ _ c.level_or-label.result.0 c.in-Some.is holds.tells.label c.level_or-label.ensures _
@@ -99,14 +99,14 @@ returns-in-Spent-clause-acts c = λ p rest d holds.
 
 pub returns-in-Memory : goal.returns-in-Memory
 returns-in-Memory c =
-    let same = kept seen _ c.args.tree.now c.insert.new.self c.in-Err-insert.error c.in-Err-insert.ensures in
+    let same = kept seen _ c.args.tree.now c.insert.new.self c.in-Err-insert.error c.in-Err-insert.ensures.does in
     record { acts = tt; tree = (None, same); opens = refl; counts = subst (λ (x : Rows). AreTotals c.args.quota.now x.nodes) (sym same) c.requires.counts }
 
 pub unreachable-requires : goal.unreachable-requires
 unreachable-requires c =
     let t = c.args.tree.now in
     let holds = c.requires.there.1.0 in
-    only_spent t c.insert.new.self (id_of c.args.dir.now.id) c.requires.there.0 c.args.name.now c.in_ok-fresh.fresh c.args.opener.now.caller.now.moment (ap (λ (i : Id). node_at t.nodes i) holds.id ∙ holds.node_is) c.requires.there.1.1 c.requires.there.1.2 c.in-Err-insert.error c.in_default-error.not-Spent c.in_default-error.not-Memory c.in-Err-insert.ensures
+    only_spent t c.insert.new.self (id_of c.args.dir.now.id) c.requires.there.0 c.args.name.now c.in_ok-fresh.fresh c.args.opener.now.caller.now.moment (ap (λ (i : Id). node_at t.nodes i) holds.id ∙ holds.node_is) c.requires.there.1.1 c.requires.there.1.2 c.in-Err-insert.error c.in_default-error.not-Spent c.in_default-error.not-Memory c.in-Err-insert.ensures.does
 
 pub unreachable-requires-in_default-error-2 : goal.unreachable-requires-in_default-error-2
 unreachable-requires-in_default-error-2 c =
@@ -133,7 +133,7 @@ returns-in-Ok-open-clause-acts c = λ p rest d holds.
     let level : c.args.opener.now.client.level.0 ≡ at.subject = ap (λ (l : Level). l.0) c.requires.level in
     let label : c.level_or-label.result.0 ≡ level_or d.label wanted.label = c.level_or-label.ensures ∙ ap (λ (l : ℕ). level_or l wanted.label) holds.tells.label in
     let x = absent_in t c.args.dir.now name c.requires.there d holds in
-    let there = inserted t u (id_of c.args.dir.now.id) d name fresh at.moment (ap (λ (i : Id). node_at t.nodes i) holds.id ∙ holds.node_is) x.0 x.1 c.in-Ok.made c.in-Ok.ensures in
+    let there = inserted t u (id_of c.args.dir.now.id) d name fresh at.moment (ap (λ (i : Id). node_at t.nodes i) holds.id ∙ holds.node_is) x.0 x.1 c.in-Ok.made c.in-Ok.ensures.does in
     let n : Node = operation.new_file site at w making wanted d in
     let node : new_node at.moment fresh (next_id t.lasts d.label) ≡ n = c.in_ok-fresh.ensures.node d at w holds label in
     let id : id_of c.in-Ok.made.0 ≡ n.id = ap (λ r. r.0) there.1 ∙ ap (next_id t.lasts) home in
@@ -156,7 +156,7 @@ returns-in-Ok-open-clause-counts c =
     let rows = c.args.quota.now in
     subst (λ (rows : List Row). AreTotals rows c.insert.new.self.nodes) (sym c.charge_node.ensures)
     (counts_in rows (site_of c.args.opener.now.site.now).dom c.args.tree.now c.insert.new.self c.args.dir.now c.args.name.now c.requires.there c.in_ok-fresh.fresh c.args.opener.now.caller.now.moment c.args.dir.now.facts.label.0 c.in-Ok.made
-    (c.totals.ensures.touched_alike rows) (c.totals.ensures.made rows) c.requires.counts c.requires.facts (ap (λ (l : Level). l.0) c.in_ok-fresh.ensures.home) c.in-Ok.ensures)
+    (c.totals.ensures.touched_alike rows) (c.totals.ensures.made rows) c.requires.counts c.requires.facts (ap (λ (l : Level). l.0) c.in_ok-fresh.ensures.home) c.in-Ok.ensures.does)
 
 pub returns-in-Memory-error-clause-tree : goal.returns-in-Memory-error-clause-tree
 returns-in-Memory-error-clause-tree c =
@@ -165,11 +165,11 @@ returns-in-Memory-error-clause-tree c =
     let fresh = c.in_ok-fresh.fresh in
     let moment = c.args.opener.now.caller.now.moment in
     let i : Id = next_id t.lasts fresh.home.0 in
-    (Some (record { directory = d.id; inner = name_added moment d.inner; node = new_node moment fresh i; entry = next_entry d c.args.name.now i }), made_in t c.insert.new.self c.args.dir.now c.args.name.now c.requires.there fresh moment c.in-Ok.made c.in-Ok.ensures)
+    (Some (record { directory = d.id; inner = name_added moment d.inner; node = new_node moment fresh i; entry = next_entry d c.args.name.now i }), made_in t c.insert.new.self c.args.dir.now c.args.name.now c.requires.there fresh moment c.in-Ok.made c.in-Ok.ensures.does)
 
 pub returns-in-Memory-error-clause-counts : goal.returns-in-Memory-error-clause-counts
 returns-in-Memory-error-clause-counts c =
     let rows = c.args.quota.now in
     subst (λ (rows : List Row). AreTotals rows c.insert.new.self.nodes) (sym c.charge_node.ensures)
     (counts_in rows (site_of c.args.opener.now.site.now).dom c.args.tree.now c.insert.new.self c.args.dir.now c.args.name.now c.requires.there c.in_ok-fresh.fresh c.args.opener.now.caller.now.moment c.args.dir.now.facts.label.0 c.in-Ok.made
-    (c.totals.ensures.touched_alike rows) (c.totals.ensures.made rows) c.requires.counts c.requires.facts (ap (λ (l : Level). l.0) c.in_ok-fresh.ensures.home) c.in-Ok.ensures)
+    (c.totals.ensures.touched_alike rows) (c.totals.ensures.made rows) c.requires.counts c.requires.facts (ap (λ (l : Level). l.0) c.in_ok-fresh.ensures.home) c.in-Ok.ensures.does)

@@ -12,7 +12,7 @@ use Rattle.lnfs_nodes.specs.Acts.{placed, Succeeds, Refuses}
 use Rattle.lnfs_nodes.specs.GivenValues.{Asked, asked_of}
 use Rattle.lnfs_nodes.specs.Creating.{created_of}
 use Rattle.lnfs_nodes.specs.declared.creating.Created.{Created}
-use Rattle.lnfs_nodes.proofs.Done.{kept}
+use Rattle.lnfs_tree.proofs.Kept.{kept}
 use Rattle.lnfs_nodes.proofs.Refusing.{not_held}
 use Rattle.lnfs_nodes.proofs.Inserts.{seen, inserted, spent, only_spent, full, no_number, all_room, makes}
 use Rattle.lnfs_nodes.proofs.Creates.{in_directory, refused, taken, name_refused, name_taken, no_space, with_space}
@@ -82,7 +82,7 @@ returns-in-Ok-insert-clause-acts c = λ p rest.
     name_taken site what name given at rest t h x child c.in-Ok-node_held.ensures (rw c.in-Ok.is at c.in_ok-asked.ensures) c.level_or-child.ensures
     (λ (o : Outcome (Answer Made)). Succeeds (created_of it) (record at { current = Some (id_of it.node) }) rest t u o) c.in_default.ensures
     (λ d holds directory subject absent.
-    let there = inserted t u (id_of h.id) d name fresh at.moment (ap (λ (i : Id). node_at t.nodes i) holds.id ∙ holds.node_is) directory absent c.in-Ok-insert.made c.in-Ok-insert.ensures in
+    let there = inserted t u (id_of h.id) d name fresh at.moment (ap (λ (i : Id). node_at t.nodes i) holds.id ∙ holds.node_is) directory absent c.in-Ok-insert.made c.in-Ok-insert.ensures.does in
     subst (λ (o : Outcome (Answer Made)). Succeeds (created_of it) (record at { current = Some (id_of it.node) }) rest t u o)
     (sym (with_space site what name given at rest t h x child c.in-Ok-node_held.ensures (rw c.in-Ok.is at c.in_ok-asked.ensures) c.level_or-child.ensures
     (with_tree rest t) d (all_room site at rest t d c.args.room c.requires.room subject c.if-not-room.false fresh.home.0 (home ∙ holds.tells.label) there.0)))
@@ -107,7 +107,7 @@ returns-in-Spent-clause-acts c = λ p rest.
     name_taken site what name given at rest t h x child c.in-Ok-node_held.ensures (rw c.in-Ok.is at c.in_ok-asked.ensures) c.level_or-child.ensures
     (λ (o : Outcome (Answer Made)). Refuses why at t u o) c.in_default.ensures
     (λ d holds directory subject absent.
-    let there = spent t u (id_of h.id) d name fresh at.moment (ap (λ (i : Id). node_at t.nodes i) holds.id ∙ holds.node_is) directory absent (rw c.in-Spent.is at c.in-Err-insert.ensures) in
+    let there = spent t u (id_of h.id) d name fresh at.moment (ap (λ (i : Id). node_at t.nodes i) holds.id ∙ holds.node_is) directory absent (rw c.in-Spent.is at c.in-Err-insert.ensures.does) in
     record {
       outcome =
           no_space site what name given at rest t h x child c.in-Ok-node_held.ensures (rw c.in-Ok.is at c.in_ok-asked.ensures) c.level_or-child.ensures
@@ -116,7 +116,7 @@ returns-in-Spent-clause-acts c = λ p rest.
     })
 
 pub returns-in-Memory : goal.returns-in-Memory
-returns-in-Memory c = record { acts = tt; kept = kept seen _ c.args.tree.now c.insert.new.self c.in-Err-insert.error c.in-Err-insert.ensures }
+returns-in-Memory c = record { acts = tt; kept = kept seen _ c.args.tree.now c.insert.new.self c.in-Err-insert.error c.in-Err-insert.ensures.does }
 
 pub unreachable-requires : goal.unreachable-requires
 unreachable-requires c =
@@ -127,4 +127,4 @@ unreachable-requires c =
     name_taken (site_of c.args.site.now) c.args.what.now name c.args.given.now at (world_of t) t h (asked_of c.in-Ok.asked) c.level_or-child.result.0 c.in-Ok-node_held.ensures (rw c.in-Ok.is at c.in_ok-asked.ensures) c.level_or-child.ensures
     (λ (o : Outcome (Answer Made)). ⊥) c.in_default.ensures
     (λ d holds directory subject absent.
-    only_spent t c.insert.new.self (id_of h.id) d name c.in_ok-fresh.fresh at.moment (ap (λ (i : Id). node_at t.nodes i) holds.id ∙ holds.node_is) directory absent c.in-Err-insert.error c.in_default-error.not-Spent c.in_default-error.not-Memory c.in-Err-insert.ensures)
+    only_spent t c.insert.new.self (id_of h.id) d name c.in_ok-fresh.fresh at.moment (ap (λ (i : Id). node_at t.nodes i) holds.id ∙ holds.node_is) directory absent c.in-Err-insert.error c.in_default-error.not-Spent c.in_default-error.not-Memory c.in-Err-insert.ensures.does)

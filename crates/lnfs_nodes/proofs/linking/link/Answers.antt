@@ -16,7 +16,7 @@ pub returns-in-Ok-link : goal.returns-in-Ok-link
 returns-in-Ok-link c = record {
   acts = λ p rest.
       acts (λ r. r) (λ a. cinfo_of a) (placed p c.args.caller.now) c.args.tree.now c.link.new.self _ (λ a w. w) rest (link_of c.args.tree.now (id_of c.in-Ok.ends.node) (id_of c.in-Ok.ends.dir) c.args.name.now c.args.caller.now.moment)
-      (c.in-Ok.ensures p rest) (of_link c.args.tree.now (id_of c.in-Ok.ends.node) (id_of c.in-Ok.ends.dir) c.args.name.now c.args.caller.now.moment) (leaves_link c.args.tree.now (id_of c.in-Ok.ends.node) (id_of c.in-Ok.ends.dir) c.args.name.now c.args.caller.now.moment) c.in-Ok-link.info c.in-Ok-link.ensures;
+      (c.in-Ok.ensures p rest) (of_link c.args.tree.now (id_of c.in-Ok.ends.node) (id_of c.in-Ok.ends.dir) c.args.name.now c.args.caller.now.moment) (leaves_link c.args.tree.now (id_of c.in-Ok.ends.node) (id_of c.in-Ok.ends.dir) c.args.name.now c.args.caller.now.moment) c.in-Ok-link.info c.in-Ok-link.ensures.does;
   memory = tt;
 }
 
@@ -24,6 +24,6 @@ pub returns-in_ok-settled_by-in-Err-link : goal.returns-in_ok-settled_by-in-Err-
 returns-in_ok-settled_by-in-Err-link c = record {
   acts = λ p rest.
       acts_not (λ r. r) (λ a. cinfo_of a) (placed p c.args.caller.now) c.args.tree.now c.link.new.self _ (link_of c.args.tree.now (id_of c.in-Ok.ends.node) (id_of c.in-Ok.ends.dir) c.args.name.now c.args.caller.now.moment)
-      (c.in-Ok.ensures p rest) c.in-Err-link.error (λ none. false≢true (c.in_ok-settled_by-in-Err-link.ensures.memory.1 none)) c.in-Err-link.ensures c.in_ok-settled_by-in-Err-link.field-0 c.in_ok-settled_by-in-Err-link.ensures.refusal;
+      (c.in-Ok.ensures p rest) c.in-Err-link.error (λ none. false≢true (c.in_ok-settled_by-in-Err-link.ensures.memory.1 none)) c.in-Err-link.ensures.does c.in_ok-settled_by-in-Err-link.field-0 c.in_ok-settled_by-in-Err-link.ensures.refusal;
   memory = tt;
 }

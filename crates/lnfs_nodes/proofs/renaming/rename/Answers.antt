@@ -24,10 +24,10 @@ returns-in-Ok-rename c =
     record {
       acts = λ p rest.
           acts (λ (r : Info × Info × Option Dropped). (r.0, r.1, option_map gone_of r.2)) (λ (a : Info × Info × Option Gone). renamed_of a.0 a.1) (placed p c.args.caller.now) c.args.tree.now c.rename.new.self _ left_renamed rest told
-          (c.in-Ok.ensures.checked p rest) (of_rename c.args.tree.now (id_of c.in-Ok.ends.from.id) c.args.old.now (id_of c.in-Ok.ends.to.id) c.args.new.now c.args.caller.now.moment) (leaves_rename c.args.tree.now (id_of c.in-Ok.ends.from.id) c.args.old.now (id_of c.in-Ok.ends.to.id) c.args.new.now c.args.caller.now.moment) c.in-Ok-rename.done c.in-Ok-rename.ensures;
+          (c.in-Ok.ensures.checked p rest) (of_rename c.args.tree.now (id_of c.in-Ok.ends.from.id) c.args.old.now (id_of c.in-Ok.ends.to.id) c.args.new.now c.args.caller.now.moment) (leaves_rename c.args.tree.now (id_of c.in-Ok.ends.from.id) c.args.old.now (id_of c.in-Ok.ends.to.id) c.args.new.now c.args.caller.now.moment) c.in-Ok-rename.done c.in-Ok-rename.ensures.does;
       gone =
           told_gone (λ (r : Info × Info × Option Dropped). (r.0, r.1, option_map gone_of r.2)) (λ (a : Info × Info × Option Gone). a.2) c.args.tree.now c.rename.new.self told _
-          (rename_gone c.args.tree.now (id_of c.in-Ok.ends.from.id) c.args.old.now (id_of c.in-Ok.ends.to.id) c.args.new.now c.args.caller.now.moment) c.in-Ok-rename.done c.in-Ok-rename.ensures
+          (rename_gone c.args.tree.now (id_of c.in-Ok.ends.from.id) c.args.old.now (id_of c.in-Ok.ends.to.id) c.args.new.now c.args.caller.now.moment) c.in-Ok-rename.done c.in-Ok-rename.ensures.does
           ∙ ap (λ i. gone_past c.args.tree.now i c.args.old.now (Some (id_of c.in-Ok.ends.to.id)) c.args.new.now) (sym c.in-Ok.ensures.from)
           ∙ ap (λ i. gone_past c.args.tree.now (option_map id_of c.args.caller.now.saved) c.args.old.now i c.args.new.now) (sym c.in-Ok.ensures.to);
       memory = tt;
@@ -38,7 +38,7 @@ returns-in_ok-settled_by-in-Err-rename c = record {
   acts = λ p rest.
       acts_not (λ (r : Info × Info × Option Dropped). (r.0, r.1, option_map gone_of r.2)) (λ (a : Info × Info × Option Gone). renamed_of a.0 a.1) (placed p c.args.caller.now) c.args.tree.now c.rename.new.self _
       (rename_of c.args.tree.now (id_of c.in-Ok.ends.from.id) c.args.old.now (id_of c.in-Ok.ends.to.id) c.args.new.now c.args.caller.now.moment)
-      (c.in-Ok.ensures.checked p rest) c.in-Err-rename.error (λ none. false≢true (c.in_ok-settled_by-in-Err-rename.ensures.memory.1 none)) c.in-Err-rename.ensures c.in_ok-settled_by-in-Err-rename.field-0 c.in_ok-settled_by-in-Err-rename.ensures.refusal;
+      (c.in-Ok.ensures.checked p rest) c.in-Err-rename.error (λ none. false≢true (c.in_ok-settled_by-in-Err-rename.ensures.memory.1 none)) c.in-Err-rename.ensures.does c.in_ok-settled_by-in-Err-rename.field-0 c.in_ok-settled_by-in-Err-rename.ensures.refusal;
   gone = tt;
   memory = tt;
 }
