@@ -6,6 +6,8 @@ mod beside;
 #[cfg(test)]
 mod callers;
 #[cfg(test)]
+mod closing;
+#[cfg(test)]
 mod codecs;
 #[cfg(test)]
 mod meeting;

@@ -87,6 +87,8 @@ impl Sink for Meeting<'_> {
 
 impl Link for Meeting<'_> {
     ghost besides = { λ s. (refl, refl) };
+
+    fn close(&mut self) {}
 }
 
 /// Gives two links whose first reads wait for each other, once two classes are listened on. Counts those that are back.
@@ -135,6 +137,10 @@ impl<'a> Net for Hall<'a> {
 
     fn dial(&mut self, class: u32) -> Result<Meeting<'a>, Failed> {
         self.accept(class)
+    }
+
+    fn stop_listening(&mut self) {
+        self.listened = 0;
     }
 
     fn hang_up(&mut self, link: Meeting<'a>) {
@@ -226,6 +232,7 @@ fn links_meet(rt: HostRuntime) -> Result<(), Flaw> {
         "both were read"
     );
     assert_eq!(rt; audit.seen, Some(2), "links that were back");
+    assert_eq!(rt; hall.listened, 0, "nobody listens");
     assert_eq!(rt; status, 0, "status");
     Ok(())
 }

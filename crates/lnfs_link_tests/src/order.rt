@@ -82,4 +82,8 @@ impl Sink for Counted<'_> {
 
 impl Link for Counted<'_> {
     ghost besides = { λ s. (refl, refl) };
+
+    fn close(&mut self) {
+        self.link.close();
+    }
 }

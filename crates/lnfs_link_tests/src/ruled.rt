@@ -107,6 +107,8 @@ impl<P: Rule> Sink for Ruled<P> {
 
 impl<P: Rule> Link for Ruled<P> {
     ghost besides = { λ s. (refl, refl) };
+
+    fn close(&mut self) {}
 }
 
 /// A link that gives requests in words, with slashes between, by a rule.
@@ -199,6 +201,8 @@ impl<P: Rule + Drop> Net for Callers<'_, P> {
         self.faults = self.faults.saturating_add(1);
         Err(Failed)
     }
+
+    fn stop_listening(&mut self) {}
 
     fn hang_up(&mut self, link: Ruled<P>) {
         if self.noted.is_none() {

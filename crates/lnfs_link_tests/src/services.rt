@@ -214,3 +214,29 @@ fn faults_of_streams(rt: HostRuntime) -> Result<(), Flaw> {
     }
     Ok(())
 }
+
+/// Each line is one write, and the recording is written event by event: a write that fails loses nothing that was written before it.
+#[test]
+fn line_by_line(rt: HostRuntime) -> Result<(), Flaw> {
+    let alloc = rt.alloc();
+    let denied = "1 0 2 100003 3 1 SYS / 1 0 2 100003 3 1 SYS";
+    let lines = "1 0 0 P 2\n2 0 0 P 2\nlink 0 Closed 2\nlink 1 Closed 0\n";
+    for (number, taken) in [(1u64, 0usize), (2, 10), (3, 20), (4, 36)] {
+        let mut net = net_of(alloc, &[peer_of(0, denied), peer_of(0, "")], &[])?;
+        let audits = [number];
+        let failing = Failing {
+            audits: &audits,
+            ..NONE
+        };
+        let ran = run_service(&rt, alloc, "serve p 0,0 1", &mut net, failing)?;
+        let front = lines.get(..taken).expect(&rt, lines);
+        tells(&rt, "a line that fails", &ran, 6, front);
+        assert_eq!(rt; net.back().len(), 2, "links that are back");
+    }
+    let mut net = net_of(alloc, &[peer_of(0, denied)], &[])?;
+    let failing = Failing { outs: &[2], ..NONE };
+    let ran = run_service(&rt, alloc, "serve p 0 1", &mut net, failing)?;
+    tells(&rt, "an event that fails", &ran, 6, "");
+    assert!(rt; ran.1.bytes() == b"LNFSTRC1".as_slice(), "the beginning");
+    Ok(())
+}

@@ -1,10 +1,10 @@
 -- Why a call gave up, beside other counts.
-use Rattle.std.proofs.Common.{◌≡◌, ℕ, arith}
+use Rattle.std.proofs.Common.{◌≡◌, ℕ, arith, inl, inr}
 use Rattle.std.specs.Prelude.{Result, Err}
 use Rattle.lnfs_outside.specs.Causes.{Rose}
 use Rattle.lnfs_program.specs.declared.status.Stop.{Stop}
 use Rattle.lnfs_program.specs.declared.status.Stop.TheVariants.{ReadFault, WriteFault, Memory, NetFault}
-use Rattle.lnfs_program.specs.Runs.{IsExcused, NoneFell, OneRose, NetOnly, WritesAndNet}
+use Rattle.lnfs_program.specs.Runs.{IsExcused, NoneFell, OneRose, NetOnly, WritesOnly, WritesAndNet}
 use Rattle.lnfs_program.specs.Streams.{Counts}
 
 module _ {read write net read' write' net' : Type 0} (r : read → read') (w : write → write') (n : net → net') where
@@ -30,3 +30,21 @@ links_only result stop {net} {net'} c is p = rw is (record {
   later = none_fell c;
   excused = excused_so (same {A = ⊥}) (no {A = OneRose c c}) (same {A = Rose net net'}) stop p.excused;
 })
+
+-- ---- calls that write, one after another
+
+module _ {a b c : Counts} where
+  pub none_fell_on : NoneFell a b → NoneFell b c → NoneFell a c
+  none_fell_on p q = record { out = omega (arith, p.out, q.out); audit = omega (arith, p.audit, q.audit) }
+
+  one_rose_on : NoneFell a b → OneRose b c → OneRose a c
+  one_rose_on p (inl r) = inl (omega (arith, p.out, r))
+  one_rose_on p (inr r) = inr (omega (arith, p.audit, r))
+
+  -- one that gave up behind those before it
+  pub writes_after : {T U : Type 0} {result : Result U Stop} (stop : Stop) → result ≡ Err stop → NoneFell a b → WritesOnly {T = T} (Err stop) b c → WritesOnly result a c
+  writes_after stop is p w = rw is (record { later = none_fell_on p w.later; excused = excused_so (same {A = ⊥}) (one_rose_on p) (same {A = ⊥}) stop w.excused })
+
+-- and for want of memory
+pub writes_memory : {U : Type 0} {result : Result U Stop} {a b : Counts} → result ≡ Err Memory → NoneFell a b → WritesOnly result a b
+writes_memory is p = rw is (record { later = p; excused = tt })

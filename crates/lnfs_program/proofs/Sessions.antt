@@ -1,11 +1,9 @@
 -- What a service came to, link by link.
-use Rattle.std.proofs.Common.{◌≡◌, ℕ, zero, suc, ◌+◌, ◌≤◌, ◌<◌, List, [], ◌∷◌, ◌++◌, length, take, get_or, map, All, refl, sym, ap, ◌∙◌, subst, arith, append-nil, append_assoc, unwrap_or}
-use Rattle.std.proofs.lemmas.List.{length-map, length-take-le, take_more}
+use Rattle.std.proofs.Common.{◌≡◌, ℕ, zero, suc, ◌+◌, ◌≤◌, ◌<◌, List, [], ◌∷◌, ◌++◌, length, take, get_or, map, All, refl, sym, ap, ◌∙◌, subst, arith}
+use Rattle.std.proofs.lemmas.List.{length-map, length-take-le, map-append, take_more}
 use Rattle.std.specs.Prelude.{IfSome}
 use Rattle.std.specs.declared.option.Option.{Option}
 use Rattle.std.specs.declared.option.Option.TheVariants.{Some, None}
-use Rattle.std.specs.List.{flat_map}
-use Rattle.std.proofs.lemmas.List.Concat.{flat_map-append}
 use Rattle.std.proofs.lemmas.List.Elements.{All-cons}
 use Rattle.lnfs_outside.specs.Nets.{Back}
 use Rattle.lnfs_outside.specs.declared.event.Event.{Event}
@@ -18,41 +16,37 @@ use Rattle.lnfs_history.specs.declared.entry.Entry.{Entry}
 use Rattle.lnfs_step.specs.Step.{Line}
 use Rattle.lnfs_step.specs.Journal.{reply_with, answer, line_at, line_text, text_of, audit_at}
 use Rattle.lnfs_workers.specs.Links.{IsServed}
-use Rattle.lnfs_workers.specs.Lines.{placed, lines_from, lines_in}
-use Rattle.lnfs_vault.specs.Lines.{line_in}
+use Rattle.lnfs_workers.specs.Lines.{placed, lines_from, lines_of, lines_in}
 use Rattle.lnfs_vault.specs.declared.audit.AuditLine.{AuditLine}
 use Rattle.lnfs_workers.specs.Served.{Service}
 use Rattle.lnfs_workers.specs.Pairs.{EachAt}
 use Rattle.lnfs_workers.specs.Transcripts.{entries_from, entries_of}
 use Rattle.lnfs_workers.specs.declared.line.LinkEnd.{LinkEnd}
-use Rattle.lnfs_program.specs.Lines.{line_at_place}
-use Rattle.lnfs_program.specs.Writes.{lines_after}
+use Rattle.lnfs_program.specs.Lines.{text_at_place}
+use Rattle.lnfs_program.specs.Writes.{each_line, lone}
 use Rattle.lnfs_program.specs.Links.{deal_of, IsNew, told_end}
 use Rattle.lnfs_program.specs.Session.{answered_after, answered, began, link_line, link_lines, FoundMemory, IsSession}
 
 -- ---- the lines of links
 
 module _ {L : Type 0} where
-  pub lines_more : (n : ℕ) (ends : List (LinkEnd L)) (end : LinkEnd L) → link_lines n (ends ++ end ∷ []) ≡ link_lines n ends ++ link_line (n + length ends) end
-  lines_more n [] end =
-      let number : n ≡ n + 0 = omega arith in
-      append-nil (link_line n end) ∙ ap (λ (k : ℕ). link_line k end) number
+  lines_more : (n : ℕ) (ends : List (LinkEnd L)) (end : LinkEnd L) → link_lines n (ends ++ end ∷ []) ≡ link_lines n ends ++ link_line (n + length ends) end ∷ []
+  lines_more n [] end = let number : n ≡ n + 0 = omega arith in ap (λ (k : ℕ). link_line k end ∷ []) number
   lines_more n (e ∷ ends) end =
       let number : n + 1 + length ends ≡ n + length (e ∷ ends) = omega arith in
-      ap (λ (text : List ℕ). link_line n e ++ text) (lines_more (n + 1) ends end ∙ ap (λ (k : ℕ). link_lines (n + 1) ends ++ link_line k end) number)
-      ∙ sym (append_assoc (link_line n e) (link_lines (n + 1) ends) (link_line (n + length (e ∷ ends)) end))
+      ap (λ (lines : List (List ℕ)). link_line n e ∷ lines) (lines_more (n + 1) ends end ∙ ap (λ (k : ℕ). link_lines (n + 1) ends ++ link_line k end ∷ []) number)
 
   -- with the next one
-  pub lines_next : (ends : List (LinkEnd L)) (n : ℕ) (end : LinkEnd L) → n < length ends → end ≡ get_or ends n end → link_lines 0 (take n ends) ++ link_line n end ≡ link_lines 0 (take (n + 1) ends)
+  pub lines_next : (ends : List (LinkEnd L)) (n : ℕ) (end : LinkEnd L) → n < length ends → end ≡ get_or ends n end → link_lines 0 (take n ends) ++ link_line n end ∷ [] ≡ link_lines 0 (take (n + 1) ends)
   lines_next ends n end less is =
       let front : List (LinkEnd L) = take n ends in
       let number : 0 + length front ≡ n = omega (arith, length-take-le n ends (omega (arith, less))) in
-      sym (ap (link_lines 0) (take_more ends n end less ∙ ap (λ (e : LinkEnd L). front ++ e ∷ []) (sym is)) ∙ lines_more 0 front end ∙ ap (λ (k : ℕ). link_lines 0 front ++ link_line k end) number)
+      sym (ap (link_lines 0) (take_more ends n end less ∙ ap (λ (e : LinkEnd L). front ++ e ∷ []) (sym is)) ∙ lines_more 0 front end ∙ ap (λ (k : ℕ). link_lines 0 front ++ link_line k end ∷ []) number)
 
 module _ {L : Type 0} (tell : L → Back) where
   pub told_lines : (n : ℕ) (ends : List (LinkEnd L)) → link_lines n (map (told_end tell) ends) ≡ link_lines n ends
   told_lines n [] = refl
-  told_lines n (e ∷ ends) = ap (λ (text : List ℕ). link_line n e ++ text) (told_lines (n + 1) ends)
+  told_lines n (e ∷ ends) = ap (λ (lines : List (List ℕ)). link_line n e ∷ lines) (told_lines (n + 1) ends)
 
   pub told_found : (ends : List (LinkEnd L)) → All FoundMemory ends → All FoundMemory (map (told_end tell) ends)
   told_found [] all = λ k d less. absurd (omega arith)
@@ -123,23 +117,23 @@ module _ {L : Type 0} (tell : L → Back) (may : Moment → Type 0) (m : Signing
 
 -- ---- the lines of the journal
 
-pub text_more : (lines : List AuditLine) (line : AuditLine) → flat_map line_at_place (lines_in (lines ++ line ∷ [])) ≡ flat_map line_at_place (lines_in lines) ++ line_text line.event (line_in line)
-text_more [] line = append-nil (line_text line.event (line_in line))
-text_more (l ∷ lines) line =
-    ap (λ (text : List ℕ). line_text l.event (line_in l) ++ text) (text_more lines line)
-    ∙ sym (append_assoc (line_text l.event (line_in l)) (flat_map line_at_place (lines_in lines)) (line_text line.event (line_in line)))
+abbrev at_place : ℕ × Line → List ℕ
+at_place line = line_text line.0 line.1
 
--- with the next one
-pub text_next : (lines : List AuditLine) (n : ℕ) (line : AuditLine) → n < length lines → line ≡ get_or lines n line → flat_map line_at_place (lines_in (take n lines)) ++ line_text line.event (line_in line) ≡ flat_map line_at_place (lines_in (take (n + 1) lines))
-text_next lines n line less is = sym (ap (λ (ls : List AuditLine). flat_map line_at_place (lines_in ls)) (take_more lines n line less ∙ ap (λ (l : AuditLine). take n lines ++ l ∷ []) (sym is)) ∙ text_more (take n lines) line)
+in_place : (lines : List AuditLine) → map text_at_place lines ≡ map at_place (lines_in lines)
+in_place [] = refl
+in_place (l ∷ lines) = ap (λ (texts : List (List ℕ)). text_at_place l ∷ texts) (in_place lines)
 
-placed_text : (event : ℕ) (line : Option Line) → flat_map line_at_place (placed event line) ≡ unwrap_or (text_of event line) []
+placed_text : (event : ℕ) (line : Option Line) → map at_place (placed event line) ≡ lone (text_of event line)
 placed_text event None = refl
-placed_text event (Some line) = append-nil (line_text event line)
+placed_text event (Some line) = refl
 
-pub journal_lines : (m : Signing) (p : Policy) (before journal : List Event) → flat_map line_at_place (lines_from no_extra m p before journal) ≡ lines_after (audit_at m p) before journal
-unfolding lines_after audit_at
-journal_lines m p before [] = refl
-journal_lines m p before (e ∷ journal) =
-    flat_map-append line_at_place (placed (length before + 1) (line_at m p before e)) (lines_from no_extra m p (before ++ e ∷ []) journal)
-    ∙ (λ i. placed_text (length before + 1) (line_at m p before e) i ++ journal_lines m p (before ++ e ∷ []) journal i)
+from_journal : (m : Signing) (p : Policy) (before journal : List Event) → map at_place (lines_from no_extra m p before journal) ≡ each_line (audit_at m p) before journal
+unfolding each_line audit_at
+from_journal m p before [] = refl
+from_journal m p before (e ∷ journal) =
+    map-append at_place (placed (length before + 1) (line_at m p before e)) (lines_from no_extra m p (before ++ e ∷ []) journal)
+    ∙ (λ i. placed_text (length before + 1) (line_at m p before e) i ++ from_journal m p (before ++ e ∷ []) journal i)
+
+pub journal_lines : (m : Signing) (p : Policy) (journal : List Event) (lines : List AuditLine) → lines_in lines ≡ lines_of no_extra m p journal → map text_at_place lines ≡ each_line (audit_at m p) [] journal
+journal_lines m p journal lines are = in_place lines ∙ ap (map at_place) are ∙ from_journal m p [] journal

@@ -1,13 +1,14 @@
 -- The writes of a service, up to where a call gave up.
 use Rattle.std.proofs.Common.{◌≡◌, List, [], ◌∷◌, ◌++◌, map, refl, sym, ap, ◌∙◌, subst}
 use Rattle.std.specs.Prelude.{Result, Ok, OnOk}
-use Rattle.std.specs.List.{flat_map}
+use Rattle.std.proofs.lemmas.List.{map-append}
 use Rattle.std.specs.declared.option.Option.TheVariants.{Some}
 use Rattle.lnfs_outside.specs.Nets.{Back}
 use Rattle.lnfs_outside.specs.declared.event.Event.{Event}
 use Rattle.lnfs_policy.specs.Policy.{Policy}
 use Rattle.lnfs_gss3.specs.Mechanism.{Signing}
 use Rattle.lnfs_operations.specs.Extra.{no_extra}
+use Rattle.lnfs_step.specs.Journal.{audit_at}
 use Rattle.lnfs_traffic.specs.Texts.{recording_text}
 use Rattle.lnfs_vault.specs.declared.audit.AuditLine.{AuditLine}
 use Rattle.lnfs_workers.specs.Lines.{lines_in, lines_of}
@@ -16,12 +17,12 @@ use Rattle.lnfs_program.specs.declared.status.Status.{Status}
 use Rattle.lnfs_program.specs.declared.status.Status.TheVariants as statuses
 use Rattle.lnfs_program.specs.declared.status.Stop.{Stop}
 use Rattle.lnfs_program.specs.Due.{served}
-use Rattle.lnfs_program.specs.Lines.{line_at_place}
+use Rattle.lnfs_program.specs.Lines.{text_at_place}
 use Rattle.lnfs_program.specs.Links.{told_end}
 use Rattle.lnfs_program.specs.Runs.{Plays}
 use Rattle.lnfs_program.specs.Session.{Session, link_lines}
 use Rattle.lnfs_program.specs.Streams.{Streams}
-use Rattle.lnfs_program.specs.Writes.{Write, to_out, to_audit, Takes, TakesFront, Does}
+use Rattle.lnfs_program.specs.Writes.{Write, to_out, to_audit, each_line, Takes, TakesFront, Does}
 use Rattle.lnfs_program.proofs.Judging.{gave_up_in}
 use Rattle.lnfs_program.proofs.Sessions.{journal_lines, told_lines}
 use Rattle.lnfs_program.proofs.Writing.{does_then, front_all, front_first}
@@ -32,13 +33,16 @@ module _ (m : Signing) (policy : Policy) {L : Type 0} (tell : L → Back) (journ
 
   -- the recording and the audit lines, and then the lines of the links
   abbrev pub first : List Write
-  first = to_out (recording_text journal) ∷ to_audit (flat_map line_at_place (lines_in lines)) ∷ []
+  first = to_out (recording_text journal) ∷ map to_audit (map text_at_place lines)
 
   abbrev pub last : List Write
-  last = to_audit (link_lines 0 ends) ∷ []
+  last = map to_audit (link_lines 0 ends)
 
   all_writes : first ++ last ≡ (served m policy (Some session)).writes
-  all_writes = λ i. to_out (recording_text journal) ∷ to_audit ((ap (flat_map line_at_place) lines_are ∙ journal_lines m policy [] journal) i) ∷ to_audit (sym (told_lines tell 0 ends) i) ∷ []
+  all_writes =
+      let texts : map text_at_place lines ++ link_lines 0 ends ≡ each_line (audit_at m policy) [] journal ++ link_lines 0 (map (told_end tell) ends) =
+      λ i. journal_lines m policy journal lines lines_are i ++ sym (told_lines tell 0 ends) i in
+      ap (λ (ws : List Write). to_out (recording_text journal) ∷ ws) (sym (map-append to_audit (map text_at_place lines) (link_lines 0 ends)) ∙ ap (map to_audit) texts)
 
   module _ {result : Result Status Stop} {s t : Streams} where
     stopped : OnOk result ⊥ → TakesFront s t (first ++ last) → Plays (served m policy (Some session)) result s t

@@ -1,9 +1,10 @@
 -- Writes that were taken, one after another.
-use Rattle.std.proofs.Common.{◌≡◌, ℕ, zero, suc, List, [], ◌∷◌, ◌++◌, length, take, refl, sym, ap, ◌∙◌, arith, append_assoc, append-nil, subst}
+use Rattle.std.proofs.Common.{◌≡◌, ℕ, zero, suc, ◌+◌, ◌<◌, ◌≤◌, List, [], ◌∷◌, ◌++◌, length, map, take, drop, get_or, refl, sym, ap, ◌∙◌, arith, append_assoc, append-nil, subst}
 use Rattle.std.specs.Prelude.{Result, Ok, Err, OnOk}
 use Rattle.std.specs.Io.KnownBytes.{Appends}
 use Rattle.std.specs.declared.option.Option.{Option}
 use Rattle.std.proofs.lemmas.Grind.{common_steps}
+use Rattle.std.proofs.lemmas.List.{map-append, take-append-drop, take_all, take_more}
 use Rattle.lnfs_outside.specs.Bytes.{AppendsPart, Puts}
 use Rattle.lnfs_outside.proofs.Parts.{nothing, then_more}
 use Rattle.lnfs_program.specs.Streams.{Streams, streams}
@@ -145,6 +146,10 @@ front_whole_of {s} {t} {xs} p = subst (λ ws. TakesFront s t ws) (append-nil xs)
 pub does_line : {T E : Type 0} {result : Result T E} {s t : Streams} {text written : List ℕ} → written ≡ text → Does result s t (to_audit written ∷ []) → Does result s t (to_audit text ∷ [])
 does_line {T} {E} {result} {s} {t} e d = subst (λ l. Does result s t (to_audit l ∷ [])) e d
 
+-- lines of the same texts
+pub does_lines : {T E : Type 0} {result : Result T E} {s t : Streams} {texts written : List (List ℕ)} → written ≡ texts → Does result s t (map to_audit written) → Does result s t (map to_audit texts)
+does_lines {T} {E} {result} {s} {t} e d = subst (λ l. Does result s t (map to_audit l)) e d
+
 -- some writes, and then a call that does others
 pub does_then : {T E : Type 0} {result : Result T E} {r s t : Streams} (xs ys : List Write) → Takes r s xs → Does result s t ys → Does result r t (xs ++ ys)
 does_then {T} {E} {result} xs ys p q = record { begun = front_then xs ys p q.begun; done = on_ok result (takes_then xs ys p) q.done }
@@ -152,3 +157,40 @@ does_then {T} {E} {result} xs ys p q = record { begun = front_then xs ys p q.beg
 -- a call that gave up within the first of two lists of writes
 pub does_first : {S T E : Type 0} {first : Result S E} {result : Result T E} {s t : Streams} (xs ys : List Write) → Does first s t xs → OnOk result ⊥ → Does result s t (xs ++ ys)
 does_first {S} {T} {E} {first} {result} xs ys p never = record { begun = front_first xs ys p.begun; done = on_ok result (λ x. absurd x) never }
+
+-- ---- lines on the audit stream, one after another
+
+module _ {X : Type 0} (text : X → List ℕ) (items : List X) (n : ℕ) where
+  abbrev lines : List X → List Write
+  lines xs = map to_audit (map text xs)
+
+  lines_join : (xs ys : List X) → lines (xs ++ ys) ≡ lines xs ++ lines ys
+  lines_join xs ys = ap (map to_audit) (map-append text xs ys) ∙ map-append to_audit (map text xs) (map text ys)
+
+  lines_cut : (k : ℕ) → lines (take k items) ++ lines (drop k items) ≡ lines items
+  lines_cut k = sym (lines_join (take k items) (drop k items)) ∙ ap lines (take-append-drop k items)
+
+  -- so many were written, and the call gave up
+  pub lines_stop : {T E : Type 0} {result : Result T E} {s t : Streams} → Takes s t (lines (take n items)) → OnOk result ⊥ → Does result s t (lines items)
+  lines_stop {T} {E} {result} {s} {t} taken never = record {
+    begun = subst (λ ws. TakesFront s t ws) (lines_cut n) (front_all (lines (take n items)) (lines (drop n items)) taken);
+    done = on_ok result (λ x. absurd x) never;
+  }
+
+  -- all of them were
+  pub lines_whole : {T E : Type 0} {value : T} {s t : Streams} → length items ≤ n → Takes s t (lines (take n items)) → Does {E = E} (Ok value) s t (lines items)
+  lines_whole {T} {E} {value} {s} {t} all taken =
+      let whole : Takes s t (lines items) = subst (λ (xs : List X). Takes s t (lines xs)) (take_all n items all) taken in
+      record { begun = front_whole_of whole; done = whole }
+
+  module _ (item : X) (less : n < length items) (is : item ≡ get_or items n item) where
+    lines_more : lines (take (n + 1) items) ≡ lines (take n items) ++ to_audit (text item) ∷ []
+    lines_more = ap lines (take_more items n item less ∙ ap (λ x. take n items ++ x ∷ []) (sym is)) ∙ lines_join (take n items) (item ∷ [])
+
+    -- the next one, of which a front may have been written
+    pub lines_next : {S D : Type 0} {put : Result S D} {r s t : Streams} → Takes r s (lines (take n items)) → Does put s t (to_audit (text item) ∷ []) → Does put r t (lines (take (n + 1) items))
+    lines_next {S} {D} {put} {r} {s} {t} taken d = subst (λ ws. Does put r t ws) (sym lines_more) (does_then (lines (take n items)) (to_audit (text item) ∷ []) taken d)
+
+    pub lines_stop_in : {S T E : Type 0} {put : Result S E} {result : Result T E} {r s t : Streams} → Takes r s (lines (take n items)) → Does put s t (to_audit (text item) ∷ []) → OnOk result ⊥ → Does result r t (lines items)
+    lines_stop_in {S} {T} {E} {put} {result} {r} {s} {t} taken d never =
+        subst (λ ws. Does result r t ws) (lines_cut (n + 1)) (does_first (lines (take (n + 1) items)) (lines (drop (n + 1) items)) (lines_next taken d) never)

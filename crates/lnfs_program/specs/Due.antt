@@ -1,5 +1,5 @@
 -- What is due for a form of the words, for what the two files hold, the policy and the file of the task, and for what a service came to.
-use Rattle.std.specs.Prelude.{ℕ, cond, List, [], ◌∷◌, ◌++◌, Result, Ok, Err}
+use Rattle.std.specs.Prelude.{ℕ, cond, List, [], ◌∷◌, ◌++◌, map, Result, Ok, Err}
 use Rattle.std.specs.declared.option.Option.{Option}
 use Rattle.std.specs.declared.option.Option.TheVariants.{Some, None}
 use Rattle.lnfs_policy.specs.Policy.{Policy}
@@ -22,7 +22,7 @@ use Rattle.lnfs_traffic.specs.Generated.{generated}
 use Rattle.lnfs_traffic.specs.Texts.{recording_text}
 use Rattle.lnfs_program.specs.Summary.{summary}
 use Rattle.lnfs_program.specs.Session.{Session, link_lines}
-use Rattle.lnfs_program.specs.Writes.{Write, to_out, to_audit, writes_after, lines_after}
+use Rattle.lnfs_program.specs.Writes.{Write, to_out, to_audit, writes_after, each_line}
 
 -- what is due: what is written, but for the ending's line, and the ending
 pub record Due : Type 0 where
@@ -75,11 +75,11 @@ spelled (Err error) = only (no_translation error)
 abbrev pub generation_due : Signing → Policy → (seed count : ℕ) → Due
 generation_due m policy seed count = shown (summary m policy (generated policy seed count))
 
--- The recording of the journal, then its lines, then the lines of the links. Where nobody was served nothing is written, and no ending is told.
+-- The recording of the journal, then each of its lines, then the line of each link. Where nobody was served nothing is written, and no ending is told.
 abbrev pub served : Signing → Policy → Option Session → Due
 served m policy None = only status.NetFault
 served m policy (Some session) = record {
-  writes = to_out (recording_text session.journal) ∷ to_audit (lines_after (audit_at m policy) [] session.journal) ∷ to_audit (link_lines 0 session.ends) ∷ [];
+  writes = to_out (recording_text session.journal) ∷ map to_audit (each_line (audit_at m policy) [] session.journal ++ link_lines 0 session.ends);
   ending = status.Ok;
 }
 

@@ -34,9 +34,9 @@ abbrev pub link_line : {L : Type 0} → ℕ → LinkEnd L → List ℕ
 link_line number end = codes "link " ++ decimal number ++ 32 ∷ ending_name end.ending ++ 32 ∷ decimal end.records ++ 10 ∷ []
 
 -- the lines of links that are numbered from here on
-abbrev pub link_lines : {L : Type 0} → ℕ → List (LinkEnd L) → List ℕ
+abbrev pub link_lines : {L : Type 0} → ℕ → List (LinkEnd L) → List (List ℕ)
 link_lines number [] = []
-link_lines number (end ∷ ends) = link_line number end ++ link_lines (number + 1) ends
+link_lines number (end ∷ ends) = link_line number end ∷ link_lines (number + 1) ends
 
 -- each event with the reply that its requester would get with every event outside its dominance purged from the journal before it
 abbrev pub answered_after : Signing → Policy → (before journal : List Event) → List Entry

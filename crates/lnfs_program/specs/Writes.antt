@@ -2,6 +2,7 @@
 use Rattle.std.specs.Prelude.{ℕ, zero, suc, List, [], ◌∷◌, ◌++◌, take, Result, OnOk, unwrap_or}
 use Rattle.std.specs.Io.KnownBytes.{Appends}
 use Rattle.std.specs.declared.option.Option.{Option}
+use Rattle.std.specs.declared.option.Option.TheVariants.{Some, None}
 use Rattle.lnfs_workers.specs.Transcripts.{framed}
 use Rattle.lnfs_program.specs.Streams.{Streams}
 use Rattle.lnfs_outside.specs.declared.event.Event.{Event}
@@ -65,3 +66,12 @@ frames_after reply journal (event ∷ events) = framed (reply journal event) ++ 
 unfoldable pub lines_after : (line : List Event → Event → Option (List ℕ)) → List Event → List Event → List ℕ
 lines_after line journal [] = []
 lines_after line journal (event ∷ events) = unwrap_or (line journal event) [] ++ lines_after line (journal ++ event ∷ []) events
+
+-- the same lines, each by itself
+abbrev pub lone : Option (List ℕ) → List (List ℕ)
+lone None = []
+lone (Some text) = text ∷ []
+
+unfoldable pub each_line : (line : List Event → Event → Option (List ℕ)) → List Event → List Event → List (List ℕ)
+each_line line journal [] = []
+each_line line journal (event ∷ events) = lone (line journal event) ++ each_line line (journal ++ event ∷ []) events

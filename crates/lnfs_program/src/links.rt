@@ -82,8 +82,8 @@ pub fn hang_up<N: Net>(net: &mut N, ends: Vec<LinkEnd<N::L>>)
     }
 }
 
-/// Listens for all of the classes, and then accepts a link of each, in their order. Where that fails,
-/// the links that came are handed back.
+/// Listens for all of the classes, accepts a link of each, in their order, and listens no longer.
+/// Where a link doesn't come, those that came are handed back.
 pub fn links_of<N: Net>(
     alloc: Global,
     net: &mut N,
@@ -95,7 +95,10 @@ pub fn links_of<N: Net>(
 {
     let mut links = Vec::with_capacity(alloc, classes.len())?;
     listen(net, classes)?;
-    match accept(net, classes, &mut links) {
+    let came = accept(net, classes, &mut links);
+    // nobody would answer a peer that comes now
+    net.stop_listening();
+    match came {
         Ok(()) => Ok(links),
         Err(stop) => {
             hand_back(net, links);

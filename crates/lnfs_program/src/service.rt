@@ -1,15 +1,16 @@
 //! Serving links, and telling what that came to.
 ghost use Rattle.std.specs.Fmt.{decimal};
-ghost use Rattle.std.specs.Prelude.{◌≡◌, ◌≤◌, ◌<◌, ◌∷◌, ◌++◌, [], All, IfOk, OnOk, IsTrue, Some, codes, length, map, string_bytes};
-ghost use Rattle.std.specs.List.{flat_map};
+ghost use Rattle.std.specs.Prelude.{◌≡◌, ◌≤◌, ◌<◌, ◌∷◌, ◌++◌, [], All, IfErr, IfOk, OnOk, IsTrue, Some, codes, length, map, string_bytes};
 ghost use Rattle.lnfs_operations.specs.Extra.{no_extra};
+ghost use Rattle.lnfs_outside.specs.Bytes.{Puts};
+ghost use Rattle.lnfs_outside.specs.Causes.{Rose};
 ghost use Rattle.lnfs_outside.specs.Moments.{Fits};
 ghost use Rattle.lnfs_traffic.specs.Texts.{recording_text};
 ghost use Rattle.lnfs_workers.specs.Lines.{lines_in, lines_of};
 ghost use Rattle.lnfs_workers.specs.Served.{telling};
 ghost use Rattle.lnfs_program.specs.Due.{served};
 ghost use Rattle.lnfs_program.specs.Handed.{Adds, dealings};
-ghost use Rattle.lnfs_program.specs.Lines.{line_at_place};
+ghost use Rattle.lnfs_program.specs.Lines.{text_at_place};
 ghost use Rattle.lnfs_program.specs.Links.{Owes, told_end};
 ghost use Rattle.lnfs_program.specs.Runs.{Plays, Serves, Stays, WritesAndNet, WritesOnly};
 ghost use Rattle.lnfs_program.specs.Session.{FoundMemory, ending_name, link_lines};
@@ -18,7 +19,7 @@ ghost use Rattle.lnfs_program.specs.Writes.{Does, to_out, to_audit};
 
 use crate::links::{hang_up, links_of};
 use crate::status::{Status, Stop};
-use crate::streams::{put, put_line};
+use crate::streams::put_line;
 use crate::team::Team;
 use lnfs_engine::NoExtra;
 use lnfs_format::Codecs;
@@ -26,7 +27,7 @@ use lnfs_gss3::Mechanism;
 use lnfs_outside::{Clock, Event, Net, Sink};
 use lnfs_policy::Policy;
 use lnfs_step::purge;
-use lnfs_traffic::write_traffic;
+use lnfs_traffic::put_traffic;
 use lnfs_vault::{AuditLine, Vault, write_line};
 use lnfs_workers::{Ended, Ending, LinkEnd, OpenGate, serve_all};
 use std::alloc::{AllocError, Global};
@@ -60,27 +61,15 @@ fn link_line(alloc: Global, number: usize, ending: &str, records: u32) -> Result
 }
 
 /// The lines of the links.
-fn links_text<L>(alloc: Global, ends: &[LinkEnd<L>]) -> Result<Vec<u8>, AllocError>
-    ensures { IfOk result (λ text. text.items ≡ link_lines 0 ends.now) }
+fn link_texts<L>(alloc: Global, ends: &[LinkEnd<L>]) -> Result<Vec<String>, AllocError>
+    ensures { IfOk result (λ texts. map string_bytes texts.items ≡ link_lines 0 ends.now) }
 {
-    let mut text = Vec::new(alloc);
+    let mut texts = Vec::new(alloc);
     for (number, end) in ends.iter().enumerate() {
         let line = link_line(alloc, number, name_of(end.ending), end.records)?;
-        text.extend_from_slice(line.as_bytes())?;
+        texts.push(line)?;
     }
-    Ok(text)
-}
-
-/// The texts of audit lines, one after another.
-fn lines_text(alloc: Global, lines: &[AuditLine]) -> Result<Vec<u8>, AllocError>
-    ensures { IfOk result (λ text. text.items ≡ flat_map line_at_place (lines_in lines.now)) }
-{
-    let mut text = Vec::new(alloc);
-    for line in lines {
-        let one = write_line(alloc, line)?;
-        text.extend_from_slice(&one)?;
-    }
-    Ok(text)
+    Ok(texts)
 }
 
 /// Whether the service of each link found memory.
@@ -90,7 +79,49 @@ fn all_found<L>(ends: &[LinkEnd<L>]) -> bool
     ends.iter().all(|end| end.ending != Ending::Memory)
 }
 
-/// Writes the recording of a journal, and behind it the journal's lines.
+/// Writes the recording of a journal.
+fn put_recording<K: Sink>(out: &mut K, journal: &[Event]) -> Result<(), Stop>
+    requires { All Fits journal.now }
+    ensures bytes { Puts (K.taken out.old) (K.taken out.new) result (recording_text journal.now) }
+    ensures later { K.write_faults out.old ≤ K.write_faults out.new }
+    ensures excused { IfErr result (λ stop. (stop ≡ Stop.WriteFault) × Rose (K.write_faults out.old) (K.write_faults out.new)) }
+{
+    match put_traffic(out, journal) {
+        Ok(()) => Ok(()),
+        Err(_) => Err(Stop::WriteFault),
+    }
+}
+
+/// Writes audit lines, each by itself.
+fn put_lines<K: Sink, A: Sink>(
+    alloc: Global,
+    lines: &[AuditLine],
+    out: &mut K,
+    audit: &mut A,
+) -> Result<(), Stop>
+    ensures does { Does result (streams (K.taken out.old) (A.taken audit.old)) (streams (K.taken out.new) (A.taken audit.new)) (map to_audit (map text_at_place lines.now)) }
+    ensures cause { WritesOnly result (counts (K.write_faults out.old) (A.write_faults audit.old)) (counts (K.write_faults out.new) (A.write_faults audit.new)) }
+{
+    for line in lines {
+        let text = write_line(alloc, line)?;
+        put_line(out, audit, &text)?;
+    }
+    Ok(())
+}
+
+/// Writes lines that have their texts, each by itself.
+fn put_texts<K: Sink, A: Sink>(texts: &[String], out: &mut K, audit: &mut A) -> Result<(), Stop>
+    ensures does { Does result (streams (K.taken out.old) (A.taken audit.old)) (streams (K.taken out.new) (A.taken audit.new)) (map to_audit (map string_bytes texts.now)) }
+    ensures cause { WritesOnly result (counts (K.write_faults out.old) (A.write_faults audit.old)) (counts (K.write_faults out.new) (A.write_faults audit.new)) }
+{
+    for text in texts {
+        put_line(out, audit, text.as_bytes())?;
+    }
+    Ok(())
+}
+
+/// Writes the recording of a journal, and behind it the journal's lines. The recording takes no
+/// memory, so that want of it loses no event.
 fn tell_journal<K: Sink, A: Sink>(
     alloc: Global,
     journal: &[Event],
@@ -99,13 +130,11 @@ fn tell_journal<K: Sink, A: Sink>(
     audit: &mut A,
 ) -> Result<(), Stop>
     requires { All Fits journal.now }
-    ensures does { Does result (streams (K.taken out.old) (A.taken audit.old)) (streams (K.taken out.new) (A.taken audit.new)) (to_out (recording_text journal.now) ∷ to_audit (flat_map line_at_place (lines_in lines.now)) ∷ []) }
+    ensures does { Does result (streams (K.taken out.old) (A.taken audit.old)) (streams (K.taken out.new) (A.taken audit.new)) (to_out (recording_text journal.now) ∷ map to_audit (map text_at_place lines.now)) }
     ensures cause { WritesOnly result (counts (K.write_faults out.old) (A.write_faults audit.old)) (counts (K.write_faults out.new) (A.write_faults audit.new)) }
 {
-    let recording = write_traffic(alloc, journal)?;
-    put(out, &recording)?;
-    let text = lines_text(alloc, lines)?;
-    put_line(out, audit, &text)
+    put_recording(out, journal)?;
+    put_lines(alloc, lines, out, audit)
 }
 
 /// Tells what a service came to, and hands back its links before their lines are written.
@@ -129,11 +158,11 @@ fn tell_session<M: Mechanism + Drop, K: Sink, A: Sink, N: Net>(
     ensures cause { WritesOnly result (counts (K.write_faults out.old) (A.write_faults audit.old)) (counts (K.write_faults out.new) (A.write_faults audit.new)) }
 {
     let journal = tell_journal(alloc, vault.journal(), lines, out, audit);
-    let text = links_text(alloc, &ends);
+    let texts = link_texts(alloc, &ends);
     let found = all_found(&ends);
     hang_up(net, ends);
     journal?;
-    put_line(out, audit, &text?)?;
+    put_texts(&texts?, out, audit)?;
     if found {
         Ok(Status::Ok)
     } else {

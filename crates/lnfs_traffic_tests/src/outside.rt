@@ -4,9 +4,9 @@ ghost use Rattle.lnfs_outside.specs.Deals.{IsUnused};
 
 use lnfs_lists::{Octets, Text};
 use lnfs_outside::{
-    CalmFiles, CalmSink, CalmSource, Clock, DiskFiles, Failed, Files, MemClock, MemDeal, MemFile,
-    MemFiles, MemLink, MemNet, MemSink, MemSource, Moment, Net, Sink, Source, StdClock, StdSink,
-    TcpLink, TcpNet, put_all,
+    CalmFiles, CalmSink, CalmSource, Clock, DiskFiles, Failed, Files, Link, MemClock, MemDeal,
+    MemFile, MemFiles, MemLink, MemNet, MemSink, MemSource, Moment, Net, Sink, Source, StdClock,
+    StdSink, TcpLink, TcpNet, put_all,
 };
 use std::alloc::{AllocError, Global};
 use std::net::{TcpListener, TcpStream};
@@ -215,6 +215,33 @@ fn links_over_tcp(rt: HostRuntime) -> Result<(), Fail> {
     Ok(())
 }
 
+/// The client of a link that was closed sees the end behind the last reply, while the link is still held.
+#[test]
+fn a_closed_link_over_tcp(rt: HostRuntime) -> Result<(), Fail> {
+    let listener = TcpListener::bind(&rt, "127.0.0.1:0")?;
+    let near = TcpStream::connect(&rt, listener.local_addr()?)?;
+    let (far, _) = listener.accept()?;
+    let (Ok(mut near), Ok(mut far)) = (TcpLink::new(near), TcpLink::new(far)) else {
+        assert!(rt; false, "links");
+        return Ok(());
+    };
+    let mut buf = [0u8; 8];
+    assert!(rt;
+        put_all(&mut near, b"call") == Ok(()),
+        "a request that isn't read"
+    );
+    assert!(rt; put_all(&mut far, b"reply") == Ok(()), "the last reply");
+    far.close();
+    far.close();
+    assert!(rt; near.read(&mut buf) == Ok(5), "the last reply is read");
+    assert!(rt; near.read(&mut buf) == Ok(0), "and then the end");
+    assert!(rt;
+        put_all(&mut far, b"more").is_err(),
+        "nothing is written behind it"
+    );
+    Ok(())
+}
+
 /// Skipped where another program has the port.
 #[test]
 fn the_loopback(rt: HostRuntime) {
@@ -232,6 +259,10 @@ fn the_loopback(rt: HostRuntime) {
     let mut buf = [0u8; 8];
     assert!(rt; put_all(&mut client, b"call") == Ok(()), "sent");
     assert!(rt; server.read(&mut buf) == Ok(4), "received");
+    net.stop_listening();
+    assert!(rt; net.dial(7).is_err(), "a late client is refused");
+    assert!(rt; put_all(&mut server, b"reply") == Ok(()), "the link stays");
+    assert!(rt; client.read(&mut buf) == Ok(5), "for both ends");
     net.hang_up(client);
     net.hang_up(server);
 }

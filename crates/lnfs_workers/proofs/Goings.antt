@@ -164,6 +164,15 @@ ends_writing ending old now new pending after entries e g b is_of w later left r
     by_ending Budget h = absurd h
     by_ending Memory h = omega arith
 
--- what is told of a link that is over is what was served
-pub told_over : {L : Type 0} (tell : L → Tells) (may : Moment → Type 0) (class : ℕ) (link : L) (end said : LinkEnd L) (place held : Part) → end ≡ said → place ≡ held → IsServed tell may class link said held.entries → IsServed tell may class link end place.entries
-told_over tell may class link end said place held is same served = subst (λ (p : LinkEnd _ × Part). IsServed tell may class link p.0 p.1.entries) (λ t. (sym is t, sym same t)) served
+-- What is told of a link that is over is what was served: the link that was closed tells what it told before.
+pub told_over : {L : Type 0} (tell : L → Tells) (may : Moment → Type 0) (class : ℕ) (link : L) (end said : LinkEnd L) (place held : Part)
+    → end ≡ record { class = said.class; link = end.link; ending = said.ending; records = said.records } → tell end.link ≡ tell said.link → place ≡ held
+    → IsServed tell may class link said held.entries → IsServed tell may class link end place.entries
+told_over {L} tell may class link end said place held is told same served =
+    subst (λ (p : Part). IsServed tell may class link end p.entries) (sym same) (record {
+      bears = ap (λ (e : LinkEnd L). e.class) is ∙ served.bears;
+      records = ap (λ (e : LinkEnd L). e.records) is ∙ served.records;
+      few = served.few;
+      events = served.events;
+      service = subst (λ (p : Ending × Tells). Service p.0 (tell link) p.1 held.entries) (λ t. (sym (ap (λ (e : LinkEnd L). e.ending) is) t, sym told t)) served.service;
+    })

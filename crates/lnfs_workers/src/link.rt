@@ -31,17 +31,20 @@ pub struct Shared<'a, B: Room, M: Mechanism + Drop, X: Extra, C, G> {
     pub gate: &'a G,
 }
 
-/// What is told of a link that is over, with its place.
+/// Closes a link whose service is over, so that its client doesn't wait until all others are over,
+/// and says what is told of it, with its place.
 fn over<B: Room, L: Link + Drop>(
     class: u32,
-    link: L,
+    mut link: L,
     ending: Ending,
     records: u32,
     place: Place<B>,
 ) -> Done<B, L>
-    ensures end { result.end ≡ record { class = class; link = link; ending = ending; records = records } }
+    ensures end { result.end ≡ record { class = class; link = result.end.link; ending = ending; records = records } }
+    ensures link { telling L.left L.taken L.read_faults L.write_faults result.end.link ≡ telling L.left L.taken L.read_faults L.write_faults link }
     ensures place { result.place ≡ place }
 {
+    link.close();
     let end = LinkEnd {
         class,
         link,

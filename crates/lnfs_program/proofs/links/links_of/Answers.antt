@@ -14,6 +14,6 @@ returns-in_err-listen-clause-stopped g c =
 
 pub returns-in-Err-clause-stopped : goal.returns-in-Err-clause-stopped
 returns-in-Err-clause-stopped g c =
-    rw c.hand_back.ensures.dealt
-    (some_for_net (telling g.N.L.Source.left g.N.L.Sink.taken g.N.L.Source.read_faults g.N.L.Sink.write_faults) c.args.classes.now c.accept.new.links.items c.in-Err.stop c.in-Err.ensures.excused.0 c.in-Err.ensures.some c.accept.ensures.new
-    (rw c.listen.ensures.dealt at c.accept.ensures.dealt) (rw (c.accept.ensures.backs, c.listen.ensures.backs) at c.hand_back.ensures.backs))
+    rw (c.hand_back.ensures.dealt, c.stop_listening.ensures.dealt)
+    (some_for_net (telling g.N.L.Source.left g.N.L.Sink.taken g.N.L.Source.read_faults g.N.L.Sink.write_faults) c.args.classes.now c.accept-came.new.links.items c.in-Err.stop c.in-Err.ensures.excused.0 c.in-Err.ensures.some c.accept-came.ensures.new
+    (rw c.listen.ensures.dealt at c.accept-came.ensures.dealt) (rw (c.stop_listening.ensures.backs, c.accept-came.ensures.backs, c.listen.ensures.backs) at c.hand_back.ensures.backs))

@@ -33,7 +33,7 @@ returns-in-Some-read_on-clause-served g c =
     let cut = rw c.in-Ok-None.field-0-is at c.in-Ok-None.ensures in
     let going = subst (λ (d : List ℕ). Going (tell c.args.link) (tell c.loop.link) d c.loop.place.entries) (sym cut.1) i.going in
     let read = c.in-Some-read_on.ensures in
-    told_over tell (g.C.Clock.may c.args.shared.now.clock.now) c.args.class c.args.link c.over.result.end (record { class = c.args.class; link = c.read_on.new.link; ending = c.in-Some-read_on.ending; records = c.loop.records }) c.over.result.place c.loop.place c.over.ensures.end c.over.ensures.place
+    told_over tell (g.C.Clock.may c.args.shared.now.clock.now) c.args.class c.args.link c.over.result.end (record { class = c.args.class; link = c.read_on.new.link; ending = c.in-Some-read_on.ending; records = c.loop.records }) c.over.result.place c.loop.place c.over.ensures.end c.over.ensures.link c.over.ensures.place
     (record {
       bears = refl;
       records = i.count;
@@ -47,7 +47,7 @@ pub returns-in-Err-clause-served : goal.returns-in-Err-clause-served
 returns-in-Err-clause-served g c =
     let tell = telling g.L.Source.left g.L.Sink.taken g.L.Source.read_faults g.L.Sink.write_faults in
     let i = c.loop.invariant in
-    told_over tell (g.C.Clock.may c.args.shared.now.clock.now) c.args.class c.args.link c.over-in-Err.result.end (record { class = c.args.class; link = c.loop.link; ending = c.in-Err.ending; records = c.loop.records }) c.over-in-Err.result.place c.loop.place c.over-in-Err.ensures.end c.over-in-Err.ensures.place
+    told_over tell (g.C.Clock.may c.args.shared.now.clock.now) c.args.class c.args.link c.over-in-Err.result.end (record { class = c.args.class; link = c.loop.link; ending = c.in-Err.ending; records = c.loop.records }) c.over-in-Err.result.place c.loop.place c.over-in-Err.ensures.end c.over-in-Err.ensures.link c.over-in-Err.ensures.place
     (record {
       bears = refl;
       records = i.count;
@@ -61,7 +61,7 @@ returns-then-records-eq-BUDGET-clause-served g c =
     let tell = telling g.L.Source.left g.L.Sink.taken g.L.Source.read_faults g.L.Sink.write_faults in
     let i = c.loop.invariant in
     let cut = rw c.in-Ok-Some.field-0-is at c.in-Ok-Some.ensures in
-    told_over tell (g.C.Clock.may c.args.shared.now.clock.now) c.args.class c.args.link c.over-then-records-eq-BUDGET.result.end (record { class = c.args.class; link = c.loop.link; ending = Budget; records = c.loop.records }) c.over-then-records-eq-BUDGET.result.place c.loop.place c.over-then-records-eq-BUDGET.ensures.end c.over-then-records-eq-BUDGET.ensures.place
+    told_over tell (g.C.Clock.may c.args.shared.now.clock.now) c.args.class c.args.link c.over-then-records-eq-BUDGET.result.end (record { class = c.args.class; link = c.loop.link; ending = Budget; records = c.loop.records }) c.over-then-records-eq-BUDGET.result.place c.loop.place c.over-then-records-eq-BUDGET.ensures.end c.over-then-records-eq-BUDGET.ensures.link c.over-then-records-eq-BUDGET.ensures.place
     (record {
       bears = refl;
       records = i.count;
@@ -76,7 +76,7 @@ returns-in_default-clause-served g c =
     let i = c.loop.invariant in
     let cut = rw c.in-Ok-Some.field-0-is at c.in-Ok-Some.ensures in
     let same = rw c.in_default.is at c.serve_record-told.ensures.err in
-    told_over tell (g.C.Clock.may c.args.shared.now.clock.now) c.args.class c.args.link c.over-in_default.result.end (record { class = c.args.class; link = c.loop.link; ending = Memory; records = c.loop.records }) c.over-in_default.result.place c.loop.place c.over-in_default.ensures.end (c.over-in_default.ensures.place ∙ same)
+    told_over tell (g.C.Clock.may c.args.shared.now.clock.now) c.args.class c.args.link c.over-in_default.result.end (record { class = c.args.class; link = c.loop.link; ending = Memory; records = c.loop.records }) c.over-in_default.result.place c.loop.place c.over-in_default.ensures.end c.over-in_default.ensures.link (c.over-in_default.ensures.place ∙ same)
     (record {
       bears = refl;
       records = i.count;
@@ -95,7 +95,7 @@ returns-in-loop-clause-served g c =
     let told = rw c.in-Ok.is at c.serve_record-told.ensures.ok in
     let e : Entry = entry (record { class = c.args.class; link = c.loop.place.link; moment = c.moment_of-moment.result; message = c.in-Ok-Some.message }) c.in-Ok.reply in
     let wrote = c.in-Err-put_reply.ensures in
-    told_over tell may c.args.class c.args.link c.over-in-loop.result.end (record { class = c.args.class; link = c.put_reply.new.link; ending = c.in-Err-put_reply.ending; records = c.loop.records + 1 }) c.over-in-loop.result.place _ c.over-in-loop.ensures.end (c.over-in-loop.ensures.place ∙ told)
+    told_over tell may c.args.class c.args.link c.over-in-loop.result.end (record { class = c.args.class; link = c.put_reply.new.link; ending = c.in-Err-put_reply.ending; records = c.loop.records + 1 }) c.over-in-loop.result.place _ c.over-in-loop.ensures.end c.over-in-loop.ensures.link (c.over-in-loop.ensures.place ∙ told)
     (record {
       bears = refl;
       records = omega (arith, i.count, length_push es e);
