@@ -218,6 +218,7 @@ returns-in_default c =
           (λ came did. subst (λ w. Goal w came) c.store.view_is (did here (stored clients c.store.inside.tree c.store.inside.opens c.store.inside.contexts)))
           c.on_nodes.ensures.performs;
       stands = IfOk-weaker c.on_nodes.result _ (λ (came : Came). Stands q after.sessions here)
-          (λ came moved. stays p q sessions after.sessions here (ap (λ (w : World). w.sessions) c.store.view_is) moved c.requires.stands)
+          (λ came moved. subst (λ at. Stands at after.sessions here) (sym moved)
+              (stays p q.current q.saved sessions after.sessions here (ap (λ (w : World). w.sessions) c.store.view_is) c.requires.stands))
           c.on_nodes.ensures.moved;
     }
