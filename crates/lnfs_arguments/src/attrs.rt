@@ -7,7 +7,7 @@ ghost use Rattle.lnfs_arguments.specs.SharedTexts.{attrs_text};
 use crate::halt::Halt;
 use crate::numbers::LONG_LIMIT;
 use lnfs_attrs::{RawAttrs, read_bitmap, write_bitmap};
-use lnfs_lists::Octets;
+use lnfs_types::Octets;
 use lnfs_xdr::{XdrReader, XdrWriter};
 use std::alloc::{AllocError, Global};
 

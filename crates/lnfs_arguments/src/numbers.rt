@@ -1,7 +1,7 @@
 //! The numbers of operations (RFC 8881 section 18, RFC 7862 section 15) and of the arms of their
 //! unions, and the bounds of fields. They stand here alone, but for flavors, which `lnfs_xdr` has.
 
-use lnfs_lists::RECORD_LIMIT;
+use lnfs_types::RECORD_LIMIT;
 
 pub const OP_ACCESS: u32 = 3;
 

@@ -5,7 +5,7 @@ ghost use Rattle.lnfs_xdr.specs.Reading.{read};
 ghost use Rattle.lnfs_arguments.specs.Parsing.{ParsesInMemory};
 
 use crate::halt::Halt;
-use lnfs_lists::Octets;
+use lnfs_types::Octets;
 use lnfs_xdr::XdrReader;
 use std::alloc::Global;
 

@@ -16,7 +16,7 @@ use crate::span::Span;
 use crate::stateid::state_id_of;
 use crate::statuses::{NFS4ERR_INVAL, NFS4ERR_NOTSUPP};
 use crate::types::{Claim, Making, Op};
-use lnfs_lists::Octets;
+use lnfs_types::Octets;
 use lnfs_xdr::{XdrError, XdrReader};
 use std::alloc::Global;
 

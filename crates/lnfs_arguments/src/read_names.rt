@@ -12,7 +12,7 @@ use crate::stateid::state_id_of;
 use crate::statuses::NFS4ERR_BADTYPE;
 use crate::types::{Op, What};
 use lnfs_attrs::read_bitmap;
-use lnfs_lists::Octets;
+use lnfs_types::Octets;
 use lnfs_xdr::{XdrError, XdrReader};
 use std::alloc::Global;
 

@@ -11,7 +11,7 @@ use crate::numbers::{CALLBACK_LIMIT, OP_CREATE_SESSION, OP_EXCHANGE_ID, OWNER_LI
 use crate::opaque::opaque_of;
 use crate::statuses::NFS4ERR_INVAL;
 use crate::types::{Callback, CreateSession, Implementation, Op, Sequence};
-use lnfs_lists::{Items, Octets};
+use lnfs_types::{Items, Octets};
 use lnfs_xdr::{AUTH_NONE, AUTH_SYS, GROUP_LIMIT, MACHINE_LIMIT, RPCSEC_GSS, XdrError, XdrReader};
 use std::alloc::Global;
 

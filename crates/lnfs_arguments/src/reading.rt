@@ -10,7 +10,7 @@ use crate::numbers::{MINOR, OP_LIMIT, TAG_LIMIT};
 use crate::opaque::opaque_of;
 use crate::read_table::arguments_of;
 use crate::types::{Compound, Op};
-use lnfs_lists::{Items, Octets};
+use lnfs_types::{Items, Octets};
 use lnfs_xdr::{XdrError, XdrReader};
 use std::alloc::Global;
 

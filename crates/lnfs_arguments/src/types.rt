@@ -12,7 +12,7 @@ use crate::numbers::{
 use crate::span::Span;
 use crate::stateid::StateId;
 use lnfs_attrs::{Bitmap, RawAttrs};
-use lnfs_lists::{Items, Octets};
+use lnfs_types::{Items, Octets};
 
 /// How the server may call back (`callback_sec_parms4`, RFC 8881 section 18.36.1).
 #[derive(Debug, Drop)]

@@ -1,6 +1,6 @@
 -- How large attributes are that are answered or can be set.
 use Rattle.std.specs.Prelude.{◌≡◌, ◌≤◌, ℕ, Bool, length, ◌&&◌}
-use Rattle.lnfs_lists.specs.declared.limits.TheConstants.{LABEL_LIMIT}
+use Rattle.lnfs_types.specs.declared.limits.TheConstants.{LABEL_LIMIT}
 use Rattle.lnfs_attrs.specs.Bitmaps.{has_attr, trimmed, BitmapFits}
 use Rattle.lnfs_attrs.specs.Attributes.{is_listed, is_answered, list_text}
 use Rattle.lnfs_attrs.specs.declared.bitmap.Bitmap.{Bitmap}

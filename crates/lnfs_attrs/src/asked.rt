@@ -1,5 +1,5 @@
 ghost use Rattle.std.specs.Prelude.{◌≡◌, ◌==◌, ◌&&◌, ◌++◌, ◌≤◌, ◌<◌, ◌↔◌, ℕ, IsTrue, true, length, slice_index, All, OnOk, OnErr};
-ghost use Rattle.lnfs_lists.specs.declared.limits.TheConstants.{LABEL_LIMIT};
+ghost use Rattle.lnfs_types.specs.declared.limits.TheConstants.{LABEL_LIMIT};
 ghost use Rattle.lnfs_xdr.specs.Written.{Extends};
 ghost use Rattle.lnfs_xdr.specs.Canon.{word, long};
 ghost use Rattle.std.specs.List.{list_any, flat_map};

@@ -1,5 +1,5 @@
 use crate::bitmap::Bitmap;
-use lnfs_lists::Octets;
+use lnfs_types::Octets;
 
 /// Attributes as they stand in a message (`fattr4`, RFC 8881 section 3.3.7): which ones, and the
 /// bytes of their values.

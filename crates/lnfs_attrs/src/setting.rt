@@ -13,7 +13,7 @@ use crate::numbers::{ATTR_END, LIST_LIMIT, MODE, SEC_LABEL, SETTABLE, SIZE};
 use crate::raw::RawAttrs;
 use crate::settable::{AttrError, AttrSet};
 use crate::view::LabelValue;
-use lnfs_lists::Octets;
+use lnfs_types::Octets;
 use lnfs_xdr::{XdrError, XdrReader};
 use std::alloc::{AllocError, Global};
 

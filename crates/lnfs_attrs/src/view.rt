@@ -1,4 +1,4 @@
-use lnfs_lists::Octets;
+use lnfs_types::Octets;
 
 /// A time (`nfstime4`, RFC 8881 section 3.3.1): seconds since 1970 and nanoseconds below a second.
 #[derive(Clone, Copy, Debug, PartialEq, Eq)]

@@ -14,9 +14,9 @@ use lnfs_arguments::statuses::{
     NFS4ERR_NOT_ONLY_OP, NFS4ERR_OP_NOT_IN_SESSION, NFS4ERR_REP_TOO_BIG, NFS4ERR_SEQUENCE_POS,
 };
 use lnfs_arguments::{Compound, ExtraGrammar, Op};
-use lnfs_compound::reply_bound;
 use lnfs_operations::numbers::RESERVED_ROOM;
 use lnfs_operations::{Gate, Refusal};
+use lnfs_results::reply_bound;
 
 /// A refusal by the rules of sessions, where a test fails.
 fn unless(test: bool, status: u32) -> Option<Refusal>

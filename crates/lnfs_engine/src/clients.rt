@@ -1,7 +1,7 @@
 //! The operations on client records: EXCHANGE_ID, DESTROY_CLIENTID and RECLAIM_COMPLETE (RFC 8881
 //! sections 18.35, 18.50 and 18.51).
 ghost use Rattle.std.specs.Prelude.{◌≡◌, Option, Some, IfOk};
-ghost use Rattle.lnfs_outside.specs.declared.event.Moment.{Moment};
+ghost use Rattle.lnfs_types.specs.declared.event.Moment.{Moment};
 ghost use Rattle.lnfs_arguments.specs.declared.types.Op.TheVariants as ops;
 ghost use Rattle.lnfs_arguments.specs.declared.types.Implementation.{Implementation};
 ghost use Rattle.lnfs_world.specs.World.{World};

@@ -23,10 +23,10 @@ use crate::store::Store;
 use lnfs_arguments::Compound;
 use lnfs_arguments::statuses::NFS4_OK;
 use lnfs_calipso::Level;
-use lnfs_outside::Moment;
 use lnfs_results::append_head;
 use lnfs_site::Site;
 use lnfs_tree::Tree;
+use lnfs_types::Moment;
 use lnfs_xdr::XdrWriter;
 use std::alloc::{AllocError, Global};
 

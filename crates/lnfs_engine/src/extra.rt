@@ -11,12 +11,11 @@ use crate::store::Store;
 use lnfs_arguments::statuses::NFS4ERR_NOTSUPP;
 use lnfs_arguments::{ExtraGrammar, NoExtraGrammar};
 use lnfs_calipso::Level;
-use lnfs_lists::Octets;
 use lnfs_nodes::Caller;
 use lnfs_operations::{ExtraRows, Gate, Refusal};
-use lnfs_outside::Moment;
 use lnfs_site::Site;
 use lnfs_tree::NodeId;
+use lnfs_types::{Moment, Octets};
 use lnfs_xdr::XdrError;
 use std::alloc::{AllocError, Global};
 

@@ -24,17 +24,17 @@ use std::alloc::AllocError;
 
 /// A further operation: its number and its arguments.
 #[derive(Clone, Copy)]
-pub struct Asked<'a> {
+pub struct FurtherOp<'a> {
     pub number: u32,
     pub args: &'a [u8],
 }
 
 /// The further operation that an operation is, where it is served.
-pub fn further_in<'a, E: ExtraGrammar>(op: &'a Op<'_>, extra: &E) -> Option<Asked<'a>>
+pub fn further_in<'a, E: ExtraGrammar>(op: &'a Op<'_>, extra: &E) -> Option<FurtherOp<'a>>
     ensures { option_map asked_of result ≡ further_in E.grammar op.now }
 {
     match op {
-        Op::Extra { number, args } if extra.serves(*number) => Some(Asked {
+        Op::Extra { number, args } if extra.serves(*number) => Some(FurtherOp {
             number: *number,
             args: args.as_slice(),
         }),
@@ -86,7 +86,7 @@ pub fn further<X: Extra>(
     store: &mut Store,
     extra: &mut X,
     place: &mut Place,
-    asked: &Asked<'_>,
+    asked: &FurtherOp<'_>,
     out: &mut XdrWriter,
 ) -> Result<Came, AllocError>
     requires facts { BothStand X.extra.Fact (site_in request.now).dom (place_of place.old) (both store.old (X.rows extra.old)) }

@@ -9,6 +9,7 @@ mod counted;
 mod engine;
 mod extra;
 mod files;
+mod first;
 mod further;
 mod going;
 mod head;
@@ -26,6 +27,7 @@ mod store;
 
 pub use engine::{Engine, Ran};
 pub use extra::{Extra, ExtraRan, NoExtra, Spot};
+pub use first::first_tree;
 pub use room::room_of;
 pub use run::Denial;
 pub use store::Store;

@@ -18,7 +18,6 @@ use crate::place::{Place, Request};
 use crate::reply::{Answer, Came, say};
 use lnfs_arguments::Op;
 use lnfs_calipso::Level;
-use lnfs_lists::Octets;
 use lnfs_nodes::{
     AccessBits, Listing, Viewer, access, get_attr, get_fh, lookup, lookup_parent, nverify, put_fh,
     put_root_fh, read_dir, read_link, restore_fh, save_fh, verify,
@@ -27,6 +26,7 @@ use lnfs_operations::Refusal;
 use lnfs_quota::Quota;
 use lnfs_results::OpResult;
 use lnfs_tree::{NodeId, Tree};
+use lnfs_types::Octets;
 use lnfs_xdr::XdrWriter;
 use std::alloc::{AllocError, Global};
 

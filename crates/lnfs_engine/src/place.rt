@@ -7,10 +7,10 @@ ghost use Rattle.lnfs_engine.specs.Places.{place_of};
 use lnfs_arguments::Compound;
 use lnfs_calipso::Level;
 use lnfs_nodes::Caller;
-use lnfs_outside::Moment;
 use lnfs_session::{ClientRef, SlotRef};
 use lnfs_site::Site;
 use lnfs_tree::NodeId;
+use lnfs_types::Moment;
 use std::alloc::Global;
 
 /// A COMPOUND as it was sent, and to which site.

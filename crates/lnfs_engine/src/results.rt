@@ -8,10 +8,10 @@ ghost use Rattle.lnfs_engine.specs.Results.{created_result, sequence_result};
 
 use lnfs_arguments::{Channel, CreateSession, Op, Sequence, client_id, session_id};
 use lnfs_attrs::Bitmap;
-use lnfs_lists::Octets;
 use lnfs_operations::numbers::{EXCHGID4_FLAG_CONFIRMED_R, EXCHGID4_FLAG_USE_NON_PNFS};
 use lnfs_results::OpResult;
 use lnfs_session::ClientInfo;
+use lnfs_types::Octets;
 use std::alloc::{AllocError, Global};
 
 /// The name under which the server goes, as owner and as scope (RFC 8881 section 18.35.2).

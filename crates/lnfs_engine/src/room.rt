@@ -1,10 +1,10 @@
 //! How large the result of a COMPOUND may be.
 ghost use Rattle.std.specs.Prelude.{◌≡◌, ◌≤◌, ◌<◌, ◌+◌, ◌^◌, length, sum_by};
-ghost use Rattle.lnfs_compound.specs.Bounds.{op_bound};
+ghost use Rattle.lnfs_results.specs.Answering.{op_bound};
 ghost use Rattle.lnfs_results.specs.Texts.{head_text};
 
 use lnfs_arguments::{Compound, ExtraGrammar, Op};
-use lnfs_compound::reply_bound;
+use lnfs_results::reply_bound;
 
 /// The bytes of a word (RFC 4506 section 3).
 const WORD: usize = 4;

@@ -2,7 +2,7 @@
 use Rattle.std.proofs.Common.{◌≡◌, refl, ap, sym, subst, ◌∙◌, ℕ, Bool, true, false, List, [], ◌∷◌, Option, Some, None, Ok}
 use Rattle.std.specs.Prelude.{◌&&◌, nat_lt, length, is_some}
 use Rattle.std.specs.Option.{option_map}
-use Rattle.lnfs_outside.specs.declared.event.Moment.{Moment}
+use Rattle.lnfs_types.specs.declared.event.Moment.{Moment}
 use Rattle.lnfs_arguments.specs.declared.types.Making.{Making}
 use Rattle.lnfs_arguments.specs.declared.statuses.TheConstants.{NFS4ERR_NOSPC}
 use Rattle.lnfs_world.specs.World.{Id, Kind, File, Directory, SymbolicLink, Node, World, node_at, label_at, is_directory}

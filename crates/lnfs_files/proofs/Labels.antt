@@ -2,7 +2,7 @@
 use Rattle.std.proofs.Common.{◌≡◌, refl, ap, sym, subst, ◌∙◌, ℕ, Bool, true, false, not, cond, List, [], ◌∷◌, length, Option, Some, None, Result, Ok, Err}
 use Rattle.std.specs.Prelude.{◌&&◌, ◌||◌, ◌==◌, option_map, is_some}
 use Rattle.std.specs.List.{AllByRecursion}
-use Rattle.lnfs_outside.specs.declared.event.Moment.{Moment}
+use Rattle.lnfs_types.specs.declared.event.Moment.{Moment}
 use Rattle.lnfs_attrs.specs.declared.bitmap.Bitmap.{Bitmap}
 use Rattle.lnfs_arguments.specs.declared.statuses.TheConstants.{NFS4ERR_NOTEMPTY}
 use Rattle.lnfs_world.specs.World.{Id, Kind, File, Directory, SymbolicLink, Stored, Inner, Node, Entry, World, same_id, node_at, directory_at, is_directory}

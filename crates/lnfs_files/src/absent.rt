@@ -31,13 +31,13 @@ use crate::wanted::Wanted;
 use lnfs_arguments::Making;
 use lnfs_arguments::statuses::NFS4ERR_NOENT;
 use lnfs_calipso::Level;
-use lnfs_lists::Octets;
 use lnfs_nodes::{Held, cinfo, kept_label, level_or, namespace, no_space};
 use lnfs_open::{OpenError, Opens};
 use lnfs_operations::Refusal;
 use lnfs_operations::numbers::FILE_MODE;
 use lnfs_quota::{Quota, totals};
 use lnfs_tree::{Fresh, NodeKind, Tree, TreeError};
+use lnfs_types::Octets;
 use std::alloc::AllocError;
 
 /// The verifier of an exclusive create.

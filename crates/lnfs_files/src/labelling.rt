@@ -14,7 +14,8 @@ ghost use Rattle.lnfs_operations.specs.Judged.{where_allowed};
 ghost use Rattle.lnfs_operations.specs.Shown.{label_shown};
 ghost use Rattle.lnfs_operations.specs.SetAttr.{same_spelling, respelled, raised};
 ghost use Rattle.lnfs_quota.specs.Totals.{AreTotals};
-ghost use Rattle.lnfs_tree.specs.Rows.{Rows, id_of, stored_of};
+ghost use Rattle.lnfs_tree.specs.Rows.{Rows, id_of};
+ghost use Rattle.lnfs_world.specs.Given.{stored_of};
 ghost use Rattle.lnfs_tree.specs.Changed.{HasFacts};
 ghost use Rattle.lnfs_open.specs.Lists.{Lists};
 ghost use Rattle.lnfs_nodes.specs.Trees.{Holds, IsHeld, held_in, refusal_of, denial};
@@ -31,7 +32,8 @@ use lnfs_nodes::{Caller, Held, denied, label_shown, namespace};
 use lnfs_operations::Refusal;
 use lnfs_quota::{Quota, totals};
 use lnfs_site::Site;
-use lnfs_tree::{NodeKind, Stored, Tree};
+use lnfs_tree::{NodeKind, Tree};
+use lnfs_world::Stored;
 use std::alloc::AllocError;
 
 // ---- as it is spelled

@@ -34,10 +34,10 @@ use lnfs_monitor::Question;
 use lnfs_nodes::{Caller, Held, denied, namespace};
 use lnfs_open::Opens;
 use lnfs_operations::Refusal;
-use lnfs_outside::Moment;
 use lnfs_quota::{Quota, totals};
 use lnfs_site::Site;
 use lnfs_tree::{NodeId, Tree};
+use lnfs_types::Moment;
 use lnfs_world::numbers::MOST_FILE;
 use std::alloc::AllocError;
 

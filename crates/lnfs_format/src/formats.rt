@@ -11,7 +11,7 @@ ghost use Rattle.lnfs_format.specs.LevelWritten.{level_written, IsWritten};
 use crate::codec::Codecs;
 use crate::kind::Kind;
 use lnfs_calipso::{Lattice, Level};
-use lnfs_lists::LABEL_LIMIT;
+use lnfs_types::LABEL_LIMIT;
 use std::alloc::{AllocError, AllocFailed, Global};
 use std::marker::Model;
 

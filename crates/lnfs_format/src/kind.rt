@@ -2,7 +2,7 @@ ghost use Rattle.std.specs.Prelude.{◌≡◌};
 ghost use Rattle.lnfs_format.specs.Kinds.{number_of};
 
 use lnfs_calipso::Label;
-use lnfs_lists::{Items, Octets};
+use lnfs_types::{Items, Octets};
 
 /// A label and the bytes that name it.
 #[derive(Debug, Drop)]

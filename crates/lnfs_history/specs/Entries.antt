@@ -1,6 +1,6 @@
 -- Entries of a history, and what a keeper and a place know of it.
 use Rattle.std.specs.Prelude.{ℕ, ◌==◌, Option, if◌then◌else◌, List, [], ◌∷◌}
-use Rattle.lnfs_outside.specs.declared.event.Event.{Event}
+use Rattle.lnfs_types.specs.declared.event.Event.{Event}
 use Rattle.lnfs_history.specs.declared.entry.Entry.{Entry}
 
 abbrev pub entry : Event → Option (List ℕ) → Entry

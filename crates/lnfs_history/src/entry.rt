@@ -1,6 +1,5 @@
 //! What is known of a history. No value of these types is made.
-use lnfs_lists::Octets;
-use lnfs_outside::Event;
+use lnfs_types::{Event, Octets};
 use std::collections::LinkedList;
 
 /// An event with its reply, where one was due.

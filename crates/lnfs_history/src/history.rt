@@ -5,8 +5,7 @@ ghost use Rattle.lnfs_history.specs.Rules.{keeper};
 
 use crate::entry::View;
 use atomic_table::{Join, Play, Seat, Split, Table, TableRule};
-use lnfs_lists::Octets;
-use lnfs_outside::Event;
+use lnfs_types::{Event, Octets};
 use std::alloc::{AllocError, Global};
 use std::marker::{Brand, Model, PhantomData};
 use std::snapshot::Snapshot;
@@ -136,7 +135,7 @@ impl Opened {
     }
 
     /// The history under a name, with its keeper.
-    pub fn named<B: Room>(self) -> (History<B>, Keeper<B>)
+    pub fn named<B: Room>(self) -> (History<B>, Recorder<B>)
         requires { self.table.shared.table_id ≡ B.table }
         ensures { result.1 ≡ known [] 0 }
     {
@@ -146,7 +145,7 @@ impl Opened {
                 table,
                 of: PhantomData,
             },
-            Keeper {
+            Recorder {
                 seat,
                 of: PhantomData,
             },
@@ -165,12 +164,12 @@ pub struct History<B: Room> {
 
 /// Who knows the whole history.
 #[derive(Drop)]
-pub struct Keeper<B: Room> {
+pub struct Recorder<B: Room> {
     seat: Seat<(), View>,
     of: PhantomData<B>,
 }
 
-impl<B: Room> Model for Keeper<B> {
+impl<B: Room> Model for Recorder<B> {
     ghost use Rattle.std.specs.Prelude.{◌≡◌, []};
     ghost use Rattle.lnfs_history.specs.Entries.{Known, known};
     ghost use Rattle.lnfs_history.specs.Rules.{keeper};
@@ -184,13 +183,13 @@ impl<B: Room> Model for Keeper<B> {
 
 /// Who knows the entries of one link.
 #[derive(Drop)]
-pub struct Place<B: Room> {
+pub struct LinkView<B: Room> {
     number: u32,
     seat: Seat<(), View>,
     of: PhantomData<B>,
 }
 
-impl<B: Room> Model for Place<B> {
+impl<B: Room> Model for LinkView<B> {
     ghost use Rattle.std.specs.Prelude.{◌≡◌, []};
     ghost use Rattle.lnfs_history.specs.Entries.{Part, part};
     ghost use Rattle.lnfs_history.specs.Rules.{place};
@@ -202,7 +201,7 @@ impl<B: Room> Model for Place<B> {
     ghost invariant = { λ p. (p.seat.table_id ≡ B.table) × (p.seat.me ≡ (place p.seat.me.0.link p.seat.me.0.entries, [])) × (p.number ≡ p.seat.me.0.link) };
 }
 
-impl<B: Room> Place<B> {
+impl<B: Room> LinkView<B> {
     /// The number of its link.
     pub fn number(&self) -> u32
         ensures { result ≡ self.now.link }
@@ -213,13 +212,13 @@ impl<B: Room> Place<B> {
 
 impl<B: Room> History<B> {
     /// The place of the next link, which has this number.
-    pub fn place(&self, keeper: &mut Keeper<B>, number: u32) -> Place<B>
+    pub fn place(&self, keeper: &mut Recorder<B>, number: u32) -> LinkView<B>
         requires { keeper.old.made ≡ number }
         ensures place { result ≡ part number [] }
         ensures keeper { keeper.new ≡ known keeper.old.log (keeper.old.made + 1) }
     {
         let seat = self.table.shared.split_seat::<NewPlace>(&mut keeper.seat);
-        Place {
+        LinkView {
             number,
             seat,
             of: PhantomData,
@@ -229,11 +228,11 @@ impl<B: Room> History<B> {
     /// Adds an event and its reply to what the keeper and the place of its link know.
     pub fn add(
         &self,
-        keeper: &mut Keeper<B>,
-        place: Place<B>,
+        keeper: &mut Recorder<B>,
+        place: LinkView<B>,
         event: &Snapshot<Event>,
         reply: &Option<Octets>,
-    ) -> Place<B>
+    ) -> LinkView<B>
         requires { event.now.value.link ≡ place.link }
         ensures place { result ≡ part place.link (place.entries ++ entry event.now.value reply.now ∷ []) }
         ensures keeper { keeper.new ≡ known (keeper.old.log ++ entry event.now.value reply.now ∷ []) keeper.old.made }
@@ -244,31 +243,31 @@ impl<B: Room> History<B> {
     // The event and the reply only say which entry it is.
     fn add_said<E: Saying>(
         &self,
-        keeper: &mut Keeper<B>,
-        place: Place<B>,
+        keeper: &mut Recorder<B>,
+        place: LinkView<B>,
         event: &Snapshot<Event>,
         reply: &Option<Octets>,
-    ) -> Place<B>
+    ) -> LinkView<B>
         requires entry { E.entry ≡ entry event.now.value reply.now }
         requires link { E.entry.event.link ≡ place.link }
         ensures place { result ≡ part place.link (place.entries ++ E.entry ∷ []) }
         ensures keeper { keeper.new ≡ known (keeper.old.log ++ E.entry ∷ []) keeper.old.made }
     {
-        let Place { number, seat, of } = place;
+        let LinkView { number, seat, of } = place;
         self.table
             .shared
             .join_seat::<Together>(&mut keeper.seat, seat);
         self.table.shared.load::<Adds<E>>(&mut keeper.seat, 0);
         let seat = self.table.shared.split_seat::<Apart>(&mut keeper.seat);
-        Place { number, seat, of }
+        LinkView { number, seat, of }
     }
 
     /// The keeper learns that a place has all entries of its link.
-    pub fn learn(&self, keeper: &mut Keeper<B>, place: Place<B>)
+    pub fn learn(&self, keeper: &mut Recorder<B>, place: LinkView<B>)
         ensures keeper { keeper.new ≡ keeper.old }
         ensures whole { place.entries ≡ of place.link keeper.old.log }
     {
-        let Place {
+        let LinkView {
             number: _,
             seat,
             of: _,
@@ -280,7 +279,7 @@ impl<B: Room> History<B> {
     }
 
     /// The keeper learns that no link without a place has an entry.
-    pub fn look(&self, keeper: &mut Keeper<B>)
+    pub fn look(&self, keeper: &mut Recorder<B>)
         ensures keeper { keeper.new ≡ keeper.old }
         ensures others { (link : ℕ) → keeper.old.made ≤ link → of link keeper.old.log ≡ [] }
     {

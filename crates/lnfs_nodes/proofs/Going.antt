@@ -1,7 +1,7 @@
 -- The node that goes with its last name.
 use Rattle.std.proofs.Common.{◌≡◌, refl, ap, sym, ◌∙◌, ℕ, List, Option, Some, None, Result, Ok, Err, arith}
 use Rattle.std.specs.Prelude.{IfOk}
-use Rattle.lnfs_outside.specs.declared.event.Moment.{Moment}
+use Rattle.lnfs_types.specs.declared.event.Moment.{Moment}
 use Rattle.lnfs_world.specs.World.{Id, Kind, File, Directory, SymbolicLink, Node, Entry, node_at}
 use Rattle.lnfs_world.specs.Names.{size_of}
 use Rattle.lnfs_world.specs.Usage.{bytes_of}

@@ -1,7 +1,7 @@
 -- What the changes that a tree tells leave of a world's other rows: the opens of the node that goes, where one does, go
 -- with it.
 use Rattle.std.proofs.Common.{◌≡◌, refl, ap, sym, ◌∙◌, ℕ, Bool, true, false, not, cond, List, [], ◌∷◌, ◌++◌, Option, Some, None, Result, Ok, Err, arith}
-use Rattle.lnfs_outside.specs.declared.event.Moment.{Moment}
+use Rattle.lnfs_types.specs.declared.event.Moment.{Moment}
 use Rattle.lnfs_world.specs.World.{Id, Node, Entry, World, node_at, is_directory, same_id}
 use Rattle.lnfs_world.specs.Names.{entry_at, size_of}
 use Rattle.lnfs_world.specs.Tree.{has_other_name, holds_names}

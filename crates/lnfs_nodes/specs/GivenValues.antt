@@ -19,7 +19,7 @@ use Rattle.lnfs_operations.specs.GetAttr.{is_supported}
 use Rattle.lnfs_operations.specs.Given.{are_settable, is_mode, GivenLabel, spelled_by}
 use Rattle.lnfs_operations.specs.SetAttr.{is_company}
 use Rattle.lnfs_operations.specs.declared.numbers.TheConstants.{MOST_TEXT}
-use Rattle.lnfs_tree.specs.Rows.{stored_of}
+use Rattle.lnfs_world.specs.Given.{stored_of}
 use Rattle.lnfs_nodes.specs.Refusals.{name_refusal}
 use Rattle.lnfs_nodes.specs.declared.given.GivenLabel as code
 use Rattle.lnfs_nodes.specs.declared.given.Wanted as code_wanted

@@ -8,8 +8,8 @@ ghost use Rattle.lnfs_nodes.specs.Trees.{with_tree, Holds};
 
 use crate::held::Held;
 use lnfs_calipso::Level;
-use lnfs_outside::Moment;
 use lnfs_tree::Tree;
+use lnfs_types::Moment;
 
 /// Sets the time of access of a node that was read, where the subject is at its label: whoever reads from above leaves
 /// no trace.

@@ -18,9 +18,9 @@ use lnfs_arguments::statuses::{
 use lnfs_calipso::Level;
 use lnfs_monitor::Question;
 use lnfs_operations::{Gate, Refusal};
-use lnfs_outside::Moment;
 use lnfs_site::Site;
 use lnfs_tree::{NodeId, Tree, TreeError};
+use lnfs_types::Moment;
 use std::alloc::AllocError;
 
 /// Who asks, when, and with which file handles.

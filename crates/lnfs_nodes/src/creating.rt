@@ -12,7 +12,8 @@ ghost use Rattle.lnfs_operations.specs.declared.Gate.TheVariants.{Quota};
 ghost use Rattle.lnfs_operations.specs.Given.{level_or, kept_label};
 ghost use Rattle.lnfs_operations.specs.Shown.{label_shown};
 ghost use Rattle.lnfs_operations.specs.Create as operation;
-ghost use Rattle.lnfs_tree.specs.Rows.{id_of, kind_of, stored_of};
+ghost use Rattle.lnfs_tree.specs.Rows.{id_of, kind_of};
+ghost use Rattle.lnfs_world.specs.Given.{stored_of};
 ghost use Rattle.lnfs_tree.specs.Changed as tree_changed;
 ghost use Rattle.lnfs_nodes.specs.Trees.{with_tree, Holds, refusal_of};
 ghost use Rattle.lnfs_nodes.specs.Acts.{ActsTo, placed};
@@ -27,12 +28,13 @@ use lnfs_arguments::What;
 use lnfs_arguments::statuses::{NFS4ERR_EXIST, NFS4ERR_NOSPC, NFS4ERR_NOTDIR};
 use lnfs_attrs::{Bitmap, RawAttrs};
 use lnfs_calipso::Level;
-use lnfs_lists::Octets;
 use lnfs_monitor::Question;
 use lnfs_operations::numbers::{DIRECTORY_MODE, LINK_MODE};
 use lnfs_operations::{Gate, Refusal};
 use lnfs_site::Site;
-use lnfs_tree::{Fresh, Info, NodeId, NodeKind, Stored, Tree, TreeError};
+use lnfs_tree::{Fresh, Info, NodeId, NodeKind, Tree, TreeError};
+use lnfs_types::Octets;
+use lnfs_world::Stored;
 use std::alloc::{AllocError, Global};
 
 /// What was made.

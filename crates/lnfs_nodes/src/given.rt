@@ -21,7 +21,7 @@ use lnfs_calipso::Level;
 use lnfs_operations::numbers::{MOST_MODE, MOST_TEXT};
 use lnfs_operations::{Gate, Refusal};
 use lnfs_site::{LabelRead, Site};
-use lnfs_tree::Stored;
+use lnfs_world::Stored;
 use std::alloc::{AllocError, Global};
 
 /// A label that was given: its level, and its spelling.

@@ -18,9 +18,9 @@ use lnfs_arguments::statuses::{NFS4_OK, NFS4ERR_WRONG_TYPE};
 use lnfs_calipso::Level;
 use lnfs_monitor::Question;
 use lnfs_operations::Refusal;
-use lnfs_outside::Moment;
 use lnfs_site::Site;
 use lnfs_tree::{NodeId, Tree};
+use lnfs_types::Moment;
 use lnfs_xdr::XdrWriter;
 use std::alloc::AllocError;
 

@@ -27,10 +27,10 @@ use lnfs_attrs::Bitmap;
 use lnfs_monitor::{Question, Rule};
 use lnfs_operations::numbers::EMPTY_LISTING;
 use lnfs_operations::{Gate, Refusal};
-use lnfs_outside::Moment;
 use lnfs_results::MOST_DATA;
 use lnfs_site::Site;
 use lnfs_tree::{NodeId, NodeKind, Tree};
+use lnfs_types::Moment;
 use lnfs_xdr::XdrWriter;
 use std::alloc::{AllocError, Global};
 

@@ -11,7 +11,8 @@ ghost use Rattle.lnfs_world.specs.Outcome.{Place};
 ghost use Rattle.lnfs_site.specs.Site.{site_of};
 ghost use Rattle.lnfs_operations.specs.Handles.{file_id};
 ghost use Rattle.lnfs_operations.specs.Shown.{type_of, time_of, label_shown, label_value, shown, bitmap_of, answer_to};
-ghost use Rattle.lnfs_tree.specs.Rows.{id_of, kind_of, stored_of};
+ghost use Rattle.lnfs_tree.specs.Rows.{id_of, kind_of};
+ghost use Rattle.lnfs_world.specs.Given.{stored_of};
 ghost use Rattle.lnfs_nodes.specs.Trees.{with_tree, Holds};
 
 use crate::handles::handle_of;
@@ -20,11 +21,11 @@ use lnfs_arguments::numbers::{TYPE_DIR, TYPE_LINK};
 use lnfs_attrs::{Bitmap, LabelValue, Moment as Time, View, answered, write_attrs, write_bitmap};
 use lnfs_calipso::Level;
 use lnfs_format::MAX_SPELLING;
-use lnfs_lists::Octets;
 use lnfs_monitor::Question;
-use lnfs_outside::Moment;
 use lnfs_site::Site;
-use lnfs_tree::{NodeId, NodeKind, Stored, Tree};
+use lnfs_tree::{NodeId, NodeKind, Tree};
+use lnfs_types::{Moment, Octets};
+use lnfs_world::Stored;
 use lnfs_xdr::XdrWriter;
 use std::alloc::{AllocError, Global};
 

@@ -7,7 +7,7 @@ use Rattle.std.specs.declared.cmp.Ordering.TheVariants.{Less, Equal, Greater}
 use Rattle.std.proofs.lemmas.Bool.Decides.{nat_tests}
 use Rattle.lnfs_world.specs.World.{Id, id_order, same_id}
 use Rattle.lnfs_counts.proofs.Entries.{ids_same}
-use Rattle.lnfs_open.specs.declared.groups.Place.{Place}
+use Rattle.lnfs_open.specs.declared.groups.Member.{Member}
 use Rattle.lnfs_open.specs.declared.keys.Key.{Key}
 use Rattle.lnfs_open.specs.Listed.{id_of}
 use Rattle.lnfs_open.specs.Groups.{place_cmp, place_of}
@@ -34,7 +34,7 @@ some_left false o = refl
 
 -- ---- the run of a group
 
-abbrev pub front : Key → Place
+abbrev pub front : Key → Member
 front group = record { group = group; id = record { level = 0; number = 0 } }
 
 ids_from : (i : Id) → is_gt (id_order (record { level = 0; number = 0 }) i) ≡ false
@@ -57,5 +57,5 @@ ids_between : (a b : Id) → is_gt (id_order a b) ≡ false → is_gt (id_order 
 ids_between a b x y = grind (arith, nat_tests)
 
 -- what lies between the front of a group and a place of it is of the group
-pub between : (group : Key) (i : Id) (p : Place) → is_gt (place_cmp (front group) p) ≡ false → is_gt (place_cmp p (place_of (id_of group) i)) ≡ false → same_id (id_of p.group) (id_of group) ≡ true
+pub between : (group : Key) (i : Id) (p : Member) → is_gt (place_cmp (front group) p) ≡ false → is_gt (place_cmp p (place_of (id_of group) i)) ≡ false → same_id (id_of p.group) (id_of group) ≡ true
 between group i p x y = ids_between (id_of group) (id_of p.group) (then_le _ _ x) (then_le _ _ y)

@@ -12,14 +12,14 @@ use Rattle.std.specs.Map.{keys_of}
 use Rattle.std.proofs.lemmas.Map.Keys.{sorted_head, sorted_tail}
 use Rattle.std.proofs.lemmas.Bool.Decides.{nat_tests}
 use Rattle.lnfs_world.specs.World.{Id, id_order, same_id}
-use Rattle.lnfs_open.specs.declared.groups.Place.{Place}
+use Rattle.lnfs_open.specs.declared.groups.Member.{Member}
 use Rattle.lnfs_open.specs.declared.keys.Key.{Key}
 use Rattle.lnfs_open.specs.Listed.{id_of}
 use Rattle.lnfs_open.specs.Groups.{place_cmp}
 use Rattle.lnfs_open.proofs.Places.{front}
 
 abbrev pub Places : Type 0
-Places = List (Place × Unit {0})
+Places = List (Member × Unit {0})
 
 -- the first places, up to one of another group
 abbrev pub group_run : Key → Places → Places
@@ -34,7 +34,7 @@ then_le Greater p e = refl
 ids_from : (i : Id) → is_le (id_order (record { level = 0; number = 0 }) i) ≡ true
 ids_from i = grind (arith, nat_tests)
 
-from_group : (group : Key) (p : Place) → is_le (place_cmp (front group) p) ≡ is_le (id_order (id_of group) (id_of p.group))
+from_group : (group : Key) (p : Member) → is_le (place_cmp (front group) p) ≡ is_le (id_order (id_of group) (id_of p.group))
 from_group group p = then_le (id_order (id_of group) (id_of p.group)) _ (ids_from (id_of p.id))
 
 then_rise : (o p : Ordering) → ordering_then o p ≡ Less → is_le o ≡ true
@@ -50,7 +50,7 @@ ids_below : (g a : Id) → is_le (id_order g a) ≡ false → same_id g a ≡ fa
 ids_below g a x = grind (arith, nat_tests)
 
 module _ (group : Key) where
-  none_above : (p : Place) → is_le (id_order (id_of group) (id_of p.group)) ≡ true → same_id (id_of group) (id_of p.group) ≡ false → (es : Places) → AllByRecursion (λ q. place_cmp p q ≡ Less) (keys_of es) → filter (λ e. same_id (id_of group) (id_of e.0.group)) es ≡ []
+  none_above : (p : Member) → is_le (id_order (id_of group) (id_of p.group)) ≡ true → same_id (id_of group) (id_of p.group) ≡ false → (es : Places) → AllByRecursion (λ q. place_cmp p q ≡ Less) (keys_of es) → filter (λ e. same_id (id_of group) (id_of e.0.group)) es ≡ []
   none_above p from other [] all = refl
   none_above p from other (e ∷ es) all =
       let apart = ids_above (id_of group) (id_of p.group) (id_of e.0.group) from other (then_rise _ _ all.0) in
@@ -67,7 +67,7 @@ module _ (group : Key) where
       by false false from same rest = let no = from_group group e.0 ∙ from in rw (no, same) rest
 
 -- a test of those that another leaves
-pub any_filtered : (p t : Place × Unit {0} → Bool) (es : Places) → list_any t (filter p es) ≡ list_any (λ e. p e && t e) es
+pub any_filtered : (p t : Member × Unit {0} → Bool) (es : Places) → list_any t (filter p es) ≡ list_any (λ e. p e && t e) es
 any_filtered p t [] = refl
 any_filtered p t (e ∷ es) = by (p e) refl (any_filtered p t es)
   where

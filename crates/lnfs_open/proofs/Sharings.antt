@@ -12,7 +12,7 @@ use Rattle.lnfs_world.proofs.Rows.{all_weaker, any_row, any_found}
 use Rattle.lnfs_world.proofs.Keys.{same_truth, id_same, id_itself}
 use Rattle.lnfs_counts.proofs.Rows.{each_at}
 use Rattle.lnfs_open.specs.declared.groups.Groups.{Groups}
-use Rattle.lnfs_open.specs.declared.groups.Place.{Place}
+use Rattle.lnfs_open.specs.declared.groups.Member.{Member}
 use Rattle.lnfs_open.specs.Listed.{id_of}
 use Rattle.lnfs_open.specs.Groups.{place_cmp, place_of, holds}
 use Rattle.lnfs_open.specs.Indexed.{own_id, open_at, passes}
@@ -21,10 +21,10 @@ use Rattle.lnfs_open.specs.Sharing.{conflicts, is_denied}
 use Rattle.lnfs_open.proofs.Places.{place_same}
 use Rattle.lnfs_open.proofs.Runs.{Places}
 
-same_place : (p q : Place) → is_eq (place_cmp p q) ≡ (same_id (id_of p.group) (id_of q.group) && same_id (id_of p.id) (id_of q.id))
+same_place : (p q : Member) → is_eq (place_cmp p q) ≡ (same_id (id_of p.group) (id_of q.group) && same_id (id_of p.id) (id_of q.id))
 same_place p q = place_same (id_of p.group) (id_of p.id) (id_of q.group) (id_of q.id)
 
-itself : (p : Place) → is_eq (place_cmp p p) ≡ true
+itself : (p : Member) → is_eq (place_cmp p p) ≡ true
 itself p = same_place p p ∙ grind (arith, id_itself (id_of p.group), id_itself (id_of p.id))
 
 -- each place is in the map
@@ -35,12 +35,12 @@ each_there (e ∷ es) = (
   all_weaker _ _ (λ x there. by x (is_eq (place_cmp x.0 e.0)) there) es (each_there es),
 )
   where
-    by : (x : Place × Unit {0}) (b : Bool) → is_some (lookup (is_at (place_cmp x.0)) es) ≡ true → is_some (cond b (Some e.1) (lookup (is_at (place_cmp x.0)) es)) ≡ true
+    by : (x : Member × Unit {0}) (b : Bool) → is_some (lookup (is_at (place_cmp x.0)) es) ≡ true → is_some (cond b (Some e.1) (lookup (is_at (place_cmp x.0)) es)) ≡ true
     by x true there = refl
     by x false there = there
 
 -- one that is in the map is among the places
-among : (t : Place → Bool) (p : Place) → t p ≡ true → (es : Places) → is_some (lookup (is_at (place_cmp p)) es) ≡ true → list_any (λ e. t e.0) es ≡ true
+among : (t : Member → Bool) (p : Member) → t p ≡ true → (es : Places) → is_some (lookup (is_at (place_cmp p)) es) ≡ true → list_any (λ e. t e.0) es ≡ true
 among t p passes [] there = there
 among t p passes (e ∷ es) there = by (is_eq (place_cmp p e.0)) refl there (among t p passes es)
   where
@@ -59,7 +59,7 @@ module _ (opens : List Open) (rise : Rising open_order opens) (nodes : Groups) (
       let row = any_row _ (λ e. same_id node (id_of e.0.group) && passes t (open_at opens (id_of e.0.id))) nodes.places.entries (each_there nodes.places.entries) some in
       by row.0.0 row.1 row.2 (open_at opens (id_of row.0.0.id)) refl
     where
-      by : (p : Place) → is_some (lookup (is_at (place_cmp p)) nodes.places.entries) ≡ true → (same_id node (id_of p.group) && passes t (open_at opens (id_of p.id))) ≡ true → (x : Option Open) → open_at opens (id_of p.id) ≡ x → list_any (λ o. same_id node o.node && t o) opens ≡ true
+      by : (p : Member) → is_some (lookup (is_at (place_cmp p)) nodes.places.entries) ≡ true → (same_id node (id_of p.group) && passes t (open_at opens (id_of p.id))) ≡ true → (x : Option Open) → open_at opens (id_of p.id) ≡ x → list_any (λ o. same_id node o.node && t o) opens ≡ true
       by p there both None at =
           let none : passes t (open_at opens (id_of p.id)) ≡ false = ap (passes t) at in
           absurd (grind (arith, both, none))

@@ -5,13 +5,13 @@ use Rattle.std.specs.declared.cmp.Ordering.{Ordering}
 use Rattle.std.specs.BTreeMap.{get}
 use Rattle.lnfs_world.specs.World.{Id, id_order}
 use Rattle.lnfs_open.specs.declared.groups.Groups.{Groups}
-use Rattle.lnfs_open.specs.declared.groups.Place.{Place}
+use Rattle.lnfs_open.specs.declared.groups.Member.{Member}
 use Rattle.lnfs_open.specs.Listed.{id_of, key_of}
 
-abbrev pub place_cmp : Place → Place → Ordering
+abbrev pub place_cmp : Member → Member → Ordering
 place_cmp a b = ordering_then (id_order (id_of a.group) (id_of b.group)) (id_order (id_of a.id) (id_of b.id))
 
-abbrev pub place_of : (group i : Id) → Place
+abbrev pub place_of : (group i : Id) → Member
 place_of group i = record { group = key_of group; id = key_of i }
 
 abbrev pub holds : Groups → (group i : Id) → Bool

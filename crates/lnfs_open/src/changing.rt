@@ -14,7 +14,7 @@ use crate::keys::{ClientKey, Key, NodeKey, OpenError, OpenRef, OpenRow};
 use crate::opens::Opens;
 use crate::rows::{add_row, drop_row, join_row, row_at};
 use lnfs_counts::{count_off, count_one, last_given, make_counter};
-use lnfs_lists::Octets;
+use lnfs_types::Octets;
 use std::alloc::AllocError;
 
 impl Opens {

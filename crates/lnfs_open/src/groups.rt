@@ -10,7 +10,7 @@ use std::collections::BTreeMap;
 
 /// An open in its group.
 #[derive(Clone, Copy, Debug, PartialEq, Eq, PartialOrd, Ord)]
-pub struct Place {
+pub struct Member {
     pub group: Key,
     pub id: Key,
 }
@@ -18,14 +18,14 @@ pub struct Place {
 /// Opens in groups. Those of a group lie beside each other.
 #[derive(Drop)]
 pub struct Groups {
-    pub places: BTreeMap<Place, ()>,
+    pub places: BTreeMap<Member, ()>,
 }
 
 /// The place before all of a group.
-pub fn front(group: Key) -> Place
+pub fn front(group: Key) -> Member
     ensures { result ≡ record { group = group; id = record { level = 0; number = 0 } } }
 {
-    Place {
+    Member {
         group,
         id: Key {
             level: 0,
@@ -49,7 +49,7 @@ impl Groups {
         ensures entered { OnOk result ((g i : Id) → holds self.new g i ≡ (same_id (id_of group) g && same_id (id_of id) i || holds self.old g i)) }
         ensures kept { OnErr result ((g i : Id) → holds self.new g i ≡ holds self.old g i) }
     {
-        self.places.insert(Place { group, id }, ())?;
+        self.places.insert(Member { group, id }, ())?;
         Ok(())
     }
 
@@ -57,7 +57,7 @@ impl Groups {
     pub fn leave(&mut self, group: Key, id: Key)
         ensures { (g i : Id) → holds self.new g i ≡ (not (same_id (id_of group) g && same_id (id_of id) i) && holds self.old g i) }
     {
-        self.places.remove(&Place { group, id });
+        self.places.remove(&Member { group, id });
     }
 
     /// The first open of a group.

@@ -3,7 +3,7 @@ ghost use Rattle.std.specs.Prelude.{◌≡◌};
 ghost use Rattle.lnfs_open.specs.Listed.{id_of, client_id, node_id, open_id};
 
 use lnfs_calipso::Level;
-use lnfs_lists::Octets;
+use lnfs_types::Octets;
 use std::alloc::AllocError;
 
 /// A client: the level that its record was given in, and its number there.

@@ -5,7 +5,7 @@ use Rattle.std.specs.Prelude.{nat_le, is_some, IfSome}
 use Rattle.std.specs.Option.{option_map}
 use Rattle.std.specs.List.{AllByRecursion}
 use Rattle.std.proofs.lemmas.Bool.Decides.{nat_tests}
-use Rattle.lnfs_outside.specs.declared.event.Moment.{Moment}
+use Rattle.lnfs_types.specs.declared.event.Moment.{Moment}
 use Rattle.lnfs_words.specs.Words.{is_empty}
 use Rattle.lnfs_attrs.specs.declared.bitmap.Bitmap.{Bitmap}
 use Rattle.lnfs_attrs.specs.declared.raw.RawAttrs.{RawAttrs}
@@ -26,7 +26,7 @@ use Rattle.lnfs_world.proofs.Sorted.{all_inserted}
 use Rattle.lnfs_world.proofs.Nodes.{told-touched}
 use Rattle.lnfs_world.proofs.Seen.{node_at-id}
 use Rattle.lnfs_operations.specs.declared.Gate.{Gate}
-use Rattle.lnfs_lists.specs.declared.limits.TheConstants.{LABEL_LIMIT}
+use Rattle.lnfs_types.specs.declared.limits.TheConstants.{LABEL_LIMIT}
 use Rattle.lnfs_operations.specs.declared.numbers.TheConstants.{MOST_TEXT}
 use Rattle.lnfs_operations.specs.Chain.{Answer, refuse, done}
 use Rattle.lnfs_operations.specs.Lookup.{is_link}

@@ -3,14 +3,14 @@ use Rattle.std.proofs.Common.{◌≡◌, ◌≤◌, ◌<◌, ◌+◌, ◌-◌, �
 use Rattle.std.specs.Prelude.{nat_le, ◌==◌, if◌then◌else◌}
 use Rattle.std.proofs.lemmas.Bool.Decides.{nat_tests}
 use Rattle.lnfs_calipso.specs.Label.{IsPreorderWithBottom}
-use Rattle.lnfs_outside.specs.declared.event.Moment.{Moment}
+use Rattle.lnfs_types.specs.declared.event.Moment.{Moment}
 use Rattle.lnfs_arguments.specs.Further.{Further}
 use Rattle.lnfs_arguments.specs.declared.types.Op.{Op}
 use Rattle.lnfs_arguments.specs.declared.types.Op.TheVariants as ops
 use Rattle.lnfs_arguments.specs.declared.types.Compound.{Compound}
 use Rattle.lnfs_arguments.specs.declared.types.Sequence.{Sequence}
 use Rattle.lnfs_arguments.specs.declared.statuses.TheConstants.{NFS4ERR_NOTSUPP, NFS4ERR_NOT_ONLY_OP, NFS4ERR_SEQUENCE_POS, NFS4ERR_REP_TOO_BIG, NFS4ERR_TOO_MANY_OPS, NFS4ERR_MINOR_VERS_MISMATCH}
-use Rattle.lnfs_compound.specs.Bounds.{op_bound}
+use Rattle.lnfs_results.specs.Answering.{op_bound}
 use Rattle.lnfs_results.specs.declared.types.OpResult.{OpResult}
 use Rattle.lnfs_results.specs.declared.types.OpResult.TheVariants as results
 use Rattle.lnfs_results.specs.Numbered.{status_of_all}

@@ -19,7 +19,7 @@ use Rattle.lnfs_world.proofs.Views.{client_at-seen, session_at-seen}
 use Rattle.lnfs_operations.specs.declared.Gate.TheVariants as gates
 use Rattle.lnfs_operations.specs.declared.numbers.TheConstants.{RESERVED_ROOM, FILE_SYNC4}
 use Rattle.lnfs_arguments.specs.declared.statuses.TheConstants.{NFS4ERR_REP_TOO_BIG}
-use Rattle.lnfs_compound.specs.Bounds.{op_bound}
+use Rattle.lnfs_results.specs.Answering.{op_bound}
 use Rattle.lnfs_operations.specs.Chain.{Refusal}
 use Rattle.lnfs_operations.specs.Identifiers.{client_named}
 use Rattle.lnfs_operations.specs.CreateSession.{is_next_of}

@@ -10,7 +10,7 @@ use Rattle.lnfs_attrs.proofs.Sizes.{answer_small}
 use Rattle.lnfs_arguments.specs.Further.{Further}
 use Rattle.lnfs_arguments.specs.declared.types.Op.{Op}
 use Rattle.lnfs_arguments.specs.declared.types.Op.TheVariants as ops
-use Rattle.lnfs_compound.specs.Bounds.{op_bound}
+use Rattle.lnfs_results.specs.Answering.{op_bound}
 use Rattle.lnfs_results.specs.declared.limits.TheConstants.{MOST_DATA}
 use Rattle.lnfs_results.specs.declared.types.DirEntry.{DirEntry}
 use Rattle.lnfs_results.specs.declared.types.OpResult.{OpResult}
@@ -25,7 +25,7 @@ use Rattle.lnfs_world.specs.Outcome.{Site, Place, Outcome}
 use Rattle.lnfs_world.proofs.Rows.{all_find}
 use Rattle.lnfs_monitor.specs.Rules.{Read, allows}
 use Rattle.lnfs_operations.specs.declared.Gate.{Gate}
-use Rattle.lnfs_lists.specs.declared.limits.TheConstants.{LABEL_LIMIT}
+use Rattle.lnfs_types.specs.declared.limits.TheConstants.{LABEL_LIMIT}
 use Rattle.lnfs_operations.specs.declared.numbers.TheConstants.{EMPTY_LISTING, MOST_TEXT}
 use Rattle.lnfs_operations.specs.Chain.{Refusal, Answer, refuse}
 use Rattle.lnfs_operations.specs.Access.{Granted}

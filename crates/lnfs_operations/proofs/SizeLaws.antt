@@ -9,7 +9,7 @@ use Rattle.lnfs_operations.specs.Served.{row_in, Slot, Record, Nowhere, Own, Kep
 use Rattle.lnfs_operations.specs.Sequence.{sequence, New, Again, Sent, Sequenced, in_session, on_slot}
 use Rattle.lnfs_operations.specs.SlotRule.{Ran, followed, served, run_behind, own_reply, new_result, result_of, run_all}
 use Rattle.std.specs.Prelude.{◌==◌, nat_le, IfSome, if◌then◌else◌, slice_get}
-use Rattle.lnfs_outside.specs.declared.event.Moment.{Moment}
+use Rattle.lnfs_types.specs.declared.event.Moment.{Moment}
 use Rattle.lnfs_operations.specs.Chain.{done, refuse, Answer, Refusal}
 use Rattle.lnfs_operations.specs.Identifiers.{client_named, session_named, session_under}
 use Rattle.lnfs_operations.specs.DestroyClientId.{destroy_clientid, is_busy}

@@ -8,7 +8,7 @@ use Rattle.lnfs_arguments.specs.declared.types.Compound.{Compound}
 use Rattle.lnfs_arguments.specs.declared.statuses.TheConstants.{NFS4ERR_SEQUENCE_POS, NFS4ERR_NOT_ONLY_OP, NFS4ERR_OP_NOT_IN_SESSION, NFS4ERR_REP_TOO_BIG}
 use Rattle.lnfs_results.specs.declared.types.OpResult.{OpResult}
 use Rattle.lnfs_results.specs.Texts.{results_text}
-use Rattle.lnfs_compound.specs.Bounds.{op_bound}
+use Rattle.lnfs_results.specs.Answering.{op_bound}
 use Rattle.lnfs_world.specs.World.{Session, World, session_at}
 use Rattle.lnfs_world.specs.Outcome.{Place}
 use Rattle.lnfs_operations.specs.declared.Gate.{Gate}

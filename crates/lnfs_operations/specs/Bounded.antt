@@ -3,7 +3,7 @@ use Rattle.std.specs.Prelude.{◌≤◌, ℕ, length, Option, Some, None}
 use Rattle.lnfs_arguments.specs.Further.{Further}
 use Rattle.lnfs_arguments.specs.declared.types.Op.{Op}
 use Rattle.lnfs_arguments.specs.declared.types.Op.TheVariants as ops
-use Rattle.lnfs_compound.specs.Bounds.{op_bound}
+use Rattle.lnfs_results.specs.Answering.{op_bound}
 use Rattle.lnfs_results.specs.Texts.{result_text}
 use Rattle.lnfs_operations.specs.Chain.{Refusal}
 use Rattle.lnfs_operations.specs.Served.{Reply, Own, Kept}

@@ -1,6 +1,6 @@
 -- CREATE (RFC 8881 section 18.4): a directory or a symbolic link.
 use Rattle.std.specs.Prelude.{ℕ, Bool, true, not, ◌&&◌, List, [], ◌∷◌, length, Option, Some, None, is_some, nat_le, nat_lt}
-use Rattle.lnfs_outside.specs.declared.event.Moment.{Moment}
+use Rattle.lnfs_types.specs.declared.event.Moment.{Moment}
 use Rattle.lnfs_words.specs.Words.{is_empty}
 use Rattle.lnfs_attrs.specs.declared.bitmap.Bitmap.{Bitmap}
 use Rattle.lnfs_attrs.specs.declared.raw.RawAttrs.{RawAttrs}

@@ -1,7 +1,7 @@
 -- Further operations beside those of the table, and what they owe.
 use Rattle.std.specs.Prelude.{◌≡◌, ◌≢◌, ◌≤◌, ◌+◌, ◌⊎◌, ℕ, Bool, true, false, List, [], length, Option, Some, None, is_some}
 use Rattle.std.specs.List.{AllByRecursion}
-use Rattle.lnfs_outside.specs.declared.event.Moment.{Moment}
+use Rattle.lnfs_types.specs.declared.event.Moment.{Moment}
 use Rattle.lnfs_calipso.specs.Label.{IsPreorderWithBottom}
 use Rattle.lnfs_arguments.specs.declared.statuses.TheConstants.{NFS4ERR_NOTSUPP}
 use Rattle.lnfs_arguments.specs.Further.{Further, nothing_further}

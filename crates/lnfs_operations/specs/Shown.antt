@@ -1,7 +1,7 @@
 -- The attributes of a node as it shows them to a subject (RFC 8881 section 5, RFC 7862 section 12.2).
 use Rattle.std.specs.Prelude.{ℕ, ◌+◌, ◌-◌, ◌*◌, ◌^◌, ◌&&◌, Bool, cond, map, Option, Some, None}
 use Rattle.std.specs.List.{list_any, range_with_len, fold}
-use Rattle.lnfs_outside.specs.declared.event.Moment as outside
+use Rattle.lnfs_types.specs.declared.event.Moment as outside
 use Rattle.lnfs_attrs.specs.declared.bitmap.Bitmap.{Bitmap}
 use Rattle.lnfs_attrs.specs.declared.raw.RawAttrs.{RawAttrs}
 use Rattle.lnfs_attrs.specs.declared.view.Moment.{Moment}

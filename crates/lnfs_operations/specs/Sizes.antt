@@ -5,7 +5,7 @@ use Rattle.std.specs.List.{AllByRecursion}
 use Rattle.lnfs_arguments.specs.declared.types.Compound.{Compound}
 use Rattle.lnfs_world.specs.World.{Client, Channel, Slot, Session, Stored, Node, World}
 use Rattle.lnfs_world.specs.Outcome.{LevelOf, Site}
-use Rattle.lnfs_lists.specs.declared.limits.TheConstants.{LABEL_LIMIT}
+use Rattle.lnfs_types.specs.declared.limits.TheConstants.{LABEL_LIMIT}
 use Rattle.lnfs_operations.specs.declared.numbers.TheConstants.{LEAST_SIZE, MOST_SIZE, MOST_OPERATIONS, MOST_REQUESTS, LARGEST_WRAPPING, MOST_CREATED, MOST_TEXT}
 use Rattle.lnfs_operations.specs.Lookup.{is_link}
 

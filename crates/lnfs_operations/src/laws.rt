@@ -1,7 +1,7 @@
 //! The laws of each operation, as contracts of functions that do nothing.
 ghost use Rattle.std.specs.Prelude.{◌≡◌, ◌≤◌, ◌<◌, ◌+◌, ℕ, Bool, List, [], ◌∷◌, length, Some, None};
 ghost use Rattle.lnfs_calipso.specs.Label.{IsPreorderWithBottom};
-ghost use Rattle.lnfs_outside.specs.declared.event.Moment.{Moment};
+ghost use Rattle.lnfs_types.specs.declared.event.Moment.{Moment};
 ghost use Rattle.lnfs_attrs.specs.declared.bitmap.Bitmap.{Bitmap};
 ghost use Rattle.lnfs_attrs.specs.declared.view.View.{View as Shown};
 ghost use Rattle.lnfs_attrs.specs.declared.raw.RawAttrs.{RawAttrs};

@@ -11,7 +11,7 @@ use crate::fits::label_at;
 use crate::rows::{FormatRow, LevelName, Spelling};
 use lnfs_calipso::Label;
 use lnfs_format::{Codecs, FormatEntry, Kind, NameRow, Pair};
-use lnfs_lists::{Items, Octets};
+use lnfs_types::{Items, Octets};
 use std::alloc::{AllocError, Global};
 
 /// The row of a name in the table of a format.

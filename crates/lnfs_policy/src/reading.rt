@@ -19,7 +19,7 @@ use crate::policy::Policy;
 use crate::rows::{DirLine, FormatRow, Guest, LevelName, Limit, Parent, Quota, Spelling};
 use lnfs_calipso::{Label, Lattice, Level};
 use lnfs_format::{Codecs, Formats, Pair};
-use lnfs_lists::Octets;
+use lnfs_types::Octets;
 use lnfs_words::{is_ascii, is_worded, lower_bytes_of, lower_secret_of, spells};
 use std::alloc::Global;
 use std::collections::BTreeMap;

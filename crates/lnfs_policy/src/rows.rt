@@ -5,7 +5,7 @@ ghost use Rattle.lnfs_policy.specs.Policy.{is_for};
 
 use lnfs_calipso::Level;
 use lnfs_format::Pair;
-use lnfs_lists::Octets;
+use lnfs_types::Octets;
 
 /// How a format spells labels, as a format line names it.
 #[derive(Clone, Copy)]

@@ -14,7 +14,7 @@ use Rattle.lnfs_program.specs.Handed.{AreServed, WithoutNet, AreNone, HandedBy, 
 use Rattle.lnfs_program.specs.Links.{AreUnserved}
 use Rattle.lnfs_program.specs.Runs.{IsExcused, status_of}
 use Rattle.lnfs_program.specs.Session.{Session, FoundMemory, IsShort, Nothing}
-use Rattle.lnfs_program.specs.Words.{Task, check, replay, translate, generate, serve, Form, help, version, under}
+use Rattle.lnfs_program.specs.Words.{PolicyTask, check, replay, translate, generate, serve, Form, help, version, under}
 use Rattle.lnfs_program.proofs.Dealing.{nothing}
 
 -- the ending that is told is the status itself, and not the net's
@@ -86,7 +86,7 @@ module _ (May : Type 0) (Is : Session → List ℕ → List Deal → List Back �
   idle_served Memory classes i = inl nothing
   idle_served NetFault classes i = absurd i
 
-  pub idle_handed_by : (task : Task) (status : Status) → WithoutNet status → HandedBy May Is None status task [] []
+  pub idle_handed_by : (task : PolicyTask) (status : Status) → WithoutNet status → HandedBy May Is None status task [] []
   idle_handed_by check status i = (i, nothing)
   idle_handed_by (replay traffic) status i = (i, nothing)
   idle_handed_by (translate source target bytes) status i = (i, nothing)

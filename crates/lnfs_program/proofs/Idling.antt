@@ -5,7 +5,7 @@ use Rattle.std.specs.declared.result.Result.TheVariants as result_of
 use Rattle.std.specs.declared.option.Option.{Option}
 use Rattle.std.specs.declared.option.Option.TheVariants.{Some, None}
 use Rattle.lnfs_outside.specs.Causes.{Rose}
-use Rattle.lnfs_outside.specs.declared.event.Moment.{Moment}
+use Rattle.lnfs_types.specs.declared.event.Moment.{Moment}
 use Rattle.lnfs_policy.specs.Policy.{Policy}
 use Rattle.lnfs_gss3.specs.Mechanism.{Signing}
 use Rattle.lnfs_program.specs.declared.status.Status.{Status}
@@ -19,7 +19,7 @@ use Rattle.lnfs_program.specs.Idle.{IsIdle, IsIdleBefore, IsUnread}
 use Rattle.lnfs_program.specs.Runs.{IsExcused, OneRose, Serves, WritesAndNet, status_of}
 use Rattle.lnfs_program.specs.Session.{Session}
 use Rattle.lnfs_program.specs.Streams.{Streams, Counts}
-use Rattle.lnfs_program.specs.Words.{Task, check, replay, translate, generate, serve, Form, help, version, under}
+use Rattle.lnfs_program.specs.Words.{PolicyTask, check, replay, translate, generate, serve, Form, help, version, under}
 use Rattle.lnfs_program.proofs.Handing.{told_is}
 
 module _ {N : Type 0} where
@@ -85,5 +85,5 @@ module _ {F : Type 0} where
   unread_same (Some version) files = refl
   unread_same (Some (under name task)) files = tt
 
-  pub unread_under : {form : Option Form} {name : List ℕ} {task : Task} → form ≡ Some (under name task) → (files files' : F) → IsUnread form files files'
+  pub unread_under : {form : Option Form} {name : List ℕ} {task : PolicyTask} → form ≡ Some (under name task) → (files files' : F) → IsUnread form files files'
   unread_under is files files' = rw is tt

@@ -6,7 +6,7 @@ use Rattle.std.specs.declared.option.Option.TheVariants.{Some, None}
 use Rattle.std.specs.Global.{Vec}
 use Rattle.lnfs_outside.specs.Bytes.{Told, Puts}
 use Rattle.lnfs_outside.specs.Nets.{Deal, Back}
-use Rattle.lnfs_outside.specs.declared.event.Moment.{Moment}
+use Rattle.lnfs_types.specs.declared.event.Moment.{Moment}
 use Rattle.lnfs_policy.specs.Policy.{Policy}
 use Rattle.lnfs_policy.specs.PolicyText.{policy_of, IsRefusal}
 use Rattle.lnfs_policy.specs.declared.cause.Cause.{Cause}
@@ -21,7 +21,7 @@ use Rattle.lnfs_program.specs.Handed.{Dealings, dealings, Enforces, IsTaken, Wit
 use Rattle.lnfs_program.specs.Rules.{Spells, Ends}
 use Rattle.lnfs_program.specs.Runs.{Holds, IsExcused, Plays, Judges, JudgesAlone, Offers, Performs, status_of, held}
 use Rattle.lnfs_program.specs.Session.{Session}
-use Rattle.lnfs_program.specs.Words.{Task, serve, Form, help, version, under, file_of, first_name, second_name, help_text, version_text}
+use Rattle.lnfs_program.specs.Words.{PolicyTask, serve, Form, help, version, under, file_of, first_name, second_name, help_text, version_text}
 use Rattle.lnfs_program.specs.Streams.{Streams, streams}
 use Rattle.lnfs_program.specs.Writes.{TakesFront}
 use Rattle.lnfs_program.proofs.Dealing.{says, untouched}
@@ -38,7 +38,7 @@ unfolding seen
 seen_held None name = tt
 seen_held (Some look) name = refl
 
-due_is : (name : List ℕ) (task : Task) (policy file : Option (List ℕ)) (session : Option Session) → due (Some (under name task)) policy file session ≡ given policy name (λ text. judged (policy_of text) (λ rules. due_under rules task file session))
+due_is : (name : List ℕ) (task : PolicyTask) (policy file : Option (List ℕ)) (session : Option Session) → due (Some (under name task)) policy file session ≡ given policy name (λ text. judged (policy_of text) (λ rules. due_under rules task file session))
 unfolding due
 due_is name task policy file session = refl
 
@@ -125,7 +125,7 @@ module _ (told : Told) {may : Moment → Type 0} {form : Option Form} {result : 
 
 -- ---- by what the file of the policy comes to
 
-module _ {told : Told} {name : List ℕ} (task : Task) where
+module _ {told : Told} {name : List ℕ} (task : PolicyTask) where
   pub alone_unruled : {s : Streams} (status : Status) → Ends told name status → JudgesAlone told (Some (under name task)) (Ok status) s s
   alone_unruled status e = record {
     policy = e.policy;

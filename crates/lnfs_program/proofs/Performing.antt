@@ -9,7 +9,7 @@ use Rattle.lnfs_map.specs.declared.table.MapError.TheVariants as error
 use Rattle.lnfs_map.specs.Translated.{IsTranslated}
 use Rattle.lnfs_outside.specs.Bytes.{Told, Opens}
 use Rattle.lnfs_outside.specs.Nets.{Deal, Back}
-use Rattle.lnfs_outside.specs.declared.event.Moment.{Moment}
+use Rattle.lnfs_types.specs.declared.event.Moment.{Moment}
 use Rattle.lnfs_policy.specs.Policy.{Policy}
 use Rattle.lnfs_policy.specs.declared.mode.Mode.TheVariants.{Enforcing, Limited}
 use Rattle.lnfs_program.specs.declared.status.Status.{Status}
@@ -23,13 +23,13 @@ use Rattle.lnfs_program.specs.Replays.{ReplaysLeft}
 use Rattle.lnfs_program.specs.Runs.{Holds, Offers, Plays, Performs, Serves, status_of}
 use Rattle.lnfs_program.specs.Session.{IsSession}
 use Rattle.lnfs_program.specs.Streams.{Streams}
-use Rattle.lnfs_program.specs.Words.{Task, replay, file_of}
+use Rattle.lnfs_program.specs.Words.{PolicyTask, replay, file_of}
 use Rattle.lnfs_program.proofs.Dealing.{says, untouched, nothing}
 use Rattle.lnfs_program.proofs.Handing.{served_to}
 use Rattle.lnfs_program.proofs.Judging.{seen, seen_held, gave_up, told_only}
 
 -- whatever the file holds
-pub performs_with : (told : Told) (policy : Policy) (task : Task) {result : Result Status Stop} {s t : Streams} → ((file : Option (List ℕ)) → Plays (due_under policy task file None) result s t) → Performs told policy task result s t
+pub performs_with : (told : Told) (policy : Policy) (task : PolicyTask) {result : Result Status Stop} {s t : Streams} → ((file : Option (List ℕ)) → Plays (due_under policy task file None) result s t) → Performs told policy task result s t
 performs_with told policy task plays = record { file = seen told (file_of task); file_held = seen_held told (file_of task); plays = plays (seen told (file_of task)) }
 
 -- what was left of a file that was opened is what the file holds

@@ -4,7 +4,7 @@ use Rattle.std.specs.Prelude.{Result, IsSome}
 use Rattle.std.specs.declared.result.Result.TheVariants as result_of
 use Rattle.std.specs.declared.option.Option.{Option}
 use Rattle.lnfs_outside.specs.Bytes.{Told}
-use Rattle.lnfs_outside.specs.declared.event.Moment.{Moment}
+use Rattle.lnfs_types.specs.declared.event.Moment.{Moment}
 use Rattle.lnfs_program.specs.declared.status.Status.{Status}
 use Rattle.lnfs_program.specs.declared.status.Status.TheVariants.{Memory}
 use Rattle.lnfs_program.specs.declared.status.Stop.{Stop}

@@ -5,8 +5,8 @@ use Rattle.std.specs.Io.KnownBytes.{Consumes, IsAtEnd}
 use Rattle.std.proofs.KnownBytes.{Consumes-nil, Consumes-trans}
 use Rattle.std.specs.declared.option.Option.{Option}
 use Rattle.std.specs.declared.option.Option.TheVariants.{Some, None}
-use Rattle.lnfs_outside.specs.declared.event.Event.{Event}
-use Rattle.lnfs_outside.specs.Moments.{Fits}
+use Rattle.lnfs_types.specs.declared.event.Event.{Event}
+use Rattle.lnfs_types.specs.Moments.{Fits}
 use Rattle.lnfs_policy.specs.Policy.{Policy}
 use Rattle.lnfs_gss3.specs.Mechanism.{Signing}
 use Rattle.lnfs_step.specs.Journal.{answer, audit_at}

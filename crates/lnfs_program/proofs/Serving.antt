@@ -2,7 +2,7 @@
 use Rattle.std.proofs.Common.{◌≡◌, ℕ, ◌≤◌, List, [], ◌∷◌, ◌++◌, ap, refl, sym, ◌∙◌, unwrap_or, arith, append_assoc, append-nil, inl, inr}
 use Rattle.std.specs.Prelude.{Result, Ok, Err, IfErr}
 use Rattle.std.specs.declared.option.Option.{Option}
-use Rattle.lnfs_outside.specs.declared.event.Event.{Event}
+use Rattle.lnfs_types.specs.declared.event.Event.{Event}
 use Rattle.lnfs_outside.specs.Causes.{Rose}
 use Rattle.lnfs_traffic.specs.declared.error.TrafficError.{TrafficError}
 use Rattle.lnfs_traffic.specs.declared.error.TrafficError.TheVariants as error

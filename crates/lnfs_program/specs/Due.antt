@@ -17,7 +17,7 @@ use Rattle.lnfs_program.specs.declared.status.Status.TheVariants as status
 use Rattle.lnfs_program.specs.declared.status.MapCause.TheVariants as cause
 use Rattle.lnfs_program.specs.Ending.{fault_line}
 use Rattle.lnfs_traffic.specs.Parts.{recorded, is_recording, place_of}
-use Rattle.lnfs_program.specs.Words.{Task, check, replay, translate, generate, serve, Form, help, version, under, help_text, version_text}
+use Rattle.lnfs_program.specs.Words.{PolicyTask, check, replay, translate, generate, serve, Form, help, version, under, help_text, version_text}
 use Rattle.lnfs_traffic.specs.Generated.{generated}
 use Rattle.lnfs_traffic.specs.Texts.{recording_text}
 use Rattle.lnfs_program.specs.Summary.{summary}
@@ -84,7 +84,7 @@ served m policy (Some session) = record {
 }
 
 -- a task under a policy
-abbrev pub due_under : Policy → Task → Option (List ℕ) → Option Session → Due
+abbrev pub due_under : Policy → PolicyTask → Option (List ℕ) → Option Session → Due
 due_under policy check file session = shown policy.text
 due_under policy (replay traffic) file session = enforced policy.mode (given file traffic (replayed keyed_digest policy))
 due_under policy (generate seed count) file session = enforced policy.mode (generation_due keyed_digest policy seed count)

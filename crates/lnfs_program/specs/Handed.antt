@@ -3,7 +3,7 @@ use Rattle.std.specs.Prelude.{◌≡◌, ◌⊎◌, ℕ, List, ◌++◌, Ok, All
 use Rattle.std.specs.declared.option.Option.{Option}
 use Rattle.std.specs.declared.option.Option.TheVariants.{Some, None}
 use Rattle.lnfs_outside.specs.Nets.{Deal, Back}
-use Rattle.lnfs_outside.specs.declared.event.Moment.{Moment}
+use Rattle.lnfs_types.specs.declared.event.Moment.{Moment}
 use Rattle.lnfs_policy.specs.Policy.{Policy}
 use Rattle.lnfs_policy.specs.PolicyText.{policy_of}
 use Rattle.lnfs_policy.specs.declared.mode.Mode.TheVariants.{Enforcing}
@@ -11,7 +11,7 @@ use Rattle.lnfs_gss3.specs.Mechanism.{keyed_digest}
 use Rattle.lnfs_program.specs.declared.status.Status.{Status}
 use Rattle.lnfs_program.specs.declared.status.Status.TheVariants as status
 use Rattle.lnfs_program.specs.Session.{Session, FoundMemory, IsSession, IsRefused, IsShort, Nothing}
-use Rattle.lnfs_program.specs.Words.{Task, serve, Form, under}
+use Rattle.lnfs_program.specs.Words.{PolicyTask, serve, Form, under}
 
 -- the links that a net gave and those that were handed back to it, before and after, where they are told
 pub record Dealings : Type 0 where
@@ -77,7 +77,7 @@ abbrev pub AreNone : Status → List Deal → List Back → Type 0
 AreNone ending deals backs = WithoutNet ending × Nothing deals backs
 
 -- the links of a task, which deals with the net only where it is a service; and those of a form
-abbrev pub HandedBy : (May : Type 0) (Is : Session → List ℕ → List Deal → List Back → Type 0) → Option Session → Status → Task → List Deal → List Back → Type 0
+abbrev pub HandedBy : (May : Type 0) (Is : Session → List ℕ → List Deal → List Back → Type 0) → Option Session → Status → PolicyTask → List Deal → List Back → Type 0
 HandedBy May Is session ending (serve classes workers) deals backs = AreServed May Is session ending classes deals backs
 HandedBy May Is session ending task deals backs = AreNone ending deals backs
 

@@ -5,7 +5,7 @@ use Rattle.std.specs.declared.option.Option.{Option}
 use Rattle.std.specs.declared.option.Option.TheVariants.{Some, None}
 use Rattle.lnfs_outside.specs.Causes.{Rose}
 use Rattle.lnfs_outside.specs.Bytes.{Told}
-use Rattle.lnfs_outside.specs.declared.event.Moment.{Moment}
+use Rattle.lnfs_types.specs.declared.event.Moment.{Moment}
 use Rattle.lnfs_program.specs.declared.status.Stop.{Stop}
 use Rattle.lnfs_program.specs.declared.status.Stop.TheVariants.{ReadFault, WriteFault, Memory, NetFault}
 use Rattle.lnfs_program.specs.declared.status.Status.{Status}
@@ -17,7 +17,7 @@ use Rattle.lnfs_program.specs.Due.{Due, due, due_under, enforced, served, all_wr
 use Rattle.lnfs_program.specs.Ending.{told_by}
 use Rattle.lnfs_program.specs.Session.{Session, IsSession}
 use Rattle.lnfs_program.specs.Handed.{Dealings, Deals, Enforces, IsTaken, IsUnder, IsService, AreServed, Handed}
-use Rattle.lnfs_program.specs.Words.{Task, Form, file_of, first_name, second_name}
+use Rattle.lnfs_program.specs.Words.{PolicyTask, Form, file_of, first_name, second_name}
 use Rattle.lnfs_program.specs.Writes.{Takes, TakesFront, Does}
 
 -- a file of the name holds this, or there is none, as far as contents are told
@@ -69,7 +69,7 @@ pub record JudgesAlone (told : Told) (form : Option Form) (result : Result Statu
   pub plays : Plays (due form policy file None) result before after
 
 -- the same of a task under a policy that was read
-pub record Performs (told : Told) (policy : Policy) (task : Task) (result : Result Status Stop) (before after : Streams) : Type 0 where
+pub record Performs (told : Told) (policy : Policy) (task : PolicyTask) (result : Result Status Stop) (before after : Streams) : Type 0 where
   pub file : Option (List ℕ)
   pub file_held : Holds told (file_of task) file
   pub plays : Plays (due_under policy task file None) result before after

@@ -5,7 +5,7 @@ use Rattle.std.specs.declared.option.Option.{Option}
 use Rattle.std.specs.declared.option.Option.TheVariants.{Some, None}
 use Rattle.lnfs_workers.specs.Transcripts.{framed}
 use Rattle.lnfs_program.specs.Streams.{Streams}
-use Rattle.lnfs_outside.specs.declared.event.Event.{Event}
+use Rattle.lnfs_types.specs.declared.event.Event.{Event}
 
 -- an empty text is no write
 pub data Write : Type 0 where

@@ -4,7 +4,7 @@ ghost use Rattle.std.specs.declared.option.Option.{Option};
 ghost use Rattle.lnfs_map.specs.Kept.{IsOneLevel, dom_by};
 ghost use Rattle.lnfs_map.specs.Translated.{translated};
 ghost use Rattle.lnfs_format.specs.declared.formats.Pair.{Pair};
-ghost use Rattle.lnfs_outside.specs.declared.event.Event.{Event};
+ghost use Rattle.lnfs_types.specs.declared.event.Event.{Event};
 ghost use Rattle.lnfs_policy.specs.Policy.{Policy};
 ghost use Rattle.lnfs_policy.specs.PolicyText.{policy_of};
 ghost use Rattle.lnfs_program.specs.Writes.{on_out, on_audit, writes_after, frames_after, lines_after};

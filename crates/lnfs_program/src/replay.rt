@@ -1,6 +1,6 @@
 //! Serving a recording's events, one after another, as their file is read.
 ghost use Rattle.std.specs.Prelude.{◌≡◌, ◌++◌, ◌∷◌, ◌≤◌, ◌<◌, [], IfOk, OnOk, length, unwrap_or};
-ghost use Rattle.lnfs_outside.specs.Moments.{Fits};
+ghost use Rattle.lnfs_types.specs.Moments.{Fits};
 ghost use Rattle.lnfs_program.specs.Replays.{Feeds, ReplaysLeft, ending_of};
 ghost use Rattle.lnfs_program.specs.Runs.{ReadsAndWrites, ReadsOnly, WritesOnly};
 ghost use Rattle.lnfs_program.specs.Streams.{counts, streams};
@@ -12,9 +12,10 @@ use crate::status::{Status, Stop};
 use crate::streams::{PIECE, frame, put, put_line};
 use lnfs_format::Codecs;
 use lnfs_gss3::Mechanism;
-use lnfs_outside::{Event, Files, Sink};
+use lnfs_outside::{Files, Sink};
 use lnfs_policy::Policy;
 use lnfs_traffic::{TrafficError, TrafficReader};
+use lnfs_types::Event;
 use lnfs_vault::{AuditLine, Vault, write_line};
 use std::alloc::{AllocError, Global};
 

@@ -7,9 +7,9 @@ ghost use Rattle.lnfs_program.specs.Runs.{ReadsOnly};
 use crate::status::{Status, Stop};
 use crate::streams::read_file;
 use lnfs_format::Codecs;
-use lnfs_lists::Text;
 use lnfs_outside::Files;
 use lnfs_policy::{Policy, PolicyError, read_policy};
+use lnfs_types::Text;
 use std::alloc::Global;
 
 /// The ending where there is no file of a name.

@@ -4,8 +4,8 @@ ghost use Rattle.std.specs.Fmt.{decimal};
 ghost use Rattle.lnfs_program.specs.declared.status.Stop.TheVariants.{Memory};
 ghost use Rattle.lnfs_program.specs.Ending.{fault_line, map_cause_name, number_of};
 
-use lnfs_lists::Text;
 use lnfs_policy::Cause;
+use lnfs_types::Text;
 use std::alloc::{AllocError, Global};
 
 /// Why some bytes have no translation.

@@ -9,8 +9,8 @@ ghost use Rattle.lnfs_program.specs.Writes.{Does, to_audit};
 ghost use Rattle.lnfs_workers.specs.Transcripts.{framed};
 
 use crate::status::{Status, Stop};
-use lnfs_lists::{Octets, RECORD_LIMIT};
 use lnfs_outside::{Files, Sink, put_all};
+use lnfs_types::{Octets, RECORD_LIMIT};
 use std::alloc::{AllocError, Global};
 
 /// The length of a piece that is read at once, in bytes.

@@ -14,7 +14,7 @@ use crate::status::{Status, Stop};
 use crate::streams::open_file;
 use crate::summary::sum_up;
 use crate::texts::{check, translate};
-use crate::words::Task;
+use crate::words::PolicyTask;
 use lnfs_format::Codecs;
 use lnfs_gss3::KeyedDigest;
 use lnfs_outside::{Files, Sink};
@@ -72,7 +72,7 @@ fn perform<F: Files, K: Sink, A: Sink>(
     alloc: Global,
     codecs: &Codecs,
     policy: Policy,
-    task: &Task<'_>,
+    task: &PolicyTask<'_>,
     files: &mut F,
     out: &mut K,
     audit: &mut A,
@@ -82,14 +82,16 @@ fn perform<F: Files, K: Sink, A: Sink>(
     ensures cause { ReadsAndWrites result (F.faults files.old) (F.faults files.new) (counts (K.write_faults out.old) (A.write_faults audit.old)) (counts (K.write_faults out.new) (A.write_faults audit.new)) }
 {
     match task {
-        Task::Check => check(alloc, &policy, out),
-        Task::Replay { traffic } => replay_file(alloc, codecs, policy, traffic, files, out, audit),
-        Task::Translate {
+        PolicyTask::Check => check(alloc, &policy, out),
+        PolicyTask::Replay { traffic } => replay_file(
+            alloc, codecs, policy, traffic, files, out, audit,
+        ),
+        PolicyTask::Translate {
             source,
             target,
             bytes,
         } => translate(alloc, codecs, &policy, *source, *target, bytes, out),
-        Task::Generate { seed, count } => serve_generated(
+        PolicyTask::Generate { seed, count } => serve_generated(
             alloc, codecs, policy, *seed, *count, out,
         ),
     }
@@ -100,7 +102,7 @@ pub fn under<F: Files, K: Sink, A: Sink>(
     alloc: Global,
     codecs: &Codecs,
     name: &str,
-    task: &Task<'_>,
+    task: &PolicyTask<'_>,
     files: &mut F,
     out: &mut K,
     audit: &mut A,

@@ -71,7 +71,7 @@ exit status:\n\
 
 /// What is asked under a policy, without links.
 #[derive(Debug, Drop)]
-pub enum Task<'a> {
+pub enum PolicyTask<'a> {
     Check,
     Replay {
         traffic: &'a str,
@@ -95,9 +95,15 @@ pub enum Command<'a> {
     Help,
     Version,
     /// A task under the policy of a name.
-    Under { policy: &'a str, task: Task<'a> },
+    Under {
+        policy: &'a str,
+        task: PolicyTask<'a>,
+    },
     /// The service of links under the policy of a name.
-    Serve { policy: &'a str, team: Team },
+    Serve {
+        policy: &'a str,
+        team: Team,
+    },
 }
 
 /// What the words ask for; none where they are no form of the command line.
@@ -108,11 +114,11 @@ pub fn command_of<'a>(alloc: Global, words: &'a [String]) -> Result<Option<Comma
         [word] => Ok(option_of(word)),
         [word, policy] if word.as_str() == "check" => Ok(Some(Command::Under {
             policy: policy.as_str(),
-            task: Task::Check,
+            task: PolicyTask::Check,
         })),
         [word, policy, traffic] if word.as_str() == "replay" => Ok(Some(Command::Under {
             policy: policy.as_str(),
-            task: Task::Replay {
+            task: PolicyTask::Replay {
                 traffic: traffic.as_str(),
             },
         })),
@@ -150,7 +156,7 @@ fn translation_of<'a>(
     };
     Ok(Some(Command::Under {
         policy,
-        task: Task::Translate {
+        task: PolicyTask::Translate {
             source,
             target,
             bytes,
@@ -169,7 +175,7 @@ fn generation_of<'a>(policy: &'a str, seed: &str, count: &str) -> Option<Command
     }
     Some(Command::Under {
         policy,
-        task: Task::Generate {
+        task: PolicyTask::Generate {
             seed,
             count: count as u32,
         },

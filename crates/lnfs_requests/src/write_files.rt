@@ -8,7 +8,7 @@ use lnfs_arguments::numbers::{
     OPEN_CREATE, OPEN_NOCREATE, UNCHECKED,
 };
 use lnfs_arguments::{Claim, Making, Op, Span, StateId, put_attrs, put_state_id};
-use lnfs_lists::Octets;
+use lnfs_types::Octets;
 use lnfs_xdr::XdrWriter;
 use std::alloc::AllocError;
 

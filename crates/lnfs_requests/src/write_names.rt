@@ -9,7 +9,7 @@ use lnfs_arguments::numbers::{
 };
 use lnfs_arguments::{Op, StateId, What, put_attrs, put_state_id};
 use lnfs_attrs::{Bitmap, RawAttrs, write_bitmap};
-use lnfs_lists::Octets;
+use lnfs_types::Octets;
 use lnfs_xdr::XdrWriter;
 use std::alloc::AllocError;
 

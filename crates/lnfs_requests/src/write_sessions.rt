@@ -11,7 +11,7 @@ use lnfs_arguments::numbers::{
 };
 use lnfs_arguments::{Callback, CreateSession, Implementation, Op, Sequence, put_channel};
 use lnfs_attrs::put_words;
-use lnfs_lists::Octets;
+use lnfs_types::Octets;
 use lnfs_xdr::{AUTH_NONE, AUTH_SYS, RPCSEC_GSS, XdrWriter};
 use std::alloc::AllocError;
 

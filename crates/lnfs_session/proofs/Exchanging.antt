@@ -1,7 +1,7 @@
 -- The outcomes of EXCHANGE_ID, each by the tests that led to it.
 use Rattle.std.proofs.Common.{◌≡◌, ℕ, ◌+◌, true, false, List, [], ◌∷◌, ◌++◌, Option, Some, None, refl, sym, ◌∙◌}
 use Rattle.std.specs.Prelude.{find, nat_lt, option_map}
-use Rattle.lnfs_outside.specs.declared.event.Moment.{Moment}
+use Rattle.lnfs_types.specs.declared.event.Moment.{Moment}
 use Rattle.lnfs_world.specs.Rows.{inserted}
 use Rattle.lnfs_world.specs.World.{Client, World, client_order, level_order, last_of}
 use Rattle.lnfs_world.specs.Change.{AddClient, apply_all}

@@ -4,14 +4,14 @@ use Rattle.std.specs.Ordering.{nat_cmp}
 use Rattle.std.specs.BTreeMap.{UpdatesBy, get}
 use Rattle.lnfs_counts.specs.Levels.{told_in}
 use Rattle.lnfs_counts.proofs.Levels.{read_alike}
-use Rattle.lnfs_session.specs.declared.levels.Level.{Level}
+use Rattle.lnfs_session.specs.declared.levels.LevelRecords.{LevelRecords}
 use Rattle.lnfs_session.specs.Levels.{Levels, TellSame, no_numbers, or_none, numbers_of, place_in, lasts_of, AllTellSame}
 
-module _ (m n : Levels) (level : ℕ) (y : Level) (updates : UpdatesBy nat_cmp (nat_cmp level) m n (Some y)) (lasts : lasts_of n.entries ≡ lasts_of m.entries) where
-  alike : {W : Type 0} (f : Option Level → W) (before : Option Level) → get nat_cmp m level ≡ before → f (Some y) ≡ f before → (l : ℕ) → f (get nat_cmp n l) ≡ f (get nat_cmp m l)
+module _ (m n : Levels) (level : ℕ) (y : LevelRecords) (updates : UpdatesBy nat_cmp (nat_cmp level) m n (Some y)) (lasts : lasts_of n.entries ≡ lasts_of m.entries) where
+  alike : {W : Type 0} (f : Option LevelRecords → W) (before : Option LevelRecords) → get nat_cmp m level ≡ before → f (Some y) ≡ f before → (l : ℕ) → f (get nat_cmp n l) ≡ f (get nat_cmp m l)
   alike f before there same l = read_alike m n level (Some y) updates f (same ∙ ap f (sym there)) l
 
-  pub told_same : (x : Level) → get nat_cmp m level ≡ Some x → TellSame x y → AllTellSame m n
+  pub told_same : (x : LevelRecords) → get nat_cmp m level ≡ Some x → TellSame x y → AllTellSame m n
   told_same x there same = record {
     last = alike (told_in (λ z. z.last)) (Some x) there same.last;
     records = alike (told_in (λ z. z.records)) (Some x) there same.records;

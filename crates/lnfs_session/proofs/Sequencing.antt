@@ -1,7 +1,7 @@
 -- The outcome of a SEQUENCE that names a slot.
 use Rattle.std.proofs.Common.{◌≡◌, ℕ, true, Some, refl}
 use Rattle.std.specs.Prelude.{◌==◌, nat_le, slice_get}
-use Rattle.lnfs_outside.specs.declared.event.Moment.{Moment}
+use Rattle.lnfs_types.specs.declared.event.Moment.{Moment}
 use Rattle.lnfs_arguments.specs.declared.types.Sequence.{Sequence}
 use Rattle.lnfs_world.specs.World.{Slot, Session, World}
 use Rattle.lnfs_world.specs.Outcome.{begins_at}

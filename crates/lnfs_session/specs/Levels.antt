@@ -6,10 +6,10 @@ use Rattle.std.specs.BTreeMap.{BTreeMap, get, get_by}
 use Rattle.lnfs_world.specs.World.{Id}
 use Rattle.lnfs_counts.specs.Levels.{told_at, lasts_by}
 use Rattle.lnfs_session.specs.declared.levels.OwnerNumbers.{OwnerNumbers}
-use Rattle.lnfs_session.specs.declared.levels.Level.{Level}
+use Rattle.lnfs_session.specs.declared.levels.LevelRecords.{LevelRecords}
 
 abbrev pub Levels : Type 0
-Levels = BTreeMap ℕ Level
+Levels = BTreeMap ℕ LevelRecords
 
 abbrev pub no_numbers : OwnerNumbers
 no_numbers = record { pending = None; confirmed = None }
@@ -21,21 +21,21 @@ or_none (Some numbers) = numbers
 -- ---- in a level
 
 -- the place that is made for an owner's numbers
-abbrev pub place_of : Level → List ℕ → Option OwnerNumbers
+abbrev pub place_of : LevelRecords → List ℕ → Option OwnerNumbers
 place_of x owner = get_by (λ k. slice_cmp nat_cmp owner k.items) x.owners
 
-abbrev pub numbers_of : Level → List ℕ → OwnerNumbers
+abbrev pub numbers_of : LevelRecords → List ℕ → OwnerNumbers
 numbers_of x owner = or_none (place_of x owner)
 
 -- two states of a level that tell the same
-pub record TellSame (a b : Level) : Type 0 where
+pub record TellSame (a b : LevelRecords) : Type 0 where
   pub last : b.last ≡ a.last
   pub records : b.records ≡ a.records
   pub numbers : (owner : List ℕ) → numbers_of b owner ≡ numbers_of a owner
 
 -- ---- among all levels
 
-abbrev pub place_in : Option Level → List ℕ → Option OwnerNumbers
+abbrev pub place_in : Option LevelRecords → List ℕ → Option OwnerNumbers
 place_in None owner = None
 place_in (Some x) owner = place_of x owner
 
@@ -70,7 +70,7 @@ abbrev pub others_in : Levels → ℕ → List ℕ → ℕ
 others_in levels level owner = without (records_at levels level) (numbers_at levels level owner).pending
 
 -- the last numbers of the levels that were given one
-abbrev pub lasts_of : List (ℕ × Level) → List Id
+abbrev pub lasts_of : List (ℕ × LevelRecords) → List Id
 lasts_of es = lasts_by (λ x. x.last) es
 
 -- two states of the levels that tell the same

@@ -9,7 +9,7 @@ ghost use Rattle.lnfs_session.specs.Standing.{answered, clients_left, clients_se
 
 use crate::maps::drop_client;
 use crate::rows::{Client, ClientRef, Kept};
-use lnfs_lists::Octets;
+use lnfs_types::Octets;
 use lnfs_world::numbers::LAST_SEQUENCE;
 use std::alloc::{AllocError, Global};
 use std::collections::BTreeMap;

@@ -1,6 +1,6 @@
 //! CREATE_SESSION (RFC 8881 section 18.36).
 ghost use Rattle.std.specs.Prelude.{◌≡◌, Some, IfOk, OnErr, map, option_map, replicate};
-ghost use Rattle.lnfs_outside.specs.declared.event.Moment.{Moment};
+ghost use Rattle.lnfs_types.specs.declared.event.Moment.{Moment};
 ghost use Rattle.lnfs_world.specs.World as world;
 ghost use Rattle.lnfs_world.specs.World.{World, client_at};
 ghost use Rattle.lnfs_world.specs.Outcome.{done_to, begins_at};

@@ -1,7 +1,7 @@
 //! DESTROY_SESSION and DESTROY_CLIENTID (RFC 8881 sections 18.37 and 18.50).
 ghost use Rattle.std.specs.Prelude.{◌≡◌, map};
 ghost use Rattle.std.specs.List.{list_any};
-ghost use Rattle.lnfs_outside.specs.declared.event.Moment.{Moment};
+ghost use Rattle.lnfs_types.specs.declared.event.Moment.{Moment};
 ghost use Rattle.lnfs_world.specs.World.{World};
 ghost use Rattle.lnfs_world.specs.Change.{is_session_of, is_open_of};
 ghost use Rattle.lnfs_world.specs.Outcome.{done_to, begins_at};

@@ -1,6 +1,6 @@
 //! EXCHANGE_ID (RFC 8881 section 18.35).
 ghost use Rattle.std.specs.Prelude.{◌≡◌, OnErr, IfOk};
-ghost use Rattle.lnfs_outside.specs.declared.event.Moment.{Moment};
+ghost use Rattle.lnfs_types.specs.declared.event.Moment.{Moment};
 ghost use Rattle.lnfs_world.specs.World.{World};
 ghost use Rattle.lnfs_world.specs.Outcome.{done_to, begins_at};
 ghost use Rattle.lnfs_operations.specs.ExchangeId.{exchange_id, has_flag};

@@ -12,7 +12,7 @@ use crate::clients::{Clients, SessionError, refused};
 use crate::rows::{ClientRef, Kept, Session, SessionRef, Slot};
 use crate::sequence::SlotRef;
 use lnfs_arguments::statuses::{NFS4ERR_COMPLETE_ALREADY, NFS4ERR_OP_NOT_IN_SESSION};
-use lnfs_lists::Octets;
+use lnfs_types::Octets;
 use std::collections::BTreeMap;
 
 /// A slot holds another request, if there is one of that number.

@@ -28,7 +28,7 @@ const NO_NUMBERS: OwnerNumbers = OwnerNumbers {
 
 /// What is kept of a level.
 #[derive(Drop)]
-pub struct Level {
+pub struct LevelRecords {
     /// The last number that it was given: before the first, 0.
     last: u32,
     /// How many records it has.
@@ -36,14 +36,14 @@ pub struct Level {
     owners: BTreeMap<Vec<u8>, OwnerNumbers>,
 }
 
-impl Level {
+impl LevelRecords {
     /// A level that was given no number.
-    fn new(alloc: Global) -> Level
+    fn new(alloc: Global) -> LevelRecords
         ensures last { result.last ≡ 0 }
         ensures records { result.records ≡ 0 }
         ensures numbers { (owner : List ℕ) → numbers_of result owner ≡ no_numbers }
     {
-        Level {
+        LevelRecords {
             last: 0,
             records: 0,
             owners: BTreeMap::new(alloc),
@@ -98,7 +98,7 @@ impl Level {
 }
 
 /// The last number that a level was given: before the first, 0.
-pub fn last_given(levels: &BTreeMap<u32, Level>, level: u32) -> u32
+pub fn last_given(levels: &BTreeMap<u32, LevelRecords>, level: u32) -> u32
     ensures { result ≡ last_at levels.now level }
 {
     match levels.get(&level) {
@@ -108,7 +108,7 @@ pub fn last_given(levels: &BTreeMap<u32, Level>, level: u32) -> u32
 }
 
 /// How many records a level has.
-pub fn count(levels: &BTreeMap<u32, Level>, level: u32) -> u32
+pub fn count(levels: &BTreeMap<u32, LevelRecords>, level: u32) -> u32
     ensures { result ≡ records_at levels.now level }
 {
     match levels.get(&level) {
@@ -118,7 +118,7 @@ pub fn count(levels: &BTreeMap<u32, Level>, level: u32) -> u32
 }
 
 /// The numbers of an owner's records in a level.
-pub fn numbers_at(levels: &BTreeMap<u32, Level>, level: u32, owner: &[u8]) -> OwnerNumbers
+pub fn numbers_at(levels: &BTreeMap<u32, LevelRecords>, level: u32, owner: &[u8]) -> OwnerNumbers
     ensures { result ≡ numbers_at levels.now level owner.now }
 {
     match levels.get(&level) {
@@ -129,7 +129,7 @@ pub fn numbers_at(levels: &BTreeMap<u32, Level>, level: u32, owner: &[u8]) -> Ow
 
 /// Makes a level that was given no number, where there is none.
 fn make_level(
-    levels: &mut BTreeMap<u32, Level>,
+    levels: &mut BTreeMap<u32, LevelRecords>,
     alloc: Global,
     level: u32,
 ) -> Result<(), AllocError>
@@ -139,13 +139,13 @@ fn make_level(
     if levels.contains_key(&level) {
         return Ok(());
     }
-    levels.insert(level, Level::new(alloc))?;
+    levels.insert(level, LevelRecords::new(alloc))?;
     Ok(())
 }
 
 /// Makes a place for an owner's numbers in a level, where there is none. It changes nothing that is told.
 pub fn make_place(
-    levels: &mut BTreeMap<u32, Level>,
+    levels: &mut BTreeMap<u32, LevelRecords>,
     alloc: Global,
     level: u32,
     owner: &[u8],
@@ -161,7 +161,7 @@ pub fn make_place(
 }
 
 /// Gives a level, which is there, a number.
-pub fn give(levels: &mut BTreeMap<u32, Level>, level: u32, number: u32)
+pub fn give(levels: &mut BTreeMap<u32, LevelRecords>, level: u32, number: u32)
     requires there { IsSome (get nat_cmp levels.old level) }
     requires positive { 0 < number }
     ensures last { (l : ℕ) → last_at levels.new l ≡ cond (level == l) number (last_at levels.old l) }
@@ -177,7 +177,7 @@ pub fn give(levels: &mut BTreeMap<u32, Level>, level: u32, number: u32)
 
 /// Sets an owner's numbers in a level, for which there is a place, and the level's count of records.
 pub fn put(
-    levels: &mut BTreeMap<u32, Level>,
+    levels: &mut BTreeMap<u32, LevelRecords>,
     level: u32,
     owner: &[u8],
     numbers: OwnerNumbers,
@@ -196,7 +196,7 @@ pub fn put(
 }
 
 /// Takes back the place of an owner that has no record in a level. It changes nothing that is told.
-pub fn free_place(levels: &mut BTreeMap<u32, Level>, level: u32, owner: &[u8])
+pub fn free_place(levels: &mut BTreeMap<u32, LevelRecords>, level: u32, owner: &[u8])
     ensures { AllTellSame levels.old levels.new }
 {
     let Some(found) = levels.get_mut(&level) else {

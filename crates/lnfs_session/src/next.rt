@@ -1,7 +1,7 @@
 //! Which CREATE_SESSION brings the next sequence of its client (RFC 8881 section 18.36.4).
 ghost use Rattle.std.specs.Prelude.{◌≡◌, cond, Some, None};
 ghost use Rattle.std.specs.Option.{option_map};
-ghost use Rattle.lnfs_outside.specs.declared.event.Moment.{Moment};
+ghost use Rattle.lnfs_types.specs.declared.event.Moment.{Moment};
 ghost use Rattle.lnfs_world.specs.World.{World};
 ghost use Rattle.lnfs_world.specs.Outcome.{begins_at};
 ghost use Rattle.lnfs_operations.specs.CreateSession.{is_next_created};

@@ -6,7 +6,7 @@ ghost use Rattle.lnfs_world.specs.World.{level_order};
 ghost use Rattle.lnfs_session.specs.Listed.{id_of};
 ghost use Rattle.lnfs_session.specs.Levels.{last_at, records_at, place_at, numbers_at, number_by, cleared, without, others_in, lasts_of};
 
-use crate::levels::{Level, OwnerNumbers, count, free_place, give, numbers_at, put};
+use crate::levels::{LevelRecords, OwnerNumbers, count, free_place, give, numbers_at, put};
 use crate::rows::ClientRef;
 use lnfs_world::numbers::LAST_NUMBER;
 use std::collections::BTreeMap;
@@ -33,7 +33,7 @@ fn without(records: u32, number: Option<u32>) -> u32
 }
 
 /// How many records of a level stay where an owner's pending one goes.
-pub fn others_in(levels: &BTreeMap<u32, Level>, level: u32, owner: &[u8]) -> u32
+pub fn others_in(levels: &BTreeMap<u32, LevelRecords>, level: u32, owner: &[u8]) -> u32
     ensures { result ≡ others_in levels.now level owner.now }
 {
     without(
@@ -44,7 +44,7 @@ pub fn others_in(levels: &BTreeMap<u32, Level>, level: u32, owner: &[u8]) -> u32
 
 /// Enters a new number as that of an owner's pending record. The one that it had is answered.
 pub fn enter_number(
-    levels: &mut BTreeMap<u32, Level>,
+    levels: &mut BTreeMap<u32, LevelRecords>,
     id: ClientRef,
     owner: &[u8],
 ) -> Option<ClientRef>
@@ -70,7 +70,7 @@ pub fn enter_number(
 
 /// The number of an owner's pending record becomes that of its confirmed one. The one that it had is answered.
 pub fn confirm_number(
-    levels: &mut BTreeMap<u32, Level>,
+    levels: &mut BTreeMap<u32, LevelRecords>,
     id: ClientRef,
     owner: &[u8],
 ) -> Option<ClientRef>
@@ -92,7 +92,12 @@ pub fn confirm_number(
 }
 
 /// An owner's confirmed record has gone, or its pending one.
-pub fn clear_number(levels: &mut BTreeMap<u32, Level>, level: u32, owner: &[u8], confirmed: bool)
+pub fn clear_number(
+    levels: &mut BTreeMap<u32, LevelRecords>,
+    level: u32,
+    owner: &[u8],
+    confirmed: bool,
+)
     requires { IsSome (number_by confirmed (numbers_at levels.old level owner.now)) }
     ensures last { (l : ℕ) → last_at levels.new l ≡ last_at levels.old l }
     ensures records { (l : ℕ) → records_at levels.new l ≡ cond (level == l) (records_at levels.old level - 1) (records_at levels.old l) }

@@ -9,7 +9,7 @@ ghost use Rattle.lnfs_session.specs.Standing.{answered, reclaimed, clients_set};
 ghost use Rattle.lnfs_session.specs.Records.{no_clients, next_id, renewed, replaced_by, with_confirmed};
 
 use crate::client_rows::{add_new, drop_any, keep_answer, mark_reclaimed, set_confirmed};
-use crate::levels::{Level, free_place, last_given, make_place, numbers_at};
+use crate::levels::{LevelRecords, free_place, last_given, make_place, numbers_at};
 use crate::maps::drop_client;
 use crate::named::client_at;
 use crate::owners::{clear_number, confirm_number, enter_number, numbered, others_in};
@@ -25,7 +25,7 @@ use std::marker::Model;
 pub struct Records {
     alloc: Global,
     rows: BTreeMap<ClientRef, Client>,
-    levels: BTreeMap<u32, Level>,
+    levels: BTreeMap<u32, LevelRecords>,
 }
 
 impl Model for Records {

@@ -1,7 +1,7 @@
 //! The rows that are kept, each under its identifier.
 
 use lnfs_arguments::Channel;
-use lnfs_lists::Octets;
+use lnfs_types::Octets;
 
 /// The identifier of a client's record: the level that it was given in, and its number there.
 #[derive(Clone, Copy, Debug, PartialEq, Eq, PartialOrd, Ord)]

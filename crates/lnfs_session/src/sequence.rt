@@ -1,6 +1,6 @@
 //! SEQUENCE, and the slots of sessions (RFC 8881 sections 2.10.6 and 18.46).
 ghost use Rattle.std.specs.Prelude.{◌≡◌};
-ghost use Rattle.lnfs_outside.specs.declared.event.Moment.{Moment};
+ghost use Rattle.lnfs_types.specs.declared.event.Moment.{Moment};
 ghost use Rattle.lnfs_world.specs.World.{World};
 ghost use Rattle.lnfs_world.specs.Outcome.{Place, begins_at};
 ghost use Rattle.lnfs_operations.specs.Sequence.{Sent, sequence, under_session, on_slot};

@@ -1,13 +1,13 @@
 //! What stands before all events.
 ghost use Rattle.std.specs.Prelude.{◌≡◌, map, option_map, IfOk};
-ghost use Rattle.lnfs_tree.specs.Rows.{rows_of, stored_of, dir_of};
-ghost use Rattle.lnfs_site.specs.Site.{first_label, first_dir, first_world};
+ghost use Rattle.lnfs_world.specs.Given.{stored_of, dir_of};
+ghost use Rattle.lnfs_site.specs.Site.{first_label, first_dir};
 
 use crate::site::Site;
 use lnfs_calipso::Level;
-use lnfs_lists::Octets;
 use lnfs_policy::DirLine;
-use lnfs_tree::{DirSpec, Stored, Tree};
+use lnfs_types::Octets;
+use lnfs_world::{DirSpec, Stored};
 use std::alloc::{AllocError, Global};
 
 /// The label that a directory of a level bears as bytes, under a limited policy.
@@ -65,18 +65,4 @@ pub fn root_label(alloc: Global, site: &Site<'_>) -> Result<Option<Stored>, Allo
     ensures { IfOk result (λ label. option_map stored_of label ≡ first_label site.now 0) }
 {
     first_label(alloc, site, Level(0))
-}
-
-/// The tree that stands before all events.
-///
-/// # Errors
-///
-/// `AllocError` where there is no memory.
-#[tactic(auto, unfolding(crate::specs::Site::first_world))]
-pub fn first_tree(alloc: Global, site: &Site<'_>) -> Result<Tree, AllocError>
-    ensures { IfOk result (λ tree. tree ≡ rows_of (first_world site.now)) }
-{
-    let dirs = first_dirs(alloc, site)?;
-    let label = root_label(alloc, site)?;
-    Tree::new(alloc, site.policy().lattice(), &dirs, label)
 }

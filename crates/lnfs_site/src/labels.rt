@@ -1,6 +1,6 @@
 //! The label of each level, as a server writes it, and in all formats.
 ghost use Rattle.std.specs.Prelude.{◌≡◌, ◌<◌, length, map, IfOk};
-ghost use Rattle.lnfs_tree.specs.Rows.{stored_of};
+ghost use Rattle.lnfs_world.specs.Given.{stored_of};
 ghost use Rattle.lnfs_site.specs.Site.{spelling, unspelled};
 ghost use Rattle.lnfs_site.specs.Labels.{written_of, table_of, spellings, spelled_at, table_read};
 ghost use Rattle.lnfs_site.specs.Reading.{read_of};
@@ -9,9 +9,9 @@ use crate::reading::LabelRead;
 use crate::table::{Table, read};
 use lnfs_calipso::Level;
 use lnfs_format::{Codecs, MAX_SPELLING};
-use lnfs_lists::Octets;
 use lnfs_policy::Policy;
-use lnfs_tree::Stored;
+use lnfs_types::Octets;
+use lnfs_world::Stored;
 use std::alloc::{AllocError, Global};
 use std::marker::Model;
 
@@ -83,7 +83,7 @@ pub struct Labels {
 
 impl Model for Labels {
     ghost use Rattle.std.specs.Prelude.{◌<◌, length, map};
-    ghost use Rattle.lnfs_tree.specs.Rows.{stored_of};
+    ghost use Rattle.lnfs_world.specs.Given.{stored_of};
     ghost use Rattle.lnfs_site.specs.Labels.{Spellings};
 
     ghost Value = { Spellings };

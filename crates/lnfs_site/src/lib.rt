@@ -10,7 +10,7 @@ mod site;
 mod table;
 
 pub use example::first_world_of_four_lines;
-pub use first::{first_dirs, first_tree, root_label};
+pub use first::{first_dirs, root_label};
 pub use labels::Labels;
 pub use laws::first_world_of_every_policy;
 pub use reading::LabelRead;

@@ -1,6 +1,6 @@
 //! What operations look at of a policy.
 ghost use Rattle.std.specs.Prelude.{◌≡◌};
-ghost use Rattle.lnfs_tree.specs.Rows.{stored_of};
+ghost use Rattle.lnfs_world.specs.Given.{stored_of};
 ghost use Rattle.lnfs_monitor.specs.Questions.{asked, verdict};
 ghost use Rattle.lnfs_site.specs.Site.{site_of};
 ghost use Rattle.lnfs_site.specs.Labels.{spellings};
@@ -12,7 +12,7 @@ use lnfs_calipso::Level;
 use lnfs_format::MAX_SPELLING;
 use lnfs_monitor::{Question, Verdict, dominates, judge};
 use lnfs_policy::{Mode, Policy};
-use lnfs_tree::Stored;
+use lnfs_world::Stored;
 use std::marker::Model;
 
 /// A policy with the labels of its levels. Its value is the policy.

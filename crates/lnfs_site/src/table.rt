@@ -8,7 +8,7 @@ ghost use Rattle.lnfs_site.specs.Reading.{read_of};
 use crate::reading::LabelRead;
 use lnfs_calipso::{Lattice, Level};
 use lnfs_format::{Codecs, FormatEntry};
-use lnfs_lists::Octets;
+use lnfs_types::Octets;
 use std::alloc::{AllocError, Global};
 use std::marker::Model;
 

@@ -22,7 +22,7 @@ use Rattle.lnfs_gss3.specs.declared.handle.ContextHandle.{ContextHandle}
 use Rattle.lnfs_gss3.specs.declared.numbers.TheConstants.{LABEL, PROC_NULL, AUTH_BADCRED, AUTH_TOOWEAK, RPCSEC_GSS_CREDPROBLEM, RPCSEC_GSS_LABEL_PROBLEM, RPCSEC_GSS_CREATE, RPCSEC_GSS_DATA, RPCSEC_GSS_DESTROY, INTEGRITY}
 use Rattle.lnfs_gss3.specs.Mechanism.{Signing}
 use Rattle.lnfs_gss3.specs.Grammar.{alone, whole, Credential, credential, context_handle, parent_handle, Body, Assertion, assertion, create_args}
-use Rattle.lnfs_gss3.specs.Who.{demand, where_there, guest_by, guest_in, guest, guest_of, not_known, is_signed, body_under, Named, named_by, named_in, named, Held, is_cleared, held_by, held_in, held, asserted, asserting, create, data_in, in_context, destroy, by_procedure, by_gss, who}
+use Rattle.lnfs_gss3.specs.Who.{demand, where_there, guest_by, guest_in, guest, guest_of, not_known, is_signed, body_under, Named, named_by, named_in, named, HeldContext, is_cleared, held_by, held_in, held, asserted, asserting, create, data_in, in_context, destroy, by_procedure, by_gss, who}
 use Rattle.lnfs_step.proofs.Compounds.{Gives, gives_opaque, gives_done, gives_then, gives_any}
 
 -- ---- the grammar
@@ -66,15 +66,15 @@ named_known p (Some number) n e = by (parent_at p number) refl e
         let same : record { number = number; parent = parent } ≡ n = cc in
         subst (λ (x : Named). Known p x.number) same (parent, is)
 
-held_known : (p : Policy) (handle : Option ContextHandle) (h : Held) → held_in p handle ≡ Some h → Known p h.handle.parent
+held_known : (p : Policy) (handle : Option ContextHandle) (h : HeldContext) → held_in p handle ≡ Some h → Known p h.handle.parent
 held_known p None h e = absurd cc
 held_known p (Some x) h e = by (parent_at p x.parent) refl e
   where
     found : (parent : Parent) (b : Bool) → parent_at p x.parent ≡ Some parent → cond b (Some (record { handle = x; parent = parent })) None ≡ Some h → Known p h.handle.parent
     found parent true known e =
-        let made : Held = record { handle = x; parent = parent } in
+        let made : HeldContext = record { handle = x; parent = parent } in
         let same : made ≡ h = cc in
-        subst (λ (y : Held). Known p y.handle.parent) same (parent, known)
+        subst (λ (y : HeldContext). Known p y.handle.parent) same (parent, known)
     found parent false known e = absurd cc
 
     by : (o : Option Parent) → parent_at p x.parent ≡ o → held_by p x o ≡ Some h → Known p h.handle.parent

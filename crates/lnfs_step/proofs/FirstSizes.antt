@@ -18,7 +18,7 @@ use Rattle.lnfs_world.specs.Outcome.{LevelOf, BadLabel}
 use Rattle.lnfs_world.proofs.Rows.{all_find}
 use Rattle.lnfs_world.proofs.Sorted.{all_inserted}
 use Rattle.lnfs_world.proofs.FirstTrees.{first_keeps}
-use Rattle.lnfs_lists.specs.declared.limits.TheConstants.{LABEL_LIMIT}
+use Rattle.lnfs_types.specs.declared.limits.TheConstants.{LABEL_LIMIT}
 use Rattle.lnfs_operations.specs.Sizes.{SessionFits, ClientFits, NodeFits, Sizes, SpellsShortly}
 use Rattle.lnfs_operations.proofs.ReadingRows.{all_found}
 use Rattle.lnfs_site.specs.Site.{is_limited, told_by, carried, unspelled, spelled_as, spelled_in, spelling, site_of, first_label, first_dir, first_world}

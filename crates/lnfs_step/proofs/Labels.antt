@@ -1,7 +1,7 @@
 -- Labels go up alone with each event.
 use Rattle.std.proofs.Common.{List, [], ◌∷◌, ◌++◌, refl, sym, ap, subst}
 use Rattle.lnfs_calipso.specs.Label.{IsPreorderWithBottom}
-use Rattle.lnfs_outside.specs.declared.event.Event.{Event}
+use Rattle.lnfs_types.specs.declared.event.Event.{Event}
 use Rattle.lnfs_policy.specs.Policy.{Policy, dominance}
 use Rattle.lnfs_world.specs.World.{World, label_at}
 use Rattle.lnfs_world.specs.Outcome.{begins_at}

@@ -4,8 +4,8 @@ use Rattle.std.specs.Prelude.{IfSome}
 use Rattle.std.specs.List.{AllByRecursion}
 use Rattle.std.proofs.lemmas.List.{length-append}
 use Rattle.lnfs_calipso.specs.Label.{IsPreorderWithBottom}
-use Rattle.lnfs_lists.specs.declared.limits.TheConstants.{RECORD_LIMIT}
-use Rattle.lnfs_outside.specs.declared.event.Event.{Event}
+use Rattle.lnfs_types.specs.declared.limits.TheConstants.{RECORD_LIMIT}
+use Rattle.lnfs_types.specs.declared.event.Event.{Event}
 use Rattle.lnfs_xdr.proofs.Sizes.{length-word, length-long, length-opaque}
 use Rattle.lnfs_format.specs.declared.formats.TheConstants.{MAX_SPELLING}
 use Rattle.lnfs_policy.specs.Policy.{Policy, dominance}

@@ -5,7 +5,7 @@ use Rattle.std.specs.List.{AllByRecursion}
 use Rattle.std.proofs.lemmas.Bool.Decides.{nat_tests}
 use Rattle.std.proofs.lemmas.List.{append_assoc, append-nil}
 use Rattle.lnfs_calipso.specs.Label.{IsPreorderWithBottom}
-use Rattle.lnfs_outside.specs.declared.event.Event.{Event}
+use Rattle.lnfs_types.specs.declared.event.Event.{Event}
 use Rattle.lnfs_policy.specs.Policy.{Policy, dominance}
 use Rattle.lnfs_world.specs.World.{Id, Kept, Client, Slot, Session, World, client_at, session_at, same_id}
 use Rattle.lnfs_world.specs.Both.{Both}

@@ -1,7 +1,7 @@
 -- What each event gets, and that its line tells of it.
 use Rattle.std.proofs.Common.{◌≡◌, ℕ, Bool, true, false, cond, List, Option, Some, None, refl, sym, ap, arith, ◌∙◌, subst, inl, inr}
 use Rattle.lnfs_calipso.specs.Label.{IsPreorderWithBottom}
-use Rattle.lnfs_outside.specs.declared.event.Event.{Event}
+use Rattle.lnfs_types.specs.declared.event.Event.{Event}
 use Rattle.lnfs_arguments.specs.declared.types.Compound.{Compound}
 use Rattle.lnfs_policy.specs.Policy.{Policy, dominance}
 use Rattle.lnfs_world.specs.Outcome.{begins_at}

@@ -1,6 +1,6 @@
 -- How the reply to an event ends, and what the line of the event tells of it.
 use Rattle.std.specs.Prelude.{◌≡◌, ◌≢◌, ◌⊎◌, ℕ, ◌+◌, ◌==◌, Bool, true, false, not, List, length, Option, Some, None, codes, slice_get}
-use Rattle.lnfs_outside.specs.declared.event.Event.{Event}
+use Rattle.lnfs_types.specs.declared.event.Event.{Event}
 use Rattle.lnfs_arguments.specs.declared.types.Op.{Op}
 use Rattle.lnfs_arguments.specs.declared.types.Compound.{Compound}
 use Rattle.lnfs_arguments.specs.declared.statuses.TheConstants.{NFS4ERR_ACCESS, NFS4ERR_STALE}

@@ -1,7 +1,7 @@
 -- A COMPOUND that comes on a slot of a session, or as a CREATE_SESSION to the record of its client, one that is
 -- answered again, and one that got what is kept. Each may come as a guest's call, or in a context.
 use Rattle.std.specs.Prelude.{◌≡◌, ℕ, true, List, [], ◌∷◌, ◌++◌, Some, None}
-use Rattle.lnfs_outside.specs.declared.event.Event.{Event}
+use Rattle.lnfs_types.specs.declared.event.Event.{Event}
 use Rattle.lnfs_arguments.specs.declared.types.Op.{Op}
 use Rattle.lnfs_arguments.specs.declared.types.Op.TheVariants as ops
 use Rattle.lnfs_arguments.specs.declared.types.Compound.{Compound}

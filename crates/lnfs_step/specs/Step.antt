@@ -1,7 +1,7 @@
 -- The step that an event makes: the world and the rows of further operations afterwards, the reply if one is
 -- due, and the audit line if something was refused.
 use Rattle.std.specs.Prelude.{ℕ, cond, List, length, Option, Some, None, codes, option_map}
-use Rattle.lnfs_outside.specs.declared.event.Event.{Event}
+use Rattle.lnfs_types.specs.declared.event.Event.{Event}
 use Rattle.lnfs_arguments.specs.declared.types.Compound.{Compound}
 use Rattle.lnfs_policy.specs.Policy.{Policy}
 use Rattle.lnfs_world.specs.Outcome.{begins_at}

@@ -1,8 +1,8 @@
 //! The laws over events and journals, as contracts of functions that do nothing.
 ghost use Rattle.std.specs.Prelude.{◌≡◌, ◌≤◌, ℕ, List, [], ◌∷◌, ◌++◌, Some, true, false, length, IfSome};
 ghost use Rattle.lnfs_calipso.specs.Label.{IsPreorderWithBottom};
-ghost use Rattle.lnfs_lists.specs.declared.limits.TheConstants.{RECORD_LIMIT};
-ghost use Rattle.lnfs_outside.specs.declared.event.Event.{Event};
+ghost use Rattle.lnfs_types.specs.declared.limits.TheConstants.{RECORD_LIMIT};
+ghost use Rattle.lnfs_types.specs.declared.event.Event.{Event};
 ghost use Rattle.lnfs_policy.specs.Policy.{Policy, dominance};
 ghost use Rattle.lnfs_world.specs.Both.{Both};
 ghost use Rattle.lnfs_world.specs.Labels.{LabelsRise};

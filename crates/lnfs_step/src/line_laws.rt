@@ -1,7 +1,7 @@
 //! The law of the lines of events, as the contract of a function that does nothing.
 ghost use Rattle.std.specs.Prelude.{◌≡◌, List};
 ghost use Rattle.lnfs_calipso.specs.Label.{IsPreorderWithBottom};
-ghost use Rattle.lnfs_outside.specs.declared.event.Event.{Event};
+ghost use Rattle.lnfs_types.specs.declared.event.Event.{Event};
 ghost use Rattle.lnfs_policy.specs.Policy.{Policy, dominance};
 ghost use Rattle.lnfs_operations.specs.declared.Gate.{Gate};
 ghost use Rattle.lnfs_step.specs.Step.{letter};

@@ -1,7 +1,7 @@
 //! The laws of requests that come again, as the contract of a function that does nothing.
 ghost use Rattle.std.specs.Prelude.{◌≡◌, ◌≤◌, ◌<◌, ℕ, List, [], ◌∷◌, ◌++◌, Some, None, length, IfSome, slice_get};
 ghost use Rattle.lnfs_calipso.specs.Label.{IsPreorderWithBottom};
-ghost use Rattle.lnfs_outside.specs.declared.event.Event.{Event};
+ghost use Rattle.lnfs_types.specs.declared.event.Event.{Event};
 ghost use Rattle.lnfs_arguments.specs.declared.types.Compound.{Compound};
 ghost use Rattle.lnfs_arguments.specs.declared.types.CreateSession.{CreateSession};
 ghost use Rattle.lnfs_arguments.specs.declared.types.Sequence.{Sequence};

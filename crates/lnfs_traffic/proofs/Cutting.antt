@@ -4,9 +4,9 @@ use Rattle.std.specs.Prelude.{nat_lt}
 use Rattle.std.specs.Int.{Width, w32, w64, byte_len, from_be_bytes}
 use Rattle.std.proofs.lemmas.Grind.{common_steps}
 use Rattle.std.proofs.lemmas.Bool.Decides.{nat_tests}
-use Rattle.lnfs_lists.specs.declared.limits.TheConstants.{RECORD_LIMIT}
-use Rattle.lnfs_outside.specs.declared.event.Event.{Event}
-use Rattle.lnfs_outside.specs.Moments.{is_moment, Fits}
+use Rattle.lnfs_types.specs.declared.limits.TheConstants.{RECORD_LIMIT}
+use Rattle.lnfs_types.specs.declared.event.Event.{Event}
+use Rattle.lnfs_types.specs.Moments.{is_moment, Fits}
 use Rattle.lnfs_xdr.specs.declared.error.XdrError.TheVariants.{Short, TooLong}
 use Rattle.lnfs_xdr.specs.Format.{Format, Word, Long, Count, Raw, Outside, Done, ◌>>=◌, when◌then◌else◌}
 use Rattle.lnfs_xdr.specs.Reading.{Stop, Leaves, read, number_at, count_at, raw_at}

@@ -3,7 +3,7 @@ use Rattle.std.proofs.Common.{◌≡◌, ℕ, ◌+◌, ◌<◌, Bool, true, fals
 use Rattle.std.specs.Prelude.{nat_lt}
 use Rattle.std.specs.Int.{Width, w32, w64, byte_len, from_be_bytes}
 use Rattle.std.proofs.lemmas.Bool.Decides.{nat_tests}
-use Rattle.lnfs_lists.specs.declared.limits.TheConstants.{RECORD_LIMIT}
+use Rattle.lnfs_types.specs.declared.limits.TheConstants.{RECORD_LIMIT}
 use Rattle.lnfs_xdr.specs.declared.error.XdrError.{XdrError}
 use Rattle.lnfs_xdr.specs.declared.error.XdrError.TheVariants.{Short, TooLong}
 use Rattle.lnfs_xdr.specs.Reading.{Item, after, number_at, count_at, raw_at}

@@ -5,9 +5,9 @@ use Rattle.std.specs.Cmp.Lexicographic.{same_text}
 use Rattle.std.proofs.lemmas.List.{take-append-drop, take_at}
 use Rattle.std.proofs.lemmas.Bool.Decides.{nat_tests}
 use Rattle.std.proofs.Math.Seq.{take-length}
-use Rattle.lnfs_outside.specs.declared.event.Event.{Event}
-use Rattle.lnfs_outside.specs.Moments.{Fits, is_moment}
-use Rattle.lnfs_lists.specs.declared.limits.TheConstants.{RECORD_LIMIT}
+use Rattle.lnfs_types.specs.declared.event.Event.{Event}
+use Rattle.lnfs_types.specs.Moments.{Fits, is_moment}
+use Rattle.lnfs_types.specs.declared.limits.TheConstants.{RECORD_LIMIT}
 use Rattle.lnfs_xdr.specs.Reading.{read}
 use Rattle.lnfs_xdr.specs.Format.{Format, If, Raw, Spells}
 use Rattle.lnfs_xdr.proofs.Spelled.{Spelled, ◌▸◌, last, grouped, word_spelled, long_spelled, count_spelled, done_spelled, on_true}

@@ -1,6 +1,6 @@
 -- What the calls answer.
 use Rattle.std.specs.Prelude.{◌≡◌, ℕ, List, false}
-use Rattle.lnfs_outside.specs.declared.event.Event.{Event}
+use Rattle.lnfs_types.specs.declared.event.Event.{Event}
 use Rattle.lnfs_traffic.specs.declared.events.Fields.{Fields}
 use Rattle.lnfs_traffic.specs.declared.error.TrafficError.{TrafficError}
 use Rattle.lnfs_traffic.specs.declared.error.TrafficError.TheVariants.{Damaged, Memory}

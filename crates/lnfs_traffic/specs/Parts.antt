@@ -1,7 +1,7 @@
 -- Bytes as far as they are a recording: the whole events at the front, one after another, and what is left behind them.
 use Rattle.std.specs.Prelude.{ℕ, zero, suc, ◌-◌, Bool, cond, ◌&&◌, nat_eq, List, [], ◌∷◌, length, take, drop, Ok, Err}
 use Rattle.std.specs.Str.{bytes_eq}
-use Rattle.lnfs_outside.specs.declared.event.Event.{Event}
+use Rattle.lnfs_types.specs.declared.event.Event.{Event}
 use Rattle.lnfs_xdr.specs.Reading.{Read, read}
 use Rattle.lnfs_traffic.specs.Recording.{event, beginning}
 

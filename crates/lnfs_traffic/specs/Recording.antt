@@ -1,8 +1,8 @@
 -- Recordings: 8 bytes, and then events, each a head of 24 bytes and a record. All numbers are big-endian, and nothing is padded.
 use Rattle.std.specs.Prelude.{◌≡◌, ◌+◌, ℕ, List, ◌++◌, length, codes}
-use Rattle.lnfs_lists.specs.declared.limits.TheConstants.{RECORD_LIMIT}
-use Rattle.lnfs_outside.specs.declared.event.Event.{Event}
-use Rattle.lnfs_outside.specs.Moments.{is_moment}
+use Rattle.lnfs_types.specs.declared.limits.TheConstants.{RECORD_LIMIT}
+use Rattle.lnfs_types.specs.declared.event.Event.{Event}
+use Rattle.lnfs_types.specs.Moments.{is_moment}
 use Rattle.lnfs_xdr.specs.Format.{Format, Word, Long, Count, Raw, Outside, Done, ◌>>=◌, when◌then◌else◌, times, Spells}
 
 -- class, link, seconds, nanoseconds, length, record; the format is left where the moment is none

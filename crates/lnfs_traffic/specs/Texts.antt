@@ -1,7 +1,7 @@
 -- The text of a recording.
 use Rattle.std.specs.Prelude.{ℕ, List, ◌++◌, length}
 use Rattle.std.specs.List.{flat_map}
-use Rattle.lnfs_outside.specs.declared.event.Event.{Event}
+use Rattle.lnfs_types.specs.declared.event.Event.{Event}
 use Rattle.lnfs_xdr.specs.Canon.{word, long}
 use Rattle.lnfs_traffic.specs.Recording.{beginning}
 

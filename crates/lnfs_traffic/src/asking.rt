@@ -10,7 +10,7 @@ use lnfs_arguments::{
     Channel, Claim, CreateSession, Making, Op, Sequence, Span, StateId, client_id, session_id,
 };
 use lnfs_attrs::{Bitmap, RawAttrs};
-use lnfs_lists::{Items, Octets};
+use lnfs_types::{Items, Octets};
 use std::alloc::{AllocError, Global};
 
 /// The sizes that are asked for, in both directions.

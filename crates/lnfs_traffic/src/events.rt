@@ -8,8 +8,7 @@ ghost use Rattle.lnfs_traffic.specs.Stages.{Whole, stage_at, stage_of};
 ghost use Rattle.lnfs_traffic.specs.Pieces.{Stands};
 ghost use Rattle.lnfs_xdr.specs.declared.error.XdrError.TheVariants.{Short};
 
-use lnfs_lists::{Octets, RECORD_LIMIT};
-use lnfs_outside::{Event, Moment};
+use lnfs_types::{Event, Moment, Octets, RECORD_LIMIT};
 use lnfs_xdr::{XdrError, XdrReader};
 use std::alloc::{AllocError, Global};
 

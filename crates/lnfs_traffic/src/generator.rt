@@ -1,6 +1,6 @@
 //! Events that guests of a site might send, drawn by a seed.
 ghost use Rattle.std.specs.Prelude.{◌≡◌, ◌<◌, ◌^◌, All, IfOk};
-ghost use Rattle.lnfs_outside.specs.Moments.{Fits};
+ghost use Rattle.lnfs_types.specs.Moments.{Fits};
 ghost use Rattle.lnfs_traffic.specs.CallTexts.{IsRequest};
 ghost use Rattle.lnfs_traffic.specs.Generated.{next_number, message, event_of, generated};
 
@@ -9,10 +9,9 @@ use crate::calls::write_call;
 use crate::guests::{Row, rows};
 use crate::turns::{Past, Turn, next_past};
 use lnfs_arguments::Compound;
-use lnfs_lists::{Items, Octets};
-use lnfs_outside::{Event, Moment};
 use lnfs_policy::Policy;
 use lnfs_requests::write_compound;
+use lnfs_types::{Event, Items, Moment, Octets};
 use std::alloc::{AllocError, Global};
 use std::collections::BTreeMap;
 

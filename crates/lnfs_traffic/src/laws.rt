@@ -1,6 +1,6 @@
 //! What the definitions of a recording's parts mean.
 ghost use Rattle.std.specs.Prelude.{◌≡◌, ◌≤◌, ◌↔◌, ◌++◌, List, ℕ, true, take, length};
-ghost use Rattle.lnfs_outside.specs.declared.event.Event.{Event};
+ghost use Rattle.lnfs_types.specs.declared.event.Event.{Event};
 ghost use Rattle.lnfs_traffic.specs.Parts.{begins, is_recording, place_of, recorded};
 ghost use Rattle.lnfs_traffic.specs.Recording.{IsRecording};
 

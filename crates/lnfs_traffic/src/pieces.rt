@@ -1,13 +1,13 @@
 //! Reading a recording that comes in pieces.
 ghost use Rattle.std.specs.Prelude.{◌≡◌, ◌++◌, ◌<◌, ◌≤◌, [], List, ℕ, IfOk, OnOk, OnErr, MatchResult, drop, length};
-ghost use Rattle.lnfs_outside.specs.declared.event.Event.{Event};
+ghost use Rattle.lnfs_types.specs.declared.event.Event.{Event};
 ghost use Rattle.lnfs_traffic.specs.declared.error.TrafficError.TheVariants.{Damaged};
 ghost use Rattle.lnfs_traffic.specs.Pieces.{Finds, Finishes, IsNext, Reads, fed_to, stage};
 ghost use Rattle.lnfs_traffic.specs.Stages.{Whole};
 
 use crate::error::TrafficError;
 use crate::events::{BEGINNING, Front, event_at};
-use lnfs_outside::Event;
+use lnfs_types::Event;
 use std::alloc::{AllocError, Global};
 use std::marker::Model;
 

@@ -6,7 +6,7 @@ ghost use Rattle.lnfs_traffic.specs.declared.error.TrafficError.TheVariants.{Mem
 
 use crate::error::TrafficError;
 use crate::events::{BEGINNING, next_event};
-use lnfs_outside::Event;
+use lnfs_types::Event;
 use std::alloc::{AllocError, Global};
 
 impl From<AllocError> for TrafficError {

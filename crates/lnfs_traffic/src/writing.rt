@@ -3,13 +3,14 @@ ghost use Rattle.std.specs.Prelude.{◌≡◌, ◌<◌, ◌^◌, ◌++◌, All, 
 ghost use Rattle.std.specs.List.{flat_map};
 ghost use Rattle.lnfs_outside.specs.Bytes.{Puts};
 ghost use Rattle.lnfs_outside.specs.Causes.{HasCause};
-ghost use Rattle.lnfs_outside.specs.Moments.{Fits};
+ghost use Rattle.lnfs_types.specs.Moments.{Fits};
 ghost use Rattle.lnfs_traffic.specs.Recording.{event as an_event, IsRecording};
 ghost use Rattle.lnfs_xdr.specs.Format.{Spells};
 ghost use Rattle.lnfs_traffic.specs.Texts.{event_text, recording_text};
 
 use crate::events::BEGINNING;
-use lnfs_outside::{Event, Failed, Sink, put_all};
+use lnfs_outside::{Failed, Sink, put_all};
+use lnfs_types::Event;
 use std::alloc::{AllocError, Global};
 
 /// Says that two words are, and does nothing.

@@ -4,7 +4,7 @@ use Rattle.std.specs.Prelude.{Result, nat_le}
 use Rattle.std.specs.Option.{option_map}
 use Rattle.std.proofs.lemmas.Bool.Decides.{nat_tests}
 use Rattle.lnfs_calipso.specs.declared.Level.{Level}
-use Rattle.lnfs_outside.specs.declared.event.Moment.{Moment}
+use Rattle.lnfs_types.specs.declared.event.Moment.{Moment}
 use Rattle.lnfs_world.specs.Rows.{updated}
 use Rattle.lnfs_world.specs.World.{Id, Kind, File, Directory, SymbolicLink, Node as NodeRow, same_id}
 use Rattle.lnfs_world.specs.World as world

@@ -1,7 +1,7 @@
 -- What each change of a tree does to its rows, what it answers, and when it is refused. A refusal leaves the rows.
 use Rattle.std.specs.Prelude.{◌≡◌, ℕ, ◌&&◌, nat_le, Bool, not, cond, List, [], ◌∷◌, ◌++◌, length, Option, Some, None, option_map, Result, Ok, Err, is_some, nat_lt, if◌then◌else◌}
 use Rattle.lnfs_words.specs.Words.{is_empty}
-use Rattle.lnfs_outside.specs.declared.event.Moment.{Moment}
+use Rattle.lnfs_types.specs.declared.event.Moment.{Moment}
 use Rattle.lnfs_world.specs.declared.numbers.TheConstants.{FIRST_COOKIE, MOST_NAMES}
 use Rattle.lnfs_world.specs.World.{Id, Kind, Stored as StoredLabel, Inner, Node, Entry as NameRow, same_id, node_at, label_at, is_directory}
 use Rattle.lnfs_world.specs.Names.{entry_at, names_of, size_of}
@@ -16,7 +16,8 @@ use Rattle.lnfs_tree.specs.declared.node.Info.{Info}
 use Rattle.lnfs_tree.specs.declared.node.Dropped.{Dropped}
 use Rattle.lnfs_tree.specs.declared.node.TreeError.{TreeError}
 use Rattle.lnfs_tree.specs.declared.node.TreeError.TheVariants.{Stale, NotDir, NoEnt, IsDir, Exist, NotEmpty, Inval, MLink, FBig, Spent, Memory}
-use Rattle.lnfs_tree.specs.Rows.{Rows, rows_of, id_of, kind_of, stored_of, in_directory, on_file}
+use Rattle.lnfs_tree.specs.Rows.{Rows, rows_of, id_of, kind_of, in_directory, on_file}
+use Rattle.lnfs_world.specs.Given.{stored_of}
 use Rattle.lnfs_tree.specs.Flat.{content_of}
 use Rattle.lnfs_tree.specs.Places.{world_of}
 

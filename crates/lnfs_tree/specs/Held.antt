@@ -3,7 +3,7 @@ use Rattle.std.specs.Prelude.{◌≡◌, ◌<◌, ◌+◌, ◌-◌, not, cond, n
 use Rattle.std.specs.List.{AllByRecursion, find, filter}
 use Rattle.std.specs.declared.cmp.Ordering.{Ordering}
 use Rattle.slab.specs.Slab.{Slab, get}
-use Rattle.lnfs_outside.specs.declared.event.Moment.{Moment}
+use Rattle.lnfs_types.specs.declared.event.Moment.{Moment}
 use Rattle.lnfs_world.specs.Rows.{inserted, updated}
 use Rattle.lnfs_world.specs.World.{Id, id_order, same_id, is_directory}
 use Rattle.lnfs_world.specs.Effects.{stepped, sized, written}

@@ -6,10 +6,10 @@ ghost use Rattle.lnfs_world.specs.Rows.{updated};
 ghost use Rattle.lnfs_tree.specs.Rows.{id_of};
 
 use crate::node::{NodeId, NodeKind, TreeError};
-use crate::store::{Node, Store, node_mut};
+use crate::store::{Node, NodeStore, node_mut};
 use crate::tree::Tree;
 use lnfs_content::Content;
-use lnfs_outside::Moment;
+use lnfs_types::Moment;
 use lnfs_world::numbers::MOST_FILE;
 use std::alloc::{AllocError, Global};
 
@@ -43,7 +43,7 @@ impl Node {
     }
 }
 
-impl Store {
+impl NodeStore {
     ghost use Rattle.lnfs_tree.specs.Held.{is_node, node_at, file_in, with_size, with_written};
 
     /// The node of a file.

@@ -16,5 +16,5 @@ mod store;
 mod tree;
 mod tying;
 
-pub use node::{DirSpec, Dropped, Entry, Facts, Fresh, Info, NodeId, NodeKind, Stored, TreeError};
+pub use node::{Dropped, Entry, Facts, Fresh, Info, NodeId, NodeKind, TreeError};
 pub use tree::Tree;

@@ -1,6 +1,6 @@
 -- What the vault keeps is the state after its journal.
 use Rattle.std.proofs.Common.{◌≡◌, ℕ, List, [], map, sym, ap, ◌∙◌, subst}
-use Rattle.lnfs_outside.specs.declared.event.Event.{Event}
+use Rattle.lnfs_types.specs.declared.event.Event.{Event}
 use Rattle.lnfs_policy.specs.Policy.{Policy, dominance}
 use Rattle.std.specs.List.{AllByRecursion}
 use Rattle.lnfs_world.specs.World.{World}

@@ -1,6 +1,6 @@
 -- What an event that is answered again is to who served it.
 use Rattle.std.proofs.Common.{◌≡◌, ◌+◌, ℕ, List, [], ◌∷◌, ◌++◌, length, Option, Some, None, refl, ◌∙◌}
-use Rattle.lnfs_outside.specs.declared.event.Event.{Event}
+use Rattle.lnfs_types.specs.declared.event.Event.{Event}
 use Rattle.lnfs_operations.specs.Extra.{Extra}
 use Rattle.lnfs_gss3.specs.Mechanism.{Signing}
 use Rattle.lnfs_step.specs.Request.{Call}

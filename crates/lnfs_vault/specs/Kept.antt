@@ -1,6 +1,6 @@
 -- What a vault is to its callers.
 use Rattle.std.specs.Prelude.{Bool, List}
-use Rattle.lnfs_outside.specs.declared.event.Event.{Event}
+use Rattle.lnfs_types.specs.declared.event.Event.{Event}
 use Rattle.lnfs_policy.specs.Policy.{Policy}
 
 -- its policy, the events that it was given, and whether want of memory has stopped it

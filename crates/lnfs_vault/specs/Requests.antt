@@ -12,8 +12,8 @@ use Rattle.lnfs_step.specs.Request as request
 use Rattle.lnfs_step.specs.Request.{Request}
 use Rattle.lnfs_step.specs.Wrapping as wrapping
 use Rattle.lnfs_step.specs.Wrapping.{verifier_in}
-use Rattle.lnfs_vault.specs.declared.request.Asked as code
-use Rattle.lnfs_vault.specs.declared.request.Asked.TheVariants as asked
+use Rattle.lnfs_vault.specs.declared.request.Request as code
+use Rattle.lnfs_vault.specs.declared.request.Request.TheVariants as asked
 use Rattle.lnfs_vault.specs.declared.request.Task as task_code
 use Rattle.lnfs_vault.specs.declared.request.Task.TheVariants as task
 use Rattle.lnfs_vault.specs.declared.request.Call as call_code
@@ -44,7 +44,7 @@ seen_task (task.Run r) = request.Run r.arguments.now r.compound
 seen_task (task.MakeContext c) = request.MakeContext c.parent (record { lfs = c.lfs; pi = c.pi; label = c.label })
 seen_task (task.EndContext c) = request.EndContext c.number
 
-abbrev pub seen_asked : code.Asked → Request
+abbrev pub seen_asked : code.Request → Request
 seen_asked asked.Silent = request.Silent
 seen_asked (asked.Refused xid w c) = request.Refused xid (seen_wrapping w) (seen_cause c)
 seen_asked (asked.Nothing xid) = request.Nothing xid
@@ -75,7 +75,7 @@ HasForm call (task.Run r) = length r.compound.ops ≤ 32
 HasForm call (task.EndContext c) = call.context ≡ Some c
 HasForm call _ = Unit {0}
 
-abbrev pub IsFormed : code.Asked → Type 0
+abbrev pub IsFormed : code.Request → Type 0
 IsFormed (asked.Asked call t) = HasForm call t
 IsFormed _ = Unit {0}
 

@@ -3,7 +3,7 @@ ghost use Rattle.std.specs.Prelude.{◌≡◌, IfOk};
 ghost use Rattle.lnfs_step.specs.Journal.{line_text};
 ghost use Rattle.lnfs_vault.specs.Lines.{line_in};
 
-use lnfs_lists::Octets;
+use lnfs_types::Octets;
 use std::alloc::{AllocError, Global};
 
 /// One thing that was refused.

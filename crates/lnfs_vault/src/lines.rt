@@ -8,9 +8,9 @@ ghost use Rattle.lnfs_vault.specs.Requests.{seen_cause};
 use crate::audit::AuditLine;
 use crate::request::Cause;
 use lnfs_engine::Denial;
-use lnfs_lists::Octets;
 use lnfs_monitor::Rule;
 use lnfs_operations::Gate;
+use lnfs_types::Octets;
 use std::alloc::{AllocError, Global};
 
 /// The letter and the status of the line of a call that is refused as a whole.

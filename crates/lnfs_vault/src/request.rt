@@ -11,10 +11,10 @@ use lnfs_calipso::Level;
 use lnfs_format::Codecs;
 use lnfs_gss3::numbers::AUTH_BADCRED;
 use lnfs_gss3::{Caller, Mechanism, body, who};
-use lnfs_lists::Octets;
 use lnfs_policy::{Parent, Policy};
 use lnfs_rpc::{CallError, read_call};
 use lnfs_step::numbers::GARBAGE_ARGS;
+use lnfs_types::Octets;
 use std::alloc::{AllocError, Global};
 
 /// What refuses a call as a whole.
@@ -60,7 +60,7 @@ pub struct Call<'a> {
 
 /// A COMPOUND with the bytes of its arguments.
 #[derive(Debug, Drop)]
-pub struct Run<'a> {
+pub struct CompoundCall<'a> {
     pub arguments: &'a [u8],
     pub compound: Compound<'a>,
 }
@@ -79,7 +79,7 @@ pub struct NewContext {
 pub enum Task<'a> {
     /// Nothing that can be read.
     Garbled,
-    Run(Run<'a>),
+    Run(CompoundCall<'a>),
     MakeContext(NewContext),
     /// The end of the context that the call comes in.
     EndContext(InContext),
@@ -87,7 +87,7 @@ pub enum Task<'a> {
 
 /// What a record asks.
 #[derive(Debug, Drop)]
-pub enum Asked<'a> {
+pub enum Request<'a> {
     /// Nothing: it is no call, and no reply is due.
     Silent,
     /// A call without a level, which is refused as a whole.
@@ -123,14 +123,14 @@ fn wrapping_of<'a>(
 }
 
 /// NULL has no arguments.
-fn null_call<'a>(xid: u32, args: &[u8]) -> Asked<'a>
+fn null_call<'a>(xid: u32, args: &[u8]) -> Request<'a>
     ensures asked { seen_asked result ≡ null_call xid args.now }
     ensures form { IsFormed result }
 {
     if args.is_empty() {
-        Asked::Nothing { xid }
+        Request::Nothing { xid }
     } else {
-        Asked::Refused {
+        Request::Refused {
             xid,
             wrapping: Wrapping::Plain,
             cause: Cause::Called { stat: GARBAGE_ARGS },
@@ -148,7 +148,7 @@ fn run_of<'a, E: ExtraGrammar>(
     ensures few { IfOk result IsBrief }
 {
     match read_compound(alloc, arguments, extra) {
-        Ok(compound) => Ok(Task::Run(Run {
+        Ok(compound) => Ok(Task::Run(CompoundCall {
             arguments,
             compound,
         })),
@@ -183,24 +183,24 @@ fn asked_by<'a, E: ExtraGrammar>(
     extra: &E,
     call: &lnfs_rpc::Call<'a>,
     caller: Caller,
-) -> Result<Asked<'a>, AllocError>
+) -> Result<Request<'a>, AllocError>
     ensures asked { IfOk result (λ asked. seen_asked asked ≡ asked_by E.grammar policy.now (seen_call call.now) caller) }
     ensures form { IfOk result IsFormed }
 {
     let xid = call.xid;
     let asked = match caller {
         Caller::Null => null_call(xid, call.args),
-        Caller::Nobody { auth } => Asked::Refused {
+        Caller::Nobody { auth } => Request::Refused {
             xid,
             wrapping: Wrapping::Plain,
             cause: Cause::Caller { stat: auth },
         },
-        Caller::Garbage { parent, seq } => Asked::Refused {
+        Caller::Garbage { parent, seq } => Request::Refused {
             xid,
             wrapping: wrapping_of(policy, call, parent, seq),
             cause: Cause::Called { stat: GARBAGE_ARGS },
         },
-        Caller::Guest { level } => Asked::Asked(
+        Caller::Guest { level } => Request::Asked(
             Call {
                 level,
                 xid,
@@ -216,7 +216,7 @@ fn asked_by<'a, E: ExtraGrammar>(
             lfs,
             pi,
             label,
-        } => Asked::Asked(
+        } => Request::Asked(
             Call {
                 level,
                 xid,
@@ -236,7 +236,7 @@ fn asked_by<'a, E: ExtraGrammar>(
             number,
             seq,
             aligned,
-        } => Asked::Asked(
+        } => Request::Asked(
             Call {
                 level,
                 xid,
@@ -250,7 +250,7 @@ fn asked_by<'a, E: ExtraGrammar>(
             level,
             parent,
             number,
-        } => Asked::Asked(
+        } => Request::Asked(
             Call {
                 level,
                 xid,
@@ -264,17 +264,17 @@ fn asked_by<'a, E: ExtraGrammar>(
 }
 
 /// The refusal of a record that is no call that is served.
-fn refused<'a, E: ExtraGrammar>(error: CallError) -> Asked<'a>
+fn refused<'a, E: ExtraGrammar>(error: CallError) -> Request<'a>
     ensures asked { (m : Signing) (policy : Policy) (class : ℕ) → seen_asked result ≡ asked_of E.grammar m policy class (Err error) }
     ensures form { IsFormed result }
 {
     let (xid, cause) = match error {
-        CallError::NotACall => return Asked::Silent,
+        CallError::NotACall => return Request::Silent,
         CallError::BadHeader { xid } => (xid, Cause::Caller { stat: AUTH_BADCRED }),
         CallError::BadVersion { xid } => (xid, Cause::Version),
         CallError::BadProgram { xid, stat } => (xid, Cause::Called { stat }),
     };
-    Asked::Refused {
+    Request::Refused {
         xid,
         wrapping: Wrapping::Plain,
         cause,
@@ -291,7 +291,7 @@ fn read_request<'a, E: ExtraGrammar, M: Mechanism>(
     extra: &E,
     class: u32,
     message: &'a [u8],
-) -> Result<Asked<'a>, AllocError>
+) -> Result<Request<'a>, AllocError>
     ensures asked { IfOk result (λ asked. seen_asked asked ≡ request_with E.grammar M.signing policy.now class message.now) }
     ensures form { IfOk result IsFormed }
 {
@@ -315,7 +315,7 @@ pub fn request_of<'a, E: ExtraGrammar, M: Mechanism>(
     extra: &E,
     class: u32,
     message: &'a [u8],
-) -> Result<Asked<'a>, AllocError>
+) -> Result<Request<'a>, AllocError>
     ensures asked { IfOk result (λ asked. seen_asked asked ≡ request_with E.grammar M.signing policy.now class message.now) }
     ensures read { IfOk result (λ asked. IsAsked (seen_asked asked)) }
     ensures form { IfOk result IsFormed }

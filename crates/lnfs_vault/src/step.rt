@@ -1,7 +1,7 @@
 //! The step that an event makes: its reply and its audit line.
 ghost use Rattle.std.specs.Prelude.{◌≡◌, ◌≤◌, Some, None, true, length, IfOk};
-ghost use Rattle.lnfs_outside.specs.Moments.{Fits};
-ghost use Rattle.lnfs_outside.specs.declared.event.Event.{Event as any_event};
+ghost use Rattle.lnfs_types.specs.Moments.{Fits};
+ghost use Rattle.lnfs_types.specs.declared.event.Event.{Event as any_event};
 ghost use Rattle.lnfs_format.specs.declared.formats.TheConstants.{MAX_SPELLING};
 ghost use Rattle.lnfs_policy.specs.Policy.{Policy as any_policy, dominance};
 ghost use Rattle.lnfs_world.specs.Outcome.{begins_at};
@@ -19,17 +19,18 @@ ghost use Rattle.lnfs_vault.specs.Says.{Says};
 
 use crate::audit::AuditLine;
 use crate::lines::{line_of, line_of_cause};
-use crate::request::{Asked, Call, Cause, InContext, NewContext, Run, Task, Wrapping, request_of};
+use crate::request::{
+    Call, Cause, CompoundCall, InContext, NewContext, Request, Task, Wrapping, request_of,
+};
 use crate::wrapping::{bare, begin_results, end_results, refusal};
 use lnfs_engine::{Engine, Extra, Store, room_of};
 use lnfs_format::Codecs;
 use lnfs_gss3::numbers::RPCSEC_GSS_CTXPROBLEM;
 use lnfs_gss3::{ContextError, ContextHandle, Mechanism, put_create_results};
-use lnfs_lists::Octets;
 use lnfs_operations::numbers::MOST_SIZE;
-use lnfs_outside::Event;
 use lnfs_site::Site;
 use lnfs_step::numbers::{GARBAGE_ARGS, SYSTEM_ERR};
+use lnfs_types::{Event, Octets};
 use std::alloc::{AllocError, Global};
 
 /// What a step says, before its event is in the journal.
@@ -41,7 +42,7 @@ pub struct Said {
 
 /// An event, and the place in the journal that it gets.
 #[derive(Clone, Copy)]
-pub struct Arrival<'a> {
+pub struct JournaledEvent<'a> {
     pub at: u64,
     pub event: &'a Event,
 }
@@ -83,9 +84,9 @@ fn run<X: Extra, M: Mechanism>(
     site: &Site<'_>,
     mechanism: &M,
     engine: &mut Engine<X>,
-    arrival: Arrival<'_>,
+    arrival: JournaledEvent<'_>,
     call: &Call<'_>,
-    run: &Run<'_>,
+    run: &CompoundCall<'_>,
 ) -> Result<Said, AllocError>
     requires event { Fits arrival.event.now }
     requires read { IsRead run.now.compound }
@@ -198,7 +199,7 @@ fn answer<X: Extra, M: Mechanism>(
     site: &Site<'_>,
     mechanism: &M,
     engine: &mut Engine<X>,
-    arrival: Arrival<'_>,
+    arrival: JournaledEvent<'_>,
     call: &Call<'_>,
     task: &Task<'_>,
 ) -> Result<Said, AllocError>
@@ -210,7 +211,7 @@ fn answer<X: Extra, M: Mechanism>(
     ensures { IfOk result (λ said.
         Says arrival.entry.at (both engine.new.store (X.rows engine.new.extra)) (step_of X.extra M.signing site.now (both engine.old.store (X.rows engine.old.extra)) arrival.entry.event.now (asked (seen_call call.now) (seen_task task.now))) said) }
 {
-    let Arrival { at, .. } = arrival;
+    let JournaledEvent { at, .. } = arrival;
     if !is_there(&engine.store, call) {
         let cause = Cause::Caller {
             stat: RPCSEC_GSS_CTXPROBLEM,
@@ -236,7 +237,7 @@ pub fn say<X: Extra, M: Mechanism>(
     codecs: &Codecs,
     mechanism: &M,
     engine: &mut Engine<X>,
-    arrival: Arrival<'_>,
+    arrival: JournaledEvent<'_>,
 ) -> Result<Said, AllocError>
     requires event { Fits arrival.event.now }
     requires holds { Holds X.extra site.now (both engine.old.store (X.rows engine.old.extra)) }
@@ -253,16 +254,16 @@ pub fn say<X: Extra, M: Mechanism>(
         arrival.event.class,
         arrival.event.message.as_slice(),
     )? {
-        Asked::Silent => Ok(Said {
+        Request::Silent => Ok(Said {
             reply: None,
             line: None,
         }),
-        Asked::Refused {
+        Request::Refused {
             xid,
             wrapping,
             cause,
         } => refuse(alloc, mechanism, arrival.at, xid, &wrapping, cause),
-        Asked::Nothing { xid } => nothing(alloc, mechanism, xid),
-        Asked::Asked(call, task) => answer(alloc, site, mechanism, engine, arrival, &call, &task),
+        Request::Nothing { xid } => nothing(alloc, mechanism, xid),
+        Request::Asked(call, task) => answer(alloc, site, mechanism, engine, arrival, &call, &task),
     }
 }

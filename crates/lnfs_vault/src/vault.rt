@@ -1,7 +1,7 @@
 //! The vault.
 ghost use Rattle.std.specs.Prelude.{◌≡◌, ◌+◌, ◌<◌, ◌≤◌, ℕ, List, [], ◌∷◌, ◌++◌, Some, true, false, length, IfOk, IfSome, OnOk, OnErr, IsErr};
-ghost use Rattle.lnfs_lists.specs.declared.limits.TheConstants.{RECORD_LIMIT};
-ghost use Rattle.lnfs_outside.specs.Moments.{Fits};
+ghost use Rattle.lnfs_types.specs.declared.limits.TheConstants.{RECORD_LIMIT};
+ghost use Rattle.lnfs_types.specs.Moments.{Fits};
 ghost use Rattle.lnfs_policy.specs.Policy.{dominance};
 ghost use Rattle.lnfs_arguments.specs.declared.types.Compound.{Compound};
 ghost use Rattle.lnfs_arguments.specs.declared.types.CreateSession.{CreateSession};
@@ -24,16 +24,15 @@ ghost use Rattle.lnfs_vault.specs.Retried.{IsRetried};
 ghost use Rattle.lnfs_vault.specs.Says.{SaysServed};
 
 use crate::audit::AuditLine;
-use crate::step::{Arrival, say};
+use crate::step::{JournaledEvent, say};
 use lnfs_calipso::Level;
-use lnfs_engine::{Engine, Extra, NoExtra};
+use lnfs_engine::{Engine, Extra, NoExtra, first_tree};
 use lnfs_format::Codecs;
 use lnfs_gss3::Mechanism;
-use lnfs_lists::Octets;
-use lnfs_outside::Event;
 use lnfs_policy::Policy;
-use lnfs_site::{Labels, Site, first_tree};
+use lnfs_site::{Labels, Site};
 use lnfs_step::{purge, sessions};
+use lnfs_types::{Event, Octets};
 use std::alloc::{AllocError, Global};
 use std::marker::Model;
 
@@ -77,7 +76,7 @@ fn attempt<X: Extra, M: Mechanism>(
 {
     journal.reserve(1)?;
     let at = journal.len() as u64 + 1;
-    let arrival = Arrival { at, event: &event };
+    let arrival = JournaledEvent { at, event: &event };
     let said = say(alloc, site, codecs, mechanism, engine, arrival)?;
     journal.push(event)?;
     Ok(Served {

@@ -9,9 +9,9 @@ ghost use Rattle.lnfs_vault.specs.Requests.{seen_wrapping, seen_cause, verifier_
 use crate::request::{Cause, Wrapping};
 use lnfs_gss3::numbers::SIGNATURE;
 use lnfs_gss3::{Mechanism, append_signed, begin_databody, reply_mic};
-use lnfs_lists::Octets;
 use lnfs_rpc::{Auth, Head, NFS_VERSION, PROG_MISMATCH, begin_reply, write_reply};
 use lnfs_step::numbers::SUCCESS;
+use lnfs_types::Octets;
 use lnfs_xdr::{AUTH_NONE, RPCSEC_GSS, XdrWriter};
 use std::alloc::{AllocError, Global};
 

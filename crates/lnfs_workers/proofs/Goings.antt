@@ -7,7 +7,7 @@ use Rattle.lnfs_outside.specs.Bytes.{AppendsPart}
 use Rattle.lnfs_rpc.specs.Formats.{whole_record}
 use Rattle.lnfs_rpc.specs.CallGrammar.{Begins}
 use Rattle.lnfs_rpc.specs.Records.{Stream, IsPartial}
-use Rattle.lnfs_outside.specs.declared.event.Moment.{Moment}
+use Rattle.lnfs_types.specs.declared.event.Moment.{Moment}
 use Rattle.lnfs_history.specs.declared.entry.Entry.{Entry}
 use Rattle.lnfs_history.specs.Entries.{Part}
 use Rattle.lnfs_workers.specs.Transcripts.{messages, framed, transcript}

@@ -1,7 +1,7 @@
 -- Links with their places, dealt to workers and served.
 use Rattle.std.proofs.Common.{◌≡◌, ◌∙◌, [], ℕ, List, Some, ap, sym, subst, arith, length}
 use Rattle.std.specs.Prelude.{slice_get}
-use Rattle.lnfs_outside.specs.declared.event.Moment.{Moment}
+use Rattle.lnfs_types.specs.declared.event.Moment.{Moment}
 use Rattle.lnfs_history.specs.Entries.{part}
 use Rattle.lnfs_workers.specs.Served.{Tells}
 use Rattle.lnfs_workers.specs.Links.{IsServed, IsDone, Comes, Waits}

@@ -1,6 +1,6 @@
 -- The audit lines of a journal.
 use Rattle.std.specs.Prelude.{ℕ, ◌+◌, List, [], ◌∷◌, ◌++◌, length, Option, Some, None}
-use Rattle.lnfs_outside.specs.declared.event.Event.{Event}
+use Rattle.lnfs_types.specs.declared.event.Event.{Event}
 use Rattle.lnfs_policy.specs.Policy.{Policy}
 use Rattle.lnfs_operations.specs.Extra.{Extra}
 use Rattle.lnfs_gss3.specs.Mechanism.{Signing}

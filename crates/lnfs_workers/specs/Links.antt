@@ -1,6 +1,6 @@
 -- Links and their ends.
 use Rattle.std.specs.Prelude.{◌≡◌, ◌≤◌, ℕ, List, [], length, Some, slice_get}
-use Rattle.lnfs_outside.specs.declared.event.Moment.{Moment}
+use Rattle.lnfs_types.specs.declared.event.Moment.{Moment}
 use Rattle.lnfs_history.specs.declared.entry.Entry.{Entry}
 use Rattle.lnfs_history.specs.Entries.{part}
 use Rattle.lnfs_workers.specs.Served.{Tells, Service, AreOf}

@@ -4,7 +4,7 @@ use Rattle.std.specs.List.{AllByRecursion}
 use Rattle.std.specs.Io.KnownBytes.{Appends, Consumes, IsAtEnd}
 use Rattle.lnfs_outside.specs.Causes.{Rose}
 use Rattle.lnfs_outside.specs.Nets.{Back}
-use Rattle.lnfs_outside.specs.declared.event.Moment.{Moment}
+use Rattle.lnfs_types.specs.declared.event.Moment.{Moment}
 use Rattle.lnfs_rpc.specs.Records.{Stream, IsPartial, IsTooLong}
 use Rattle.lnfs_history.specs.declared.entry.Entry.{Entry}
 use Rattle.lnfs_workers.specs.Transcripts.{messages, framed, transcript}

@@ -1,7 +1,7 @@
 -- What the calls of one turn at a link come to.
 use Rattle.std.specs.Prelude.{◌≡◌, ◌<◌, ◌≤◌, ℕ, List, [], ◌++◌, length, Option, Some, None, Result, Ok, Err}
 use Rattle.std.specs.Io.KnownBytes.{Consumes, IsAtEnd}
-use Rattle.lnfs_lists.specs.declared.limits.TheConstants.{RECORD_LIMIT}
+use Rattle.lnfs_types.specs.declared.limits.TheConstants.{RECORD_LIMIT}
 use Rattle.lnfs_outside.specs.Causes.{Rose}
 use Rattle.lnfs_rpc.specs.Formats.{whole_record}
 use Rattle.lnfs_rpc.specs.CallGrammar.{Begins}

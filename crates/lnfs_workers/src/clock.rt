@@ -1,7 +1,8 @@
 //! The moments of a clock.
 ghost use Rattle.std.specs.Prelude.{◌≤◌, ◌<◌};
 
-use lnfs_outside::{Clock, Moment};
+use lnfs_outside::Clock;
+use lnfs_types::Moment;
 
 /// The moment of the call, within the bounds of an event's.
 pub fn moment_of<C: Clock>(clock: &C) -> Moment

@@ -2,18 +2,17 @@
 ghost use Rattle.std.specs.Prelude.{◌≡◌, ◌≤◌, ◌<◌, ◌++◌, ◌∷◌, ℕ, [], All, IfOk, IfSome, OnErr, length};
 ghost use Rattle.std.specs.Option.{option_to_list};
 ghost use Rattle.std.specs.Vec.{vec_len, vec_capacity};
-ghost use Rattle.lnfs_lists.specs.declared.limits.TheConstants.{RECORD_LIMIT};
+ghost use Rattle.lnfs_types.specs.declared.limits.TheConstants.{RECORD_LIMIT};
 ghost use Rattle.lnfs_history.specs.Entries.{of, entry, part};
-ghost use Rattle.lnfs_outside.specs.Moments.{Fits};
+ghost use Rattle.lnfs_types.specs.Moments.{Fits};
 ghost use Rattle.lnfs_workers.specs.Transcripts.{entries_of};
 ghost use Rattle.lnfs_workers.specs.Lines.{lines_in, lines_of};
 
 use lnfs_engine::Extra;
 use lnfs_format::Codecs;
 use lnfs_gss3::Mechanism;
-use lnfs_history::{History, Keeper, Place, Room};
-use lnfs_lists::Octets;
-use lnfs_outside::{Event, Moment};
+use lnfs_history::{History, LinkView, Recorder, Room};
+use lnfs_types::{Event, Moment, Octets};
 use lnfs_vault::{AuditLine, Served, VaultOf};
 use std::alloc::AllocError;
 use std::snapshot::Snapshot;
@@ -25,7 +24,7 @@ use std::sync::{Mutex, Wait};
 pub struct Desk<B: Room, M: Mechanism + Drop, X: Extra> {
     pub vault: VaultOf<M, X>,
     pub lines: Vec<AuditLine>,
-    pub keeper: Keeper<B>,
+    pub keeper: Recorder<B>,
     pub ghost site: { vault.policy ≡ B.policy },
     pub ghost told: { keeper.log ≡ entries_of X.extra M.signing B.policy vault.journal },
     pub ghost said: { lines_in lines.items ≡ lines_of X.extra M.signing B.policy vault.journal },
@@ -35,7 +34,7 @@ pub struct Desk<B: Room, M: Mechanism + Drop, X: Extra> {
 
 /// A record of a link, with the link's class and the moment when it is served.
 #[derive(Drop)]
-pub struct Arrival {
+pub struct LinkRecord {
     pub class: u32,
     pub moment: Moment,
     pub message: Octets,
@@ -58,9 +57,9 @@ impl<B: Room, M: Mechanism + Drop, X: Extra> Desk<B, M, X> {
         &mut self,
         codecs: &Codecs,
         history: &History<B>,
-        place: Place<B>,
-        arrival: Arrival,
-    ) -> (Place<B>, Result<Option<Octets>, AllocError>)
+        place: LinkView<B>,
+        arrival: LinkRecord,
+    ) -> (LinkView<B>, Result<Option<Octets>, AllocError>)
         requires short { length arrival.message ≤ RECORD_LIMIT }
         requires secs { arrival.moment.secs ≤ 9223372036854775807 }
         requires nanos { arrival.moment.nanos < 1000000000 }
@@ -71,7 +70,7 @@ impl<B: Room, M: Mechanism + Drop, X: Extra> Desk<B, M, X> {
         if self.lines.reserve(1).is_err() {
             return (place, Err(AllocError));
         }
-        let Arrival {
+        let LinkRecord {
             class,
             moment,
             message,
@@ -95,7 +94,7 @@ impl<B: Room, M: Mechanism + Drop, X: Extra> Desk<B, M, X> {
     }
 
     /// The place of a link has all of its entries.
-    pub fn learn(&mut self, history: &History<B>, place: Place<B>)
+    pub fn learn(&mut self, history: &History<B>, place: LinkView<B>)
         ensures vault { self.new.vault ≡ self.old.vault }
         ensures lines { self.new.lines ≡ self.old.lines }
         ensures whole { place.entries ≡ of place.link (entries_of X.extra M.signing B.policy self.old.vault.journal) }
@@ -119,9 +118,9 @@ pub fn serve_record<B: Room, M: Mechanism + Drop, X: Extra>(
     codecs: &Codecs,
     history: &History<B>,
     desk: &Mutex<Desk<B, M, X>>,
-    place: Place<B>,
-    arrival: Arrival,
-) -> (Place<B>, Result<Option<Octets>, AllocError>)
+    place: LinkView<B>,
+    arrival: LinkRecord,
+) -> (LinkView<B>, Result<Option<Octets>, AllocError>)
     requires short { length arrival.message ≤ RECORD_LIMIT }
     requires secs { arrival.moment.secs ≤ 9223372036854775807 }
     requires nanos { arrival.moment.nanos < 1000000000 }

@@ -3,7 +3,7 @@ ghost use Rattle.std.specs.Prelude.{◌≡◌};
 ghost use Rattle.lnfs_outside.specs.Calls.{next};
 
 /// What a worker passes before it serves a record.
-pub trait Gate {
+pub trait TurnGate {
     /// Returns where the worker may go on. Workers are numbered from 0, and each counts its calls
     /// from 1.
     fn pass(&self, worker: u32, turn: u64);
@@ -13,7 +13,7 @@ pub trait Gate {
 #[derive(Clone, Copy, Debug, Drop)]
 pub struct OpenGate;
 
-impl Gate for OpenGate {
+impl TurnGate for OpenGate {
     fn pass(&self, _worker: u32, _turn: u64) {}
 }
 
@@ -33,7 +33,7 @@ impl Turns {
     }
 
     /// Comes to the gate once more.
-    pub fn pass<G: Gate>(&mut self, gate: &G)
+    pub fn pass<G: TurnGate>(&mut self, gate: &G)
         ensures { self.new ≡ record { worker = self.old.worker; made = next self.old.made } }
     {
         self.made = self.made.saturating_add(1);

@@ -18,6 +18,6 @@ mod reading;
 mod writing;
 
 pub use ending::Ending;
-pub use gate::{Gate, OpenGate};
+pub use gate::{OpenGate, TurnGate};
 pub use line::LinkEnd;
 pub use pool::{Ended, serve_all};

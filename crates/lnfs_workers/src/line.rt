@@ -1,6 +1,6 @@
 //! Links before and after their service.
 use crate::ending::Ending;
-use lnfs_history::{Place, Room};
+use lnfs_history::{LinkView, Room};
 
 /// What is left of a link that was served.
 #[derive(Drop)]
@@ -18,12 +18,12 @@ pub struct LinkEnd<L> {
 pub struct Waiting<B: Room, L> {
     pub class: u32,
     pub link: L,
-    pub place: Place<B>,
+    pub place: LinkView<B>,
 }
 
 /// A link whose service has ended, with its place in the history.
 #[derive(Drop)]
 pub struct Done<B: Room, L> {
     pub end: LinkEnd<L>,
-    pub place: Place<B>,
+    pub place: LinkView<B>,
 }

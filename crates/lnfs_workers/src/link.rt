@@ -5,16 +5,16 @@ ghost use Rattle.lnfs_workers.specs.Links.{IsServed, IsDone};
 ghost use Rattle.lnfs_workers.specs.Pairs.{Each};
 
 use crate::clock::moment_of;
-use crate::desk::{Arrival, Desk, serve_record};
+use crate::desk::{Desk, LinkRecord, serve_record};
 use crate::ending::{BUDGET, Ending};
-use crate::gate::{Gate, Turns};
+use crate::gate::{TurnGate, Turns};
 use crate::line::{Done, LinkEnd, Waiting};
 use crate::reading::{next_record, read_on};
 use crate::writing::put_reply;
 use lnfs_engine::Extra;
 use lnfs_format::Codecs;
 use lnfs_gss3::Mechanism;
-use lnfs_history::{History, Place, Room};
+use lnfs_history::{History, LinkView, Room};
 use lnfs_outside::{Clock, Link};
 use lnfs_rpc::Deframer;
 use std::alloc::{AllocError, Global};
@@ -38,7 +38,7 @@ fn over<B: Room, L: Link + Drop>(
     mut link: L,
     ending: Ending,
     records: u32,
-    place: Place<B>,
+    place: LinkView<B>,
 ) -> Done<B, L>
     ensures end { result.end ≡ record { class = class; link = result.end.link; ending = ending; records = records } }
     ensures link { telling L.left L.taken L.read_faults L.write_faults result.end.link ≡ telling L.left L.taken L.read_faults L.write_faults link }
@@ -55,14 +55,22 @@ fn over<B: Room, L: Link + Drop>(
 }
 
 /// Serves a link to its end.
-fn serve_link<B: Room, M: Mechanism + Drop, X: Extra, C: Clock, G: Gate, L: Link + Drop, R: Wait>(
+fn serve_link<
+    B: Room,
+    M: Mechanism + Drop,
+    X: Extra,
+    C: Clock,
+    G: TurnGate,
+    L: Link + Drop,
+    R: Wait,
+>(
     rt: &R,
     codecs: &Codecs,
     shared: &Shared<'_, B, M, X, C, G>,
     turns: &mut Turns,
     class: u32,
     mut link: L,
-    mut place: Place<B>,
+    mut place: LinkView<B>,
 ) -> Done<B, L>
     requires { place.entries ≡ [] }
     ensures number { result.place.link ≡ place.link }
@@ -84,7 +92,7 @@ fn serve_link<B: Room, M: Mechanism + Drop, X: Extra, C: Clock, G: Gate, L: Link
         }
         turns.pass(shared.gate);
         let moment = moment_of(shared.clock);
-        let arrival = Arrival {
+        let arrival = LinkRecord {
             class,
             moment,
             message,
@@ -109,7 +117,7 @@ pub fn serve_links<
     M: Mechanism + Drop,
     X: Extra,
     C: Clock,
-    G: Gate,
+    G: TurnGate,
     L: Link + Drop,
     R: Wait,
 >(

@@ -2,7 +2,7 @@
 ghost use Rattle.std.specs.Prelude.{◌≡◌, ◌<◌, ◌≤◌, ℕ, [], Ok, IfOk, OnOk, All, length};
 ghost use denote.Param.Send.{IsSync};
 ghost use Rattle.lnfs_history.specs.Entries.{of, known, part};
-ghost use Rattle.lnfs_outside.specs.Moments.{Fits};
+ghost use Rattle.lnfs_types.specs.Moments.{Fits};
 ghost use Rattle.lnfs_workers.specs.Served.{telling};
 ghost use Rattle.lnfs_workers.specs.Links.{IsServed, IsDone, Comes, Waits};
 ghost use Rattle.lnfs_workers.specs.Dealt.{AllAt, Hand};
@@ -12,13 +12,13 @@ ghost use Rattle.lnfs_workers.specs.Lines.{lines_in, lines_of};
 
 use crate::deal::{deal, take_first, take_next};
 use crate::desk::Desk;
-use crate::gate::Gate;
+use crate::gate::TurnGate;
 use crate::line::{Done, LinkEnd, Waiting};
 use crate::link::{Shared, serve_links};
 use lnfs_engine::Extra;
 use lnfs_format::Codecs;
 use lnfs_gss3::Mechanism;
-use lnfs_history::{History, Keeper, Opened, Room};
+use lnfs_history::{History, Opened, Recorder, Room};
 use lnfs_outside::{Clock, Link};
 use lnfs_vault::{AuditLine, VaultOf};
 use std::alloc::{AllocError, Global};
@@ -41,7 +41,7 @@ pub struct Ended<M: Mechanism + Drop, X: Extra, L> {
 fn with_places<B: Room, L: Drop>(
     alloc: Global,
     history: &History<B>,
-    keeper: &mut Keeper<B>,
+    keeper: &mut Recorder<B>,
     links: Vec<(u32, L)>,
 ) -> Result<Vec<Waiting<B, L>>, AllocError>
     requires first { keeper.old.made ≡ 0 }
@@ -110,7 +110,7 @@ fn fan_out<
     M: Mechanism + Send + Drop,
     X: Extra + Send,
     C: Clock + Sync,
-    G: Gate + Sync,
+    G: TurnGate + Sync,
     L: Link + Send + Drop,
     R: Threads + Wait + Sync,
 >(
@@ -141,7 +141,7 @@ fn serve_hands<
     M: Mechanism + Send + Drop,
     X: Extra + Send,
     C: Clock + Sync,
-    G: Gate + Sync,
+    G: TurnGate + Sync,
     L: Link + Send + Drop,
     R: Threads + Wait + Sync,
 >(
@@ -198,7 +198,7 @@ fn settle<B: Room, M: Mechanism + Drop, X: Extra, C: Clock, L: Link + Drop>(
 fn open_desk<B: Room, M: Mechanism + Drop, X: Extra>(
     alloc: Global,
     vault: VaultOf<M, X>,
-    keeper: Keeper<B>,
+    keeper: Recorder<B>,
 ) -> Desk<B, M, X>
     requires journal { vault.journal ≡ [] }
     requires site { vault.policy ≡ B.policy }
@@ -216,7 +216,7 @@ fn open_desk<B: Room, M: Mechanism + Drop, X: Extra>(
 fn seated<B: Room, L: Drop>(
     alloc: Global,
     history: &History<B>,
-    keeper: &mut Keeper<B>,
+    keeper: &mut Recorder<B>,
     links: Vec<(u32, L)>,
     workers: u32,
 ) -> Result<VecDeque<VecDeque<Waiting<B, L>>>, AllocError>
@@ -237,7 +237,7 @@ fn serve_seated<
     M: Mechanism + Send + Drop,
     X: Extra + Send,
     C: Clock + Sync,
-    G: Gate + Sync,
+    G: TurnGate + Sync,
     L: Link + Send + Drop,
     R: Threads + Wait + Sync,
 >(
@@ -278,7 +278,7 @@ fn serve_named<
     M: Mechanism + Send + Drop,
     X: Extra + Send,
     C: Clock + Sync,
-    G: Gate + Sync,
+    G: TurnGate + Sync,
     L: Link + Send + Drop,
     R: Threads + Wait + Sync,
 >(
@@ -327,7 +327,7 @@ pub fn serve_all<
     M: Mechanism + Send + Drop,
     X: Extra + Send,
     C: Clock + Sync,
-    G: Gate + Sync,
+    G: TurnGate + Sync,
     L: Link + Send + Drop,
     R: Threads + Wait + Sync,
 >(

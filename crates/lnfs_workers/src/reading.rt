@@ -3,9 +3,9 @@ ghost use Rattle.std.specs.Prelude.{◌≡◌, ◌≤◌};
 ghost use Rattle.lnfs_workers.specs.Turns.{Cuts, ReadOn};
 
 use crate::ending::Ending;
-use lnfs_lists::Octets;
 use lnfs_outside::Link;
 use lnfs_rpc::{DeframeError, Deframer};
+use lnfs_types::Octets;
 
 /// The next record of what was read. None where it isn't whole yet; an error where the service ends.
 pub fn next_record(deframer: &mut Deframer) -> Result<Option<Octets>, Ending>

@@ -1,15 +1,15 @@
 //! Replies that go over a link.
 ghost use Rattle.std.specs.Prelude.{◌≡◌, ◌≤◌, OnOk, IfErr, IfSome, length};
 ghost use Rattle.std.specs.Io.KnownBytes.{Appends};
-ghost use Rattle.lnfs_lists.specs.declared.limits.TheConstants.{RECORD_LIMIT};
+ghost use Rattle.lnfs_types.specs.declared.limits.TheConstants.{RECORD_LIMIT};
 ghost use Rattle.lnfs_outside.specs.Bytes.{AppendsPart};
 ghost use Rattle.lnfs_workers.specs.Transcripts.{framed};
 ghost use Rattle.lnfs_workers.specs.Turns.{IsOfWriting};
 
 use crate::ending::Ending;
-use lnfs_lists::Octets;
 use lnfs_outside::{Link, put_all};
 use lnfs_rpc::frame;
+use lnfs_types::Octets;
 use std::alloc::Global;
 
 /// Writes the frame of a reply, where there is one.

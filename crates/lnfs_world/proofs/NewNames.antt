@@ -4,7 +4,7 @@ use Rattle.std.specs.Prelude.{◌==◌}
 use Rattle.std.specs.Option.{option_map}
 use Rattle.std.specs.List.{find, AllByRecursion}
 use Rattle.std.proofs.lemmas.Bool.Decides.{nat_tests}
-use Rattle.lnfs_outside.specs.declared.event.Moment.{Moment}
+use Rattle.lnfs_types.specs.declared.event.Moment.{Moment}
 use Rattle.lnfs_world.specs.World.{Id, Inner, Node, Entry, World, same_id, node_at, label_at, directory_at, is_directory, is_given}
 use Rattle.lnfs_world.specs.Names.{entry_at}
 use Rattle.lnfs_world.specs.Tree.{holds_names}

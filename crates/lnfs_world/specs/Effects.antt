@@ -1,7 +1,7 @@
 -- What the making, naming, moving and removing of nodes does to them, and the writing of files (RFC 8881 sections 5.8.1.4,
 -- 5.8.2.43, 5.8.2.45, 18.23.3, 18.30.3 and 18.32.3): change numbers and times step, cookies are given, gaps are zeros.
 use Rattle.std.specs.Prelude.{ℕ, ◌+◌, ◌-◌, Bool, not, ◌&&◌, ◌||◌, cond, List, [], ◌∷◌, ◌++◌, length, take, drop, replicate, filter, filter_map, min, max, nat_lt}
-use Rattle.lnfs_outside.specs.declared.event.Moment.{Moment}
+use Rattle.lnfs_types.specs.declared.event.Moment.{Moment}
 use Rattle.lnfs_world.specs.declared.numbers.TheConstants.{LAST_NUMBER, LAST_CHANGE, LAST_COOKIE}
 use Rattle.lnfs_world.specs.World.{Id, Inner, Node, Entry, same_id, label_at, is_directory, last_of}
 use Rattle.lnfs_world.specs.Tree.{has_other_name, holds_names}

@@ -15,3 +15,4 @@ pub mod Labels
 pub mod Lawful
 pub mod Both
 pub mod First
+pub mod Given

@@ -1,6 +1,6 @@
 -- What an operation answers and does, and what is proved of each operation.
 use Rattle.std.specs.Prelude.{◌≡◌, ℕ, Bool, true, false, ◌&&◌, ◌==◌, List, Option, Some, None}
-use Rattle.lnfs_outside.specs.declared.event.Moment.{Moment}
+use Rattle.lnfs_types.specs.declared.event.Moment.{Moment}
 use Rattle.lnfs_world.specs.World.{Id, Session, Stored, World, session_at}
 use Rattle.lnfs_world.specs.Erased.{erased}
 use Rattle.lnfs_world.specs.Change.{Change, apply_all}

@@ -7,5 +7,7 @@
 
 mod laws;
 pub mod numbers;
+mod stored;
 
 pub use laws::{changes, erasure, first, tree};
+pub use stored::{DirSpec, Stored};

@@ -219,6 +219,6 @@ returns-in_default c =
           c.on_nodes.ensures.performs;
       stands = IfOk-weaker c.on_nodes.result _ (λ (came : Came). Stands q after.sessions here)
           (λ came moved. subst (λ at. Stands at after.sessions here) (sym moved)
-              (stays p q.current q.saved sessions after.sessions here (ap (λ (w : World). w.sessions) c.store.view_is) c.requires.stands))
+          (stays p q.current q.saved sessions after.sessions here (ap (λ (w : World). w.sessions) c.store.view_is) c.requires.stands))
           c.on_nodes.ensures.moved;
     }

@@ -1,5 +1,5 @@
 use Rattle.std.proofs.Common.{◌≡◌, ◌∙◌, ap, ℕ, List, [], Option}
-use Rattle.lnfs_outside.specs.declared.event.Moment.{Moment}
+use Rattle.lnfs_types.specs.declared.event.Moment.{Moment}
 use Rattle.lnfs_world.specs.World.{Id, File, Stored, Node}
 use Rattle.lnfs_operations.specs.Create.{new_inner}
 use Rattle.lnfs_files.proofs.absent.fresh_file.Goals as goal

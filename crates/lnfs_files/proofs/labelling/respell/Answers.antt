@@ -6,7 +6,8 @@ use Rattle.lnfs_world.specs.Effects.{attributes_changed}
 use Rattle.lnfs_world.specs.Outcome.{Place, Outcome}
 use Rattle.lnfs_site.specs.Site.{site_of}
 use Rattle.lnfs_operations.specs.Chain.{Answer}
-use Rattle.lnfs_tree.specs.Rows.{id_of, stored_of}
+use Rattle.lnfs_tree.specs.Rows.{id_of}
+use Rattle.lnfs_world.specs.Given.{stored_of}
 use Rattle.lnfs_tree.specs.Changed.{ran}
 use Rattle.lnfs_tree.specs.Places.{world_of}
 use Rattle.lnfs_nodes.specs.Acts.{placed}

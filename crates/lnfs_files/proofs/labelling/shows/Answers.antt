@@ -1,7 +1,7 @@
 use Rattle.std.proofs.Common.{◌∙◌, ap}
 use Rattle.lnfs_world.specs.World.{Stored}
 use Rattle.lnfs_operations.specs.SetAttr.{same_spelling}
-use Rattle.lnfs_tree.specs.Rows.{stored_of}
+use Rattle.lnfs_world.specs.Given.{stored_of}
 use Rattle.lnfs_files.proofs.labelling.shows.Goals as goal
 
 pub returns : goal.returns

@@ -4,8 +4,8 @@ use Rattle.lnfs_world.specs.World.{Node}
 use Rattle.lnfs_world.specs.Outcome.{Place}
 use Rattle.lnfs_site.specs.Site.{site_of}
 use Rattle.lnfs_operations.specs.Shown.{label_shown}
-use Rattle.lnfs_tree.specs.Rows.{stored_of}
-use Rattle.lnfs_tree.specs.declared.node.Stored.{Stored}
+use Rattle.lnfs_world.specs.Given.{stored_of}
+use Rattle.lnfs_world.specs.declared.stored.Stored.{Stored}
 use Rattle.lnfs_nodes.specs.Trees.{Holds}
 use Rattle.lnfs_nodes.proofs.creating.copied_of.Goals as goal
 

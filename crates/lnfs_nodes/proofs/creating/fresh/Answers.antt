@@ -1,5 +1,5 @@
 use Rattle.std.proofs.Common.{◌≡◌, ◌∙◌, refl, ap, ℕ, List, [], Option, None}
-use Rattle.lnfs_outside.specs.declared.event.Moment.{Moment}
+use Rattle.lnfs_types.specs.declared.event.Moment.{Moment}
 use Rattle.lnfs_world.specs.World.{Id, Kind, Stored, Node}
 use Rattle.lnfs_operations.specs.Given.{level_or}
 use Rattle.lnfs_arguments.specs.declared.types.What.{What}

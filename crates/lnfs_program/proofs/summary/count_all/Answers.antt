@@ -2,7 +2,7 @@ use Rattle.std.proofs.Common.{◌+◌, [], ◌∷◌, ◌++◌, length, refl, sy
 use Rattle.std.proofs.lemmas.List.{length-append, append_assoc}
 use Rattle.std.specs.List.{AllByRecursion}
 use Rattle.sha2.specs.Hashers.{Holds256}
-use Rattle.lnfs_outside.specs.Moments.{Fits}
+use Rattle.lnfs_types.specs.Moments.{Fits}
 use Rattle.lnfs_step.specs.Journal.{answer, line_at}
 use Rattle.lnfs_vault.specs.Kept.{Kept}
 use Rattle.lnfs_program.specs.Summary.{one_of, count_after}

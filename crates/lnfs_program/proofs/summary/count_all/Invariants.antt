@@ -1,7 +1,7 @@
 use Rattle.std.proofs.Common.{◌≡◌, ◌++◌, [], length}
 use Rattle.std.specs.List.{AllByRecursion}
 use Rattle.sha2.specs.Hashers.{Holds256}
-use Rattle.lnfs_outside.specs.Moments.{Fits}
+use Rattle.lnfs_types.specs.Moments.{Fits}
 use Rattle.lnfs_step.specs.Journal.{answer, line_at}
 use Rattle.lnfs_program.specs.Summary.{count_after}
 use Rattle.lnfs_program.specs.Writes.{frames_after}

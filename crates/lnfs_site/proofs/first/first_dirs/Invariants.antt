@@ -1,5 +1,5 @@
 use Rattle.std.proofs.Common.{◌≡◌, ◌++◌, map, drop}
-use Rattle.lnfs_tree.specs.Rows.{dir_of}
+use Rattle.lnfs_world.specs.Given.{dir_of}
 use Rattle.lnfs_site.specs.Site.{first_dir}
 use Rattle.lnfs_site.proofs.first.first_dirs.Given as goal
 

@@ -1,4 +1,4 @@
-use Rattle.lnfs_tree.specs.Rows.{stored_of}
+use Rattle.lnfs_world.specs.Given.{stored_of}
 use Rattle.lnfs_site.specs.Site.{spelling}
 use Rattle.lnfs_site.proofs.Spelled.{one_more}
 use Rattle.lnfs_site.proofs.labels.written.Goals as goal

@@ -1,6 +1,6 @@
 use Rattle.std.proofs.Common.{◌≡◌, map}
 use Rattle.std.specs.List.{range_with_len}
-use Rattle.lnfs_tree.specs.Rows.{stored_of}
+use Rattle.lnfs_world.specs.Given.{stored_of}
 use Rattle.lnfs_site.specs.Site.{spelling}
 use Rattle.lnfs_site.proofs.labels.written.Given as goal
 

@@ -1,7 +1,7 @@
 use Rattle.std.proofs.Common.{◌≡◌, ◌∙◌, [], ℕ, List, ap, refl, sym, subst, arith, length}
 use Rattle.std.specs.Prelude.{All}
-use Rattle.lnfs_outside.specs.Moments.{Fits}
-use Rattle.lnfs_outside.specs.declared.event.Event.{Event}
+use Rattle.lnfs_types.specs.Moments.{Fits}
+use Rattle.lnfs_types.specs.declared.event.Event.{Event}
 use Rattle.lnfs_history.specs.Entries.{of}
 use Rattle.lnfs_vault.specs.Kept.{Kept}
 use Rattle.lnfs_workers.specs.Transcripts.{entries_of}

@@ -1,5 +1,5 @@
 use Rattle.std.proofs.Common.{◌≡◌, ◌≤◌, ℕ, List, length, sym, subst}
-use Rattle.lnfs_lists.specs.declared.limits.TheConstants.{RECORD_LIMIT}
+use Rattle.lnfs_types.specs.declared.limits.TheConstants.{RECORD_LIMIT}
 use Rattle.lnfs_rpc.specs.Formats.{whole_record}
 use Rattle.lnfs_rpc.specs.CallGrammar.{Begins}
 use Rattle.lnfs_workers.proofs.Records.{record_fits}

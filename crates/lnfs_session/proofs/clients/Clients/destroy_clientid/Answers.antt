@@ -3,7 +3,7 @@ use Rattle.std.specs.Prelude.{◌==◌}
 use Rattle.std.specs.List.{list_any}
 use Rattle.std.specs.Option.{option_map}
 use Rattle.std.proofs.lemmas.Bool.Decides.{nat_tests}
-use Rattle.lnfs_outside.specs.declared.event.Moment.{Moment}
+use Rattle.lnfs_types.specs.declared.event.Moment.{Moment}
 use Rattle.lnfs_world.specs.World.{Client, World, client_at}
 use Rattle.lnfs_world.specs.Change.{is_session_of, is_open_of}
 use Rattle.lnfs_world.specs.Outcome.{begins_at, done_to}

@@ -3,7 +3,7 @@ use Rattle.std.specs.Prelude.{IfSome}
 use Rattle.lnfs_calipso.specs.Label.{IsPreorderWithBottom}
 use Rattle.lnfs_policy.specs.Policy.{dominance}
 use Rattle.lnfs_world.specs.Both.{both}
-use Rattle.lnfs_lists.specs.declared.limits.TheConstants.{RECORD_LIMIT}
+use Rattle.lnfs_types.specs.declared.limits.TheConstants.{RECORD_LIMIT}
 use Rattle.lnfs_step.specs.Journal.{first_state, state_after, reply_with, line_with, answer_with}
 use Rattle.lnfs_step.proofs.Steps.{state_from-append}
 use Rattle.lnfs_world.specs.World as rows

@@ -1,8 +1,8 @@
 use Rattle.std.proofs.Common.{sym, ap, subst, ◌∙◌}
 use Rattle.std.specs.Prelude.{All}
 use Rattle.std.proofs.lemmas.List.Elements.{All-push}
-use Rattle.lnfs_outside.specs.Moments.{Fits}
-use Rattle.lnfs_outside.specs.declared.event.Event.{Event}
+use Rattle.lnfs_types.specs.Moments.{Fits}
+use Rattle.lnfs_types.specs.declared.event.Event.{Event}
 use Rattle.lnfs_workers.specs.Transcripts.{entries_of}
 use Rattle.lnfs_workers.specs.Lines.{lines_in, lines_of}
 use Rattle.lnfs_workers.proofs.Journals.{told_more, said_more}

@@ -1,0 +1,21 @@
+//! Records, sessions, nodes and files in recordings, as runs over files in memory answer them.
+#![tactic(auto)]
+
+#[cfg(test)]
+mod changing;
+#[cfg(test)]
+mod files;
+#[cfg(test)]
+mod pieces;
+#[cfg(test)]
+mod quotas;
+#[cfg(test)]
+mod reading;
+#[cfg(test)]
+mod records;
+#[cfg(test)]
+mod root;
+#[cfg(test)]
+mod sessions;
+#[cfg(test)]
+mod sharing;

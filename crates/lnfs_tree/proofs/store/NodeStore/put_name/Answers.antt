@@ -1,0 +1,26 @@
+use Rattle.std.proofs.Common.{◌<◌, ◌+◌, ◌∙◌, ap, refl, subst}
+use Rattle.std.specs.List.{AllByRecursion}
+use Rattle.lnfs_world.specs.Rows.{updated}
+use Rattle.lnfs_tree.specs.Rows.{id_of}
+use Rattle.lnfs_tree.specs.declared.store.Node.{Node}
+use Rattle.lnfs_tree.specs.Held.{with_put, is_node}
+use Rattle.lnfs_tree.proofs.Slots.{same_node, not_missing, kept}
+use Rattle.lnfs_tree.proofs.store.NodeStore.put_name.Goals as goal
+
+pub unreachable-requires : goal.unreachable-requires
+unreachable-requires c = not_missing c.args.id c.self.inside.slots c.self.inside.by_id.entries c.args.self.now c.requires.above.node c.self.view_is c.requires.above.found c.in_default.ensures.value
+
+pub put-requires : goal.put-requires
+put-requires c = record { above = subst (λ (n : Node). AllByRecursion (λ x. x.cookie < c.args.cookie) n.names) (same_node c.args.id c.self.inside.slots c.self.inside.by_id.entries c.args.self.now _ _ c.self.view_is c.requires.above.found c.in-Some.ensures.value) c.requires.above.above }
+
+pub invariant_of-self : goal.invariant_of-self
+invariant_of-self c = ((rw c.in-Some.is at c.node_mut.follows.holds _) (λ n. n) (ap (λ x. record c.in-Some.node.now { names = x }) c.in_err-put.ensures.err) refl).1
+
+pub invariant_of-self-2 : goal.invariant_of-self-2
+invariant_of-self-2 c = ((rw c.in-Some.is at c.node_mut.follows.holds _) (with_put c.args.cookie c.args.name.now c.args.child) (ap (λ x. record c.in-Some.node.now { cookies = c.args.cookie + 1; names = x }) c.in_ok-put.ensures.ok) refl).1
+
+pub returns-clause-ok : goal.returns-clause-ok
+returns-clause-ok c = ((rw c.in-Some.is at c.node_mut.follows.holds _) (with_put c.args.cookie c.args.name.now c.args.child) (ap (λ x. record c.in-Some.node.now { cookies = c.args.cookie + 1; names = x }) c.in_ok-put.ensures.ok) refl).0 ∙ ap (updated (is_node (id_of c.args.id)) (with_put c.args.cookie c.args.name.now c.args.child)) c.self.view_is
+
+pub returns-in_err-put-clause-err : goal.returns-in_err-put-clause-err
+returns-in_err-put-clause-err c = kept c.from_residual.result c.args.id c.self.inside.slots (c.node_mut.follows.lender (record c.in-Some.node.now { names = c.put.new.self })) c.self.inside.by_id.entries c.args.self.now c.self.view_is ((rw c.in-Some.is at c.node_mut.follows.holds _) (λ n. n) (ap (λ x. record c.in-Some.node.now { names = x }) c.in_err-put.ensures.err) refl).0

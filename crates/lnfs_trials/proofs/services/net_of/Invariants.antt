@@ -1,6 +1,0 @@
-use Rattle.std.proofs.Common.{All}
-use Rattle.lnfs_outside.specs.Deals.{IsUnused}
-use Rattle.lnfs_trials.proofs.services.net_of.Given as goal
-
-abbrev pub invariant-loop-peer : goal.invariant-loop-peer
-invariant-loop-peer l = All IsUnused l.deals.items
