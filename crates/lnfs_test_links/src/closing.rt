@@ -6,8 +6,9 @@ use lnfs_gss3::TestMechanism;
 use lnfs_outside::{Failed, Link, MemLink, Sink, Source};
 use lnfs_test_support::flaw::Flaw;
 use lnfs_test_support::services::sent;
-use lnfs_workers::{Ending, OpenGate};
+use lnfs_workers::{Ending, LinkEnd, OpenGate};
 use std::alloc::{AllocError, Global};
+use std::process::Abort;
 use std::sync::atomic::{AtomicU64, Ordering};
 
 /// A link that counts how often it is closed, and looks at its first read how many of all links were.
@@ -78,31 +79,49 @@ fn link_of<'a>(
     Ok((0, link))
 }
 
-/// One worker serves the links one after the other: at the first read of each all links before it were closed, each once.
+/// A link for each way to end: a read that fails, a write that fails, a record that is too long, one that is cut, and one that
+/// is whole.
+fn links_of<'a>(
+    alloc: Global,
+    all: &'a AtomicU64,
+    call: &[u8],
+) -> Result<Vec<(u32, Shut<'a>)>, AllocError> {
+    let mut links = Vec::new(alloc);
+    links.push(link_of(alloc, all, call, &[1], &[])?)?;
+    links.push(link_of(alloc, all, call, &[], &[1])?)?;
+    links.push(link_of(alloc, all, b"\x80\x02\x00\x01", &[], &[])?)?;
+    links.push(link_of(alloc, all, b"\x80", &[], &[])?)?;
+    links.push(link_of(alloc, all, call, &[], &[])?)?;
+    Ok(links)
+}
+
+/// How these end, in their order.
+static ENDINGS: [Ending; 5] = [
+    Ending::ReadFault,
+    Ending::WriteFault,
+    Ending::TooLong,
+    Ending::Cut,
+    Ending::Closed,
+];
+
+/// At the first read of each link all links before it were closed, each once.
+fn check_closed(rt: &impl Abort, ends: &[LinkEnd<Shut<'_>>]) {
+    assert_eq!(rt; ends.len(), ENDINGS.len(), "links");
+    for (i, (end, ending)) in ends.iter().zip(&ENDINGS).enumerate() {
+        assert!(rt; end.ending == *ending, "ending of {i}");
+        assert!(rt; end.link.seen == Some(i as u64), "links closed before {i}");
+        assert!(rt; end.link.closes == 1, "closes of {i}");
+    }
+}
+
+/// One worker serves the links one after the other.
 #[test]
 fn closed_at_once(rt: HostRuntime) -> Result<(), Flaw> {
     let alloc = rt.alloc();
-    let all = AtomicU64::new(0);
     let call = sent(alloc, "1 0 2 100003 4 0 0 0 0 0")?;
-    let mut links = Vec::new(alloc);
-    links.push(link_of(alloc, &all, &call, &[1], &[])?)?;
-    links.push(link_of(alloc, &all, &call, &[], &[1])?)?;
-    links.push(link_of(alloc, &all, b"\x80\x02\x00\x01", &[], &[])?)?;
-    links.push(link_of(alloc, &all, b"\x80", &[], &[])?)?;
-    links.push(link_of(alloc, &all, &call, &[], &[])?)?;
-    let due = [
-        Ending::ReadFault,
-        Ending::WriteFault,
-        Ending::TooLong,
-        Ending::Cut,
-        Ending::Closed,
-    ];
+    let all = AtomicU64::new(0);
+    let links = links_of(alloc, &all, &call)?;
     let served = serve(&rt, alloc, TestMechanism, &OpenGate, links, 1)?;
-    assert_eq!(rt; served.ends.len(), due.len(), "links");
-    for (i, (end, ending)) in served.ends.iter().zip(due).enumerate() {
-        assert_eq!(rt; end.ending, ending, "ending of {i}");
-        assert_eq!(rt; end.link.seen, Some(i as u64), "links closed before {i}");
-        assert_eq!(rt; end.link.closes, 1, "closes of {i}");
-    }
+    check_closed(&rt, &served.ends);
     Ok(())
 }
