@@ -1,6 +1,10 @@
-//! The purge law for a further operation with rows of its own, which shows that the form of further
-//! operations can be met.
+//! A further operation with rows of its own, served beside those of the table: recordings, and the purge law of it.
 #![tactic(auto)]
+
+#[cfg(test)]
+mod codecs;
+#[cfg(test)]
+mod holds;
 
 ghost use Rattle.std.specs.Prelude.{◌≡◌, List};
 ghost use Rattle.lnfs_calipso.specs.Label.{IsPreorderWithBottom};
@@ -10,24 +14,8 @@ ghost use Rattle.lnfs_step.specs.Journal.{reply_with, answer_with};
 ghost use Rattle.lnfs_hold.specs.Hold.{holds};
 
 use lnfs_gss3::Mechanism;
-use lnfs_operations::ExtraRows;
+use lnfs_holder::Holds;
 use lnfs_step::purge;
-
-/// HOLD beside the operations of the table.
-#[derive(Clone, Copy, Debug)]
-pub struct Holds;
-
-impl ExtraRows for Holds {
-    ghost use Rattle.std.specs.Prelude.{[]};
-    ghost use Rattle.lnfs_hold.specs.Hold.{holds};
-    ghost use Rattle.lnfs_hold.proofs.HoldLaws.{holds_are_lawful};
-
-    ghost extra = { holds };
-
-    ghost rows = { λ it. [] };
-
-    ghost lawful = { holds_are_lawful };
-}
 
 /// With HOLD beside the table, and under any mechanism of signatures, each reply is the one that its
 /// requester would get with every event outside its dominance purged from the journal.

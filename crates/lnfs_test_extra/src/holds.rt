@@ -1,0 +1,99 @@
+//! HOLD in recordings: what it answers, and that holds of other levels show to those alone that dominate them. Its number
+//! is 12. It has no arguments, and answers 1 behind its status where the file is held for a level that the subject dominates.
+use crate::codecs::codecs_of;
+use lnfs_gss3::TestMechanism;
+use lnfs_holder::Holds;
+use lnfs_policy::read_policy;
+use lnfs_test_support::clients::with_clients;
+use lnfs_test_support::flaw::{Flaw, demand, read_of};
+use lnfs_test_support::rows::{cells_of, counted_rows, frames_of, recording_of};
+use lnfs_test_support::sessions::opened;
+use lnfs_test_support::site::POLICY;
+use lnfs_traffic::read_traffic;
+use lnfs_types::Event;
+use lnfs_vault::VaultOf;
+use std::alloc::{AllocError, Global};
+use std::process::Abort;
+
+/// In each table: a name, what is recorded behind the first client of level 0 and its session, and the replies.
+///
+/// HOLD of one level.
+const ALONE: &str = "
+once, and not a second time | CALL SYS 0 2 5 SEQUENCE 1 0 0 1 24 MAKE_F 12 12 | \
+ACCEPTED 0 10010 0 5 SEQUENCED 1 0 SLOTS 24 0 MADE_F 12 0 0 12 10010
+without a handle | CALL SYS 0 2 2 SEQUENCE 1 0 0 1 12 | ACCEPTED 0 10020 0 2 SEQUENCED 1 0 SLOTS 12 10020
+a directory | CALL SYS 0 2 3 SEQUENCE 1 0 0 1 24 12 | ACCEPTED 0 21 0 3 SEQUENCED 1 0 SLOTS 24 0 12 21
+where reading is denied | CALL SYS 0 2 4 SEQUENCE 1 0 0 1 24 18 0 3 1 BY_O PLAIN CALLED_F 12 | \
+ACCEPTED 0 10012 0 4 SEQUENCED 1 0 SLOTS 24 0 MADE_F 12 10012
+";
+
+/// HOLD of several levels. In the first two rows level 0 gets the same, with a hold of level 3 and without.
+const BESIDE: &str = "
+below a holder | \
+CALL SYS 0 2 3 SEQUENCE 1 0 0 1 24 MAKE_F / OPEN_3 / @1 CALL SYS_300 0 2 3 SEQUENCE_3 1 0 0 1 PUT_F 12 / \
+CALL SYS 0 2 4 SEQUENCE 2 0 0 1 PUT_F 12 12 | \
+ACCEPTED 0 0 0 3 SEQUENCED 1 0 SLOTS 24 0 MADE_F / OPENED_3 / ACCEPTED 0 0 0 3 SEQUENCED_3 1 0 SLOTS 22 0 12 0 0 / \
+ACCEPTED 0 10010 0 4 SEQUENCED 2 0 SLOTS 22 0 12 0 0 12 10010
+without it | \
+CALL SYS 0 2 3 SEQUENCE 1 0 0 1 24 MAKE_F / CALL SYS 0 2 4 SEQUENCE 2 0 0 1 PUT_F 12 12 | \
+ACCEPTED 0 0 0 3 SEQUENCED 1 0 SLOTS 24 0 MADE_F / ACCEPTED 0 10010 0 4 SEQUENCED 2 0 SLOTS 22 0 12 0 0 12 10010
+above a holder | \
+CALL SYS 0 2 4 SEQUENCE 1 0 0 1 24 MAKE_F 12 / OPEN_3 / @1 CALL SYS_300 0 2 4 SEQUENCE_3 1 0 0 1 PUT_F 12 12 | \
+ACCEPTED 0 0 0 4 SEQUENCED 1 0 SLOTS 24 0 MADE_F 12 0 0 / OPENED_3 / \
+ACCEPTED 0 10010 0 4 SEQUENCED_3 1 0 SLOTS 22 0 12 0 1 12 10010
+beside a holder, and above one | \
+CALL SYS 0 2 3 SEQUENCE 1 0 0 1 24 MAKE_F / OPEN_1 / @1 CALL SYS_100 0 2 3 SEQUENCE_1 1 0 0 1 PUT_F 12 / \
+OPEN_2 / @1 CALL SYS_200 0 2 3 SEQUENCE_2 1 0 0 1 PUT_F 12 / OPEN_3 / @1 CALL SYS_300 0 2 3 SEQUENCE_3 1 0 0 1 PUT_F 12 | \
+ACCEPTED 0 0 0 3 SEQUENCED 1 0 SLOTS 24 0 MADE_F / OPENED_1 / ACCEPTED 0 0 0 3 SEQUENCED_1 1 0 SLOTS 22 0 12 0 0 / \
+OPENED_2 / ACCEPTED 0 0 0 3 SEQUENCED_2 1 0 SLOTS 22 0 12 0 0 / OPENED_3 / ACCEPTED 0 0 0 3 SEQUENCED_3 1 0 SLOTS 22 0 12 0 1
+";
+
+/// The frames of the replies to events, in a new vault with HOLD.
+fn replies_to(rt: &impl Abort, alloc: Global, events: Vec<Event>) -> Result<Vec<u8>, AllocError> {
+    let codecs = codecs_of(alloc)?;
+    let read = read_policy(alloc, POLICY.as_bytes(), &codecs);
+    let policy = read.ok().expect(rt, "a policy");
+    let holds = Holds::new(alloc);
+    let mut vault = VaultOf::with_extra(alloc, policy, &codecs, TestMechanism, holds)?;
+    let mut frames = Vec::new(alloc);
+    for event in events {
+        if !event.fits() {
+            continue;
+        }
+        let served = vault.serve(&codecs, event)?;
+        if let Some(reply) = &served.reply {
+            let head = 0x8000_0000 | u32::try_from(reply.len()).unwrap_or(0);
+            frames.extend_from_slice(&head.to_be_bytes())?;
+            frames.extend_from_slice(reply.as_slice())?;
+        }
+    }
+    Ok(frames)
+}
+
+/// Serves what each row of a table has recorded, and compares the replies.
+fn check_holds(rt: &impl Abort, alloc: Global, table: &str, count: usize) -> Result<(), Flaw> {
+    for row in &counted_rows(alloc, table, count)? {
+        let whole = read_of(alloc, opened(alloc, row)?, row)?;
+        let whole = with_clients(alloc, &whole)?;
+        let cells = cells_of(alloc, &whole)?;
+        let [_, asked, told] = cells.as_slice() else {
+            return demand(alloc, false, "cells", row);
+        };
+        let traffic = read_of(alloc, recording_of(alloc, asked)?, row)?;
+        let due = read_of(alloc, frames_of(alloc, told)?, row)?;
+        let events = read_of(alloc, read_traffic(alloc, &traffic).ok(), row)?;
+        let replies = replies_to(rt, alloc, events)?;
+        demand(alloc, replies.as_slice() == due.as_slice(), "replies", row)?;
+    }
+    Ok(())
+}
+
+#[test]
+fn alone(rt: HostRuntime) -> Result<(), Flaw> {
+    check_holds(&rt, rt.alloc(), ALONE, 4)
+}
+
+#[test]
+fn beside(rt: HostRuntime) -> Result<(), Flaw> {
+    check_holds(&rt, rt.alloc(), BESIDE, 4)
+}
