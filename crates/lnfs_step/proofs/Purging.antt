@@ -2,7 +2,7 @@
 -- erasure and facts.
 use Rattle.std.proofs.Common.{◌≡◌, ℕ, Bool, true, false, cond, List, [], ◌∷◌, Option, Some, None, refl, ◌∙◌}
 use Rattle.std.specs.Prelude.{filter}
-use Rattle.lnfs_step.specs.Journal.{is_dominated}
+use Rattle.lnfs_step.specs.Purged.{is_dominated}
 
 -- events in order, from a state on
 abbrev pub state_from : {W E : Type 0} → (W → E → W) → W → List E → W

@@ -20,7 +20,8 @@ use Rattle.lnfs_gss3.specs.Mechanism.{Signing}
 use Rattle.lnfs_gss3.specs.Grammar.{Body, body}
 use Rattle.lnfs_gss3.specs.Who.{who}
 use Rattle.lnfs_gss3.specs.Who as whose
-use Rattle.lnfs_step.specs.Request.{Call, Task, Garbled, Run, MakeContext, EndContext, Request, Silent, Refused, Nothing, Asked, null_call, run_as, run_of, run_in, run_signed, asked_by, asked_of, request_with, level_by, level_of}
+use Rattle.lnfs_step.specs.Request.{Call, Task, Garbled, Run, MakeContext, EndContext, Request, Silent, Refused, Nothing, Asked, null_call, run_as, run_of, run_in, run_signed, asked_by, asked_of, request_with}
+use Rattle.lnfs_step.specs.Level.{level_by, level_of}
 use Rattle.lnfs_step.proofs.Callers.{who_any}
 use Rattle.lnfs_step.proofs.Compounds.{compound_read, compound_outside}
 use Rattle.lnfs_step.proofs.Denials.{OutsideIs}

@@ -19,10 +19,12 @@ use Rattle.lnfs_gss3.specs.Grammar.{Assertion}
 use Rattle.lnfs_site.specs.Site.{site_of}
 use Rattle.lnfs_site.proofs.FirstWorlds.{first_facts}
 use Rattle.lnfs_step.specs.Wrapping.{caller, answer_text}
-use Rattle.lnfs_step.specs.Request.{Call, Task, Garbled, Run, MakeContext, EndContext, Request, Silent, Refused, Nothing, Asked, request_with, level_of}
+use Rattle.lnfs_step.specs.Request.{Call, Task, Garbled, Run, MakeContext, EndContext, Request, Silent, Refused, Nothing, Asked, request_with}
+use Rattle.lnfs_step.specs.Level.{level_of}
 use Rattle.lnfs_step.specs.Contexts.{is_there, make_context, end_context}
 use Rattle.lnfs_step.specs.Step.{Step, sent_of, made, done_for, refused_to, step_of, step_with}
-use Rattle.lnfs_step.specs.Journal.{Holds, seen_at, first_state, state_from, state_after, is_dominated, purged, reply_with, answer_with, answer_to}
+use Rattle.lnfs_step.specs.Journal.{Holds, seen_at, first_state, state_from, state_after, reply_with, answer_with}
+use Rattle.lnfs_step.specs.Purged.{is_dominated, purged, purged_to, IsSecret}
 use Rattle.lnfs_step.proofs.ContextLaws.{there_alike, Beside, make_beside, end_beside, make_context_lawful, end_context_lawful}
 use Rattle.lnfs_step.proofs.Requests.{level_in, request_level}
 use Rattle.lnfs_step.proofs.Purging.{state_from as from_state, reply_purged, journal_keeps}
@@ -181,7 +183,7 @@ module _ (X : Extra) (owed : AreLawful X) (m : Signing) (p : Policy) (lattice : 
   holds_after journal = subst (Holds X p) (sym (as_fold (first_state X p) journal))
       (journal_keeps (seen_at X p) (Holds X p) (dominance p) lattice.reflexive (λ event. level_of m p event.class event.message) (λ a event. (step_with X m p a event).state) (λ a event. (step_with X m p a event).reply) (λ l s event a b. seen l s event a b) (λ l event a. unseen l event a) (λ event a. keeps event a) journal (first_state X p) first_holds)
 
-  reply_to : (journal : List Event) (event : Event) (o : Option ℕ) → level_of m p event.class event.message ≡ o → (step_with X m p (state_after X m p journal) event).reply ≡ answer_to X m p journal event o
+  reply_to : (journal : List Event) (event : Event) (o : Option ℕ) → level_of m p event.class event.message ≡ o → (step_with X m p (state_after X m p journal) event).reply ≡ reply_with X m p (purged_to m p journal o) event
   unfolding reply_with purged
   reply_to journal event None is = none event (state_after X m p journal) (state_after X m p []) is
   reply_to journal event (Some s) is =
@@ -192,6 +194,10 @@ module _ (X : Extra) (owed : AreLawful X) (m : Signing) (p : Policy) (lattice : 
   pub reply_is_answer : (journal : List Event) (event : Event) → reply_with X m p journal event ≡ answer_with X m p journal event
   unfolding reply_with answer_with
   reply_is_answer journal event = reply_to journal event (level_of m p event.class event.message) refl
+
+  pub reply_is_secret : IsSecret m p (reply_with X m p)
+  unfolding answer_with
+  reply_is_secret = (reply_with X m p, λ journal event. reply_is_answer journal event)
 
 -- contexts that are made and ended leave the rest
 module _ (X : Extra) (m : Signing) (p : Policy) (b : Both X.Row) (event : Event) (call : Call) where

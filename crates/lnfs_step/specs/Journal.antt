@@ -1,5 +1,5 @@
--- Journals: the state after one, one purged for a level, and the answer on it.
-use Rattle.std.specs.Prelude.{ℕ, ◌+◌, Bool, false, List, [], ◌∷◌, ◌++◌, length, Option, Some, None, filter}
+-- Journals: the state after one, and the answer on one that is purged.
+use Rattle.std.specs.Prelude.{ℕ, ◌+◌, List, [], ◌∷◌, ◌++◌, length, Option, Some, None}
 use Rattle.std.specs.Fmt.{decimal}
 use Rattle.lnfs_types.specs.declared.event.Event.{Event}
 use Rattle.lnfs_policy.specs.Policy.{Policy, dominance}
@@ -7,7 +7,7 @@ use Rattle.lnfs_world.specs.Facts.{Facts}
 use Rattle.lnfs_world.specs.Both.{Both, both, both_seen}
 use Rattle.lnfs_operations.specs.Extra.{Extra, no_extra}
 use Rattle.lnfs_gss3.specs.Mechanism.{Signing}
-use Rattle.lnfs_step.specs.Request.{level_of}
+use Rattle.lnfs_step.specs.Purged.{purged_for}
 use Rattle.lnfs_site.specs.Site.{first_world}
 use Rattle.lnfs_step.specs.Step.{Line, step_with}
 
@@ -35,18 +35,6 @@ state_from X m p b (event ∷ journal) = state_from X m p (step_with X m p b eve
 abbrev pub state_after : (X : Extra) → Signing → Policy → List Event → Both X.Row
 state_after X m p journal = state_from X m p (first_state X p) journal
 
--- a level that dominates the event's, if it has one
-abbrev pub is_dominated : (ℕ → ℕ → Bool) → ℕ → Option ℕ → Bool
-is_dominated dom s None = false
-is_dominated dom s (Some level) = dom s level
-
-abbrev pub is_for : Signing → Policy → ℕ → Event → Bool
-is_for m p s event = is_dominated (dominance p) s (level_of m p event.class event.message)
-
--- the events of the levels that s dominates
-unfoldable pub purged : Signing → Policy → List Event → ℕ → List Event
-purged m p journal s = filter (is_for m p s) journal
-
 -- the reply and the line that an event gets after a journal
 unfoldable pub reply_with : (X : Extra) → Signing → Policy → List Event → Event → Option (List ℕ)
 reply_with X m p journal event = (step_with X m p (state_after X m p journal) event).reply
@@ -54,14 +42,10 @@ reply_with X m p journal event = (step_with X m p (state_after X m p journal) ev
 unfoldable pub line_with : (X : Extra) → Signing → Policy → List Event → Event → Option Line
 line_with X m p journal event = (step_with X m p (state_after X m p journal) event).line
 
-abbrev pub answer_to : (X : Extra) → Signing → Policy → List Event → Event → Option ℕ → Option (List ℕ)
-answer_to X m p journal event None = reply_with X m p [] event
-answer_to X m p journal event (Some s) = reply_with X m p (purged m p journal s) event
-
 -- The reply that the requester would get with every event outside its dominance purged. One without a
 -- level has the reply of the first world.
 unfoldable pub answer_with : (X : Extra) → Signing → Policy → List Event → Event → Option (List ℕ)
-answer_with X m p journal event = answer_to X m p journal event (level_of m p event.class event.message)
+answer_with X m p journal event = reply_with X m p (purged_for m p journal event) event
 
 -- ---- with the operations of the table alone
 

@@ -2,6 +2,8 @@ pub mod Wrapping
 pub mod Request
 pub mod Contexts
 pub mod Step
+pub mod Level
+pub mod Purged
 pub mod Journal
 pub mod Sessions
 pub mod Lines

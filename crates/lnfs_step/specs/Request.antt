@@ -15,7 +15,6 @@ use Rattle.lnfs_gss3.specs.declared.caller.Caller.TheVariants.{Null, Nobody, Gar
 use Rattle.lnfs_gss3.specs.Mechanism.{Signing}
 use Rattle.lnfs_gss3.specs.Grammar.{Body, body, Assertion}
 use Rattle.lnfs_gss3.specs.Who.{who}
-use Rattle.lnfs_gss3.specs.Who as whose
 use Rattle.lnfs_step.specs.declared.numbers.TheConstants.{GARBAGE_ARGS}
 use Rattle.lnfs_step.specs.Wrapping.{Wrapping, Plain, Signed, Cause, caller, called, version}
 
@@ -118,11 +117,3 @@ asked_of g m p class (Ok call) = asked_by g p call (who m p class call)
 -- operations of a further grammar are read too
 unfoldable pub request_with : Further → Signing → Policy → (class : ℕ) → List ℕ → Request
 request_with g m p class bytes = asked_of g m p class (call_of bytes)
-
-abbrev pub level_by : Signing → Policy → (class : ℕ) → Result CallMessage CallError → Option ℕ
-level_by m p class (Err e) = None
-level_by m p class (Ok call) = whose.level_of (who m p class call)
-
--- The level of an event, by its class and its record: that of who calls.
-abbrev pub level_of : Signing → Policy → (class : ℕ) → List ℕ → Option ℕ
-level_of m p class bytes = level_by m p class (call_of bytes)

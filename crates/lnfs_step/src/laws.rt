@@ -7,9 +7,10 @@ ghost use Rattle.lnfs_policy.specs.Policy.{Policy, dominance};
 ghost use Rattle.lnfs_world.specs.Both.{Both};
 ghost use Rattle.lnfs_world.specs.Labels.{LabelsRise};
 ghost use Rattle.lnfs_operations.specs.Sizes.{Sizes};
-ghost use Rattle.lnfs_step.specs.Request.{level_of};
+ghost use Rattle.lnfs_step.specs.Level.{level_of};
+ghost use Rattle.lnfs_step.specs.Purged.{is_dominated, IsSecret};
 ghost use Rattle.lnfs_step.specs.Step.{step_with};
-ghost use Rattle.lnfs_step.specs.Journal.{Holds, seen_at, is_dominated, state_after, reply_with, answer_with};
+ghost use Rattle.lnfs_step.specs.Journal.{Holds, seen_at, state_after, reply_with, answer_with};
 
 use lnfs_gss3::Mechanism;
 use lnfs_operations::ExtraRows;
@@ -42,4 +43,11 @@ pub fn purge<X: ExtraRows, M: Mechanism>()
     // A reply is a record that a fragment holds.
     ensures short { (p : Policy) → IsPreorderWithBottom (dominance p) → (journal : List Event) (event : Event) →
         IfSome (reply_with X.extra M.signing p journal event) (λ reply. length reply ≤ RECORD_LIMIT) }
+{}
+
+/// Secrecy alone: whatever the server answers, one function gives each reply from the event and from the
+/// events before it that its requester dominates. So a reply tells nothing of the others. Who believes this has
+/// to read how an event gets its level, what dominance is and what is purged, and nothing of the operations.
+pub fn secrecy<X: ExtraRows, M: Mechanism>()
+    ensures { (p : Policy) → IsPreorderWithBottom (dominance p) → IsSecret M.signing p (reply_with X.extra M.signing p) }
 {}

@@ -12,6 +12,6 @@ pub mod numbers;
 mod session_laws;
 
 pub use context_laws::{contexts_are_lawful, contexts_are_signed};
-pub use laws::purge;
+pub use laws::{purge, secrecy};
 pub use line_laws::denials_are_recorded;
 pub use session_laws::sessions;
