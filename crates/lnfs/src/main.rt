@@ -17,8 +17,9 @@ use std::sync::Wait;
 use std::thread::Threads;
 use std::{env, io};
 
-/// How many bytes standard output gathers before it hands them on.
-const ROOM: usize = 65_536;
+/// How many bytes standard output gathers before it hands them on. A longer frame, as that of a READ of 32 KiB, goes
+/// past them and isn't copied.
+const ROOM: usize = 32_768;
 
 /// The words after the program's name.
 fn words_of(rt: HostRuntime) -> io::Result<Vec<String>> {
