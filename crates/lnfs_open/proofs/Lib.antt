@@ -1,5 +1,7 @@
 pub mod Entries
 pub mod Places
+pub mod Layers
+pub mod Tallying
 pub mod NamedNumbers
 pub mod Indexing
 pub mod Grouped
@@ -7,4 +9,5 @@ pub mod Joining
 pub mod Entering
 pub mod Naming
 pub mod Runs
+pub mod Certain
 pub mod Sharings

@@ -13,7 +13,7 @@ use Rattle.lnfs_open.specs.Listed.{id_of}
 use Rattle.lnfs_open.specs.Groups.{place_cmp, place_of}
 use Rattle.lnfs_open.specs.Owners.{matter_cmp, matter_of}
 
-then_same : (o p : Ordering) → is_eq (ordering_then o p) ≡ (is_eq o && is_eq p)
+pub then_same : (o p : Ordering) → is_eq (ordering_then o p) ≡ (is_eq o && is_eq p)
 then_same Less p = refl
 then_same Equal p = refl
 then_same Greater p = refl

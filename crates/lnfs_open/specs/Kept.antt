@@ -8,10 +8,13 @@ use Rattle.lnfs_open.specs.Lists.{Lists}
 use Rattle.lnfs_open.specs.Listed.{open_of, AreOwn}
 use Rattle.lnfs_open.specs.Indexed.{IsIndexed}
 use Rattle.lnfs_open.specs.Finding.{index_of}
+use Rattle.lnfs_open.specs.declared.tallies.Tallies.{Tallies}
+use Rattle.lnfs_open.specs.Tallies.{AreTallied}
 
 abbrev pub lists_in : List (Key × OpenRow) → Counters → Lists
 lists_in rows counters = record { opens = map open_of rows; lasts = lasts_of counters.entries }
 
-pub record IsKept (rows : List (Key × OpenRow)) (counters : Counters) (finder : Finder) : Type 0 where
+pub record IsKept (rows : List (Key × OpenRow)) (counters : Counters) (finder : Finder) (tallies : Tallies) : Type 0 where
   pub own : AreOwn rows
   pub indexed : IsIndexed (lists_in rows counters) (index_of counters finder)
+  pub tallied : AreTallied (map open_of rows) tallies

@@ -4,6 +4,8 @@ pub mod Sharing
 pub mod Listed
 pub mod Groups
 pub mod Owners
+pub mod Tallies
 pub mod Indexed
 pub mod Finding
 pub mod Kept
+pub mod Stopping

@@ -1,11 +1,14 @@
 //! Opens are made, joined and ended.
-ghost use Rattle.std.specs.Prelude.{◌≡◌, None, true, not, filter, find, OnOk, OnErr};
-ghost use Rattle.lnfs_world.specs.World.{same_id};
+ghost use Rattle.std.specs.Prelude.{◌≡◌, ℕ, None, true, not, filter, find, map, OnOk, OnErr, IsSome};
+ghost use Rattle.std.specs.BTreeMap.{get};
+ghost use Rattle.lnfs_world.specs.Rows.{inserted};
+ghost use Rattle.lnfs_world.specs.World.{Id, open_order, same_id};
 ghost use Rattle.lnfs_world.specs.Change.{AddOpen, is_open_of};
 ghost use Rattle.lnfs_world.specs.Effects.{next_id};
 ghost use Rattle.lnfs_world.specs.Facts.{same_opening};
 ghost use Rattle.lnfs_open.specs.Lists.{ran};
-ghost use Rattle.lnfs_open.specs.Listed.{id_of, client_id, node_id, open_id, row_of};
+ghost use Rattle.lnfs_open.specs.Listed.{id_of, client_id, node_id, open_id, row_of, open_of, AreOwn};
+ghost use Rattle.lnfs_open.specs.Tallies.{layer_cmp, tally_at};
 ghost use Rattle.lnfs_world.specs.Opens.{joined};
 ghost use Rattle.lnfs_open.specs.Opening.{own_open, has_open_left, opened_of, opened_by, rows_set, IsJoined, Does, found_of, ended_of, Ends};
 
@@ -13,9 +16,34 @@ use crate::finder::Filing;
 use crate::keys::{ClientKey, Key, NodeKey, OpenError, OpenRef, OpenRow};
 use crate::opens::Opens;
 use crate::rows::{add_row, drop_row, join_row, row_at};
+use crate::tallies::{Layer, Tallies, Uses};
 use lnfs_counts::{count_off, count_one, last_given, make_counter};
 use lnfs_types::Octets;
 use std::alloc::AllocError;
+use std::collections::BTreeMap;
+
+/// Adds an open under a new identifier, and makes the row of its layer, where there is none. Where memory is wanting, that row
+/// is taken back.
+fn place_row(
+    rows: &mut BTreeMap<Key, OpenRow>,
+    tallies: &mut Tallies,
+    layer: Layer,
+    id: Key,
+    row: OpenRow,
+) -> Result<(), AllocError>
+    ensures added { OnOk result (map open_of rows.new.entries ≡ inserted open_order (row_of (id_of id) row) (map open_of rows.old.entries)) }
+    ensures own { OnOk result (row.client.level.0 ≡ id.level → AreOwn rows.old.entries → AreOwn rows.new.entries) }
+    ensures kept { OnErr result (rows.new.entries ≡ rows.old.entries) }
+    ensures place { OnOk result (IsSome (get layer_cmp tallies.new.layers layer)) }
+    ensures same { (n : Id) (l : ℕ) → tally_at tallies.new n l ≡ tally_at tallies.old n l }
+{
+    tallies.make_place(layer)?;
+    let added = add_row(rows, id, row);
+    if added.is_err() {
+        tallies.free_place(layer);
+    }
+    added
+}
 
 impl Opens {
     /// Joins what is asked to what a client and an owner have open of a node, if there is something.
@@ -31,7 +59,18 @@ impl Opens {
         ensures lists { self.new ≡ record self.old { opens = rows_set (joined access deny) (own_open self.old (record { client = client_id client; owner = owner.now; node = node_id node; access = access; deny = deny })) self.old.opens } }
     {
         let id = self.own(client, owner, node)?;
+        let row = row_at(&self.rows, id)?;
+        let layer = Layer {
+            node: row.node.key(),
+            level: id.level,
+        };
+        let before = row.uses();
         let seq = join_row(&mut self.rows, id, access, deny)?;
+        let after = Uses {
+            access: before.access | access,
+            deny: before.deny | deny,
+        };
+        self.tallies.count_again(layer, before, after);
         Some(id.at(seq))
     }
 
@@ -82,13 +121,20 @@ impl Opens {
             node: row.node.key(),
             owner,
         };
+        let layer = Layer {
+            node: filing.node,
+            level: id.level,
+        };
+        let uses = row.uses();
         make_counter(&mut self.counters, id.level)?;
         self.finder.enter(self.alloc, &filing)?;
-        if let Err(wanting) = add_row(&mut self.rows, id, row) {
+        let placed = place_row(&mut self.rows, &mut self.tallies, layer, id, row);
+        if let Err(wanting) = placed {
             self.finder.leave(&filing);
             return Err(wanting);
         }
         count_one(&mut self.counters, id.level, id.number);
+        self.tallies.count(layer, uses);
         Ok(())
     }
 
@@ -123,13 +169,17 @@ impl Opens {
         let Some(row) = row_at(&self.rows, id) else {
             return;
         };
+        let node = row.node.key();
+        let uses = row.uses();
         self.finder.leave(&Filing {
             id,
             client: row.client.key(),
-            node: row.node.key(),
+            node,
             owner: row.owner.as_slice(),
         });
         count_off(&mut self.counters, id.level);
+        let level = id.level;
+        self.tallies.count_off(Layer { node, level }, uses);
         drop_row(&mut self.rows, id);
     }
 

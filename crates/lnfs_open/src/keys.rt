@@ -2,6 +2,7 @@
 ghost use Rattle.std.specs.Prelude.{◌≡◌};
 ghost use Rattle.lnfs_open.specs.Listed.{id_of, client_id, node_id, open_id};
 
+use crate::tallies::Uses;
 use lnfs_calipso::Level;
 use lnfs_types::Octets;
 use std::alloc::AllocError;
@@ -94,6 +95,18 @@ impl NodeKey {
         Key {
             level: self.level.0,
             number: self.number,
+        }
+    }
+}
+
+impl OpenRow {
+    /// What it is for, and what it denies.
+    pub(crate) fn uses(&self) -> Uses
+        ensures { result ≡ record { access = self.now.access; deny = self.now.deny } }
+    {
+        Uses {
+            access: self.access,
+            deny: self.deny,
         }
     }
 }

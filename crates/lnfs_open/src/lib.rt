@@ -4,6 +4,7 @@
 //! `specs/Lists.antt` says what is kept, `specs/Opening.antt` and `specs/Sharing.antt` what each call answers and changes.
 #![tactic(auto)]
 
+mod bits;
 mod changing;
 mod finder;
 mod groups;
@@ -13,6 +14,7 @@ mod opens;
 mod owners;
 mod rows;
 mod shares;
+mod tallies;
 
 pub use keys::{ClientKey, NodeKey, OpenError, OpenRef, OpenRow};
 pub use opens::Opens;

@@ -15,6 +15,7 @@ use crate::keys::{ClientKey, Key, NodeKey, OpenError, OpenRef, OpenRow};
 use crate::owners::Matter;
 use crate::rows::{is_of, row_at};
 use crate::shares::Share;
+use crate::tallies::Tallies;
 use lnfs_calipso::{Lattice, Level};
 use lnfs_counts::{Counter, count, last_given};
 use lnfs_world::numbers::{LAST_NUMBER, OPENS_OF_A_LEVEL};
@@ -29,6 +30,7 @@ pub struct Opens {
     pub(crate) rows: BTreeMap<Key, OpenRow>,
     pub(crate) counters: BTreeMap<u32, Counter>,
     pub(crate) finder: Finder,
+    pub(crate) tallies: Tallies,
 }
 
 impl Model for Opens {
@@ -45,7 +47,7 @@ impl Model for Opens {
       lasts = lasts_of o.counters.entries;
     } };
 
-    ghost invariant = { λ o. IsKept o.rows.entries o.counters o.finder };
+    ghost invariant = { λ o. IsKept o.rows.entries o.counters o.finder o.tallies };
 }
 
 impl Opens {
@@ -58,6 +60,7 @@ impl Opens {
             rows: BTreeMap::new(alloc),
             counters: BTreeMap::new(alloc),
             finder: Finder::new(alloc),
+            tallies: Tallies::new(alloc),
         }
     }
 
@@ -166,7 +169,7 @@ impl Opens {
             access,
             deny,
         };
-        share.is_stopped(&self.finder.nodes, &self.rows, node.key())
+        share.is_stopped(&self.tallies, &self.finder.nodes, &self.rows, node.key())
     }
 
     /// Whether a client has an open.

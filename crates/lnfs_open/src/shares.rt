@@ -1,16 +1,22 @@
 //! Share reservations (RFC 8881 section 9.7).
-ghost use Rattle.std.specs.Prelude.{◌≡◌, ◌&&◌, ℕ, map, option_map};
+//!
+//! A question takes a look at the tally of each level that has an open of the file. Opens are walked only where they are of a
+//! level that the subject dominates, and one of that level has a bit that is in the way.
+ghost use Rattle.std.specs.Prelude.{◌≡◌, ◌&&◌, ℕ, option_map};
 ghost use Rattle.std.specs.List.{list_any};
 ghost use Rattle.lnfs_world.specs.World.{same_id};
 ghost use Rattle.lnfs_calipso.specs.Label.{dom_of};
-ghost use Rattle.lnfs_open.specs.Listed.{id_of, client_id, node_id, row_of, open_of, owner_of, AreOwn};
-ghost use Rattle.lnfs_world.specs.Opens.{has_any};
+ghost use Rattle.lnfs_open.specs.Listed.{id_of, node_id, row_of, owner_of, AreOwn};
 ghost use Rattle.lnfs_open.specs.Sharing.{is_own, stands_in_way};
 ghost use Rattle.lnfs_open.specs.Indexed.{open_at, passes};
+ghost use Rattle.lnfs_open.specs.Tallies.{in_layer, AreTallied};
+ghost use Rattle.lnfs_open.specs.Stopping.{opens_in, stopped_by, may_stop, AreFound};
 
-use crate::groups::{Groups, front};
+use crate::bits::has_any;
+use crate::groups::{Groups, Member};
 use crate::keys::{ClientKey, Key, OpenRow};
 use crate::rows::row_at;
+use crate::tallies::{Layer, Tallies, Tally, lowest};
 use lnfs_calipso::{Lattice, Level};
 use lnfs_monitor::dominates;
 use std::collections::BTreeMap;
@@ -25,11 +31,17 @@ pub struct Share<'a> {
     pub deny: u32,
 }
 
-/// Whether two words have a bit in common.
-fn has_any(bits: u32, others: u32) -> bool
-    ensures { result ≡ has_any bits others }
+/// The place before all opens of a node that are of a level.
+fn first_of(layer: Layer) -> Member
+    ensures { result ≡ record { group = layer.node; id = record { level = layer.level; number = 0 } } }
 {
-    bits & others != 0
+    Member {
+        group: layer.node,
+        id: Key {
+            level: layer.level,
+            number: 0,
+        },
+    }
 }
 
 impl<'a> Share<'a> {
@@ -55,7 +67,7 @@ impl<'a> Share<'a> {
     /// Whether an open of an identifier is there and stands in the way.
     fn is_stopped_at(&self, rows: &BTreeMap<Key, OpenRow>, id: Key) -> bool
         requires { AreOwn rows.now.entries }
-        ensures { result ≡ passes (λ o. stands_in_way (dom_of self.now.lattice.now) self.now.subject.0 (option_map owner_of self.now.own) o.node self.now.access self.now.deny o) (open_at (map open_of rows.now.entries) (id_of id)) }
+        ensures { result ≡ passes (stopped_by self.now) (open_at (opens_in rows.now) (id_of id)) }
     {
         match row_at(rows, id) {
             Some(row) => self.is_stopped_by(row),
@@ -63,16 +75,62 @@ impl<'a> Share<'a> {
         }
     }
 
-    /// Whether one of the opens of a file stands in the way.
-    pub fn is_stopped(&self, nodes: &Groups, rows: &BTreeMap<Key, OpenRow>, node: Key) -> bool
-        requires { AreOwn rows.now.entries }
-        ensures { result ≡ list_any (λ e. same_id (id_of node) (id_of e.0.group) && passes (λ o. stands_in_way (dom_of self.now.lattice.now) self.now.subject.0 (option_map owner_of self.now.own) o.node self.now.access self.now.deny o) (open_at (map open_of rows.now.entries) (id_of e.0.id))) nodes.now.places.entries }
+    /// Whether one of the opens of a level may stand in the way, which is so where the subject dominates it and one of them
+    /// has a bit that is in the way.
+    fn may_be_stopped(&self, level: u32, tally: &Tally) -> bool
+        ensures { result ≡ may_stop self.now level tally.now }
     {
-        for (place, _) in nodes.places.range(front(node)..) {
-            if place.group != node {
+        dominates(self.lattice, self.subject, Level(level))
+            && (tally.may_deny(self.access) || tally.may_use(self.deny))
+    }
+
+    /// Whether one of the opens of a file that are of a level stands in the way.
+    fn is_stopped_in(&self, nodes: &Groups, rows: &BTreeMap<Key, OpenRow>, layer: Layer) -> bool
+        requires { AreFound rows.now nodes.now }
+        ensures { result ≡ list_any (λ o. in_layer (id_of layer.node) layer.level o && stopped_by self.now o) (opens_in rows.now) }
+    {
+        for (place, _) in nodes.places.range(first_of(layer)..) {
+            if place.group != layer.node || place.id.level != layer.level {
                 return false;
             }
             if self.is_stopped_at(rows, place.id) {
+                return true;
+            }
+        }
+        false
+    }
+
+    /// The same, where it is told how many of these opens have which bit: they are walked only if one may stand in the way.
+    fn is_stopped_among(
+        &self,
+        nodes: &Groups,
+        rows: &BTreeMap<Key, OpenRow>,
+        layer: Layer,
+        tally: &Tally,
+    ) -> bool
+        requires { AreFound rows.now nodes.now }
+        ensures { result ≡ (may_stop self.now layer.level tally.now && list_any (λ o. in_layer (id_of layer.node) layer.level o && stopped_by self.now o) (opens_in rows.now)) }
+    {
+        self.may_be_stopped(layer.level, tally) && self.is_stopped_in(nodes, rows, layer)
+    }
+
+    /// Whether one of the opens of a file stands in the way.
+    pub fn is_stopped(
+        &self,
+        tallies: &Tallies,
+        nodes: &Groups,
+        rows: &BTreeMap<Key, OpenRow>,
+        node: Key,
+    ) -> bool
+        requires found { AreFound rows.now nodes.now }
+        requires tallied { AreTallied (opens_in rows.now) tallies.now }
+        ensures { result ≡ list_any (λ o. same_id (id_of node) o.node && stopped_by self.now o) (opens_in rows.now) }
+    {
+        for (layer, tally) in tallies.layers.range(lowest(node)..) {
+            if layer.node != node {
+                return false;
+            }
+            if self.is_stopped_among(nodes, rows, *layer, tally) {
                 return true;
             }
         }

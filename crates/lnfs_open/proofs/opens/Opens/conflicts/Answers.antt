@@ -4,8 +4,11 @@ use Rattle.lnfs_open.specs.Lists.{Lists}
 use Rattle.lnfs_open.specs.Listed.{id_of, node_id, owner_of}
 use Rattle.lnfs_open.specs.Kept.{lists_in}
 use Rattle.lnfs_open.specs.Sharing.{stands_in_way, conflicts}
-use Rattle.lnfs_open.proofs.Sharings.{any-places, by_node, denied}
+use Rattle.lnfs_open.proofs.Sharings.{by_node, denied}
 use Rattle.lnfs_open.proofs.opens.Opens.conflicts.Goals as goal
+
+pub is_stopped-requires-clause-found : goal.is_stopped-requires-clause-found
+is_stopped-requires-clause-found c = record { own = c.self.invariant.own; rise = c.self.invariant.indexed.counted.rise; grouped = c.self.invariant.indexed.nodes }
 
 pub returns-clause-exact : goal.returns-clause-exact
 returns-clause-exact c =
@@ -17,7 +20,6 @@ returns-clause-exact c =
     let deny = c.args.deny in
     let node = id_of c.key.result in
     c.is_stopped.ensures
-    ∙ any-places s.opens c.self.invariant.indexed.counted.rise c.self.inside.finder.nodes c.self.invariant.indexed.nodes node (λ o. stands_in_way dom subject own o.node access deny o)
     ∙ by_node node (λ n o. stands_in_way dom subject own n access deny o) s.opens
     ∙ ap (λ n. conflicts dom subject own n access deny s.opens) c.key.ensures
     ∙ ap (λ (k : Lists). conflicts dom subject own (node_id c.args.node) access deny k.opens) c.self.view_is
