@@ -11,3 +11,4 @@ pub mod Sound
 pub mod Spelled
 pub mod Steps
 pub mod Tables
+pub mod GuestLines

@@ -10,7 +10,7 @@ held p = record {
   labels = p.lattice;
   formats = p.formats;
   parents = p.parents.entries;
-  guests = p.guests.items;
+  guests = p.guests;
   quotas = p.quotas.items;
   dirs = p.dirs.items;
 }

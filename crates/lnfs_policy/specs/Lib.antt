@@ -3,6 +3,7 @@ pub mod Spelled
 pub mod Rows
 pub mod Fits
 pub mod Policy
+pub mod Guests
 pub mod PolicyText
 pub mod Reading
 pub mod Seen

@@ -4,6 +4,7 @@
 mod cause;
 mod fits;
 mod formats;
+mod guests;
 pub mod laws;
 mod line;
 mod mode;

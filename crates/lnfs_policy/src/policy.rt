@@ -6,6 +6,7 @@ ghost use Rattle.lnfs_calipso.specs.Label.{IsPreorderWithBottom};
 ghost use Rattle.lnfs_policy.specs.Policy.{dominance, guest_level, parent_at, limit_of};
 ghost use Rattle.lnfs_policy.specs.PolicyText.{IsPolicy};
 
+use crate::guests::Guests;
 use crate::mode::Mode;
 use crate::rows::{DirLine, Guest, Limit, Parent, Quota};
 use lnfs_calipso::{Lattice, Level};
@@ -29,7 +30,7 @@ pub struct Policy {
     pub(crate) formats: Formats,
     /// The parents by their numbers.
     pub(crate) parents: BTreeMap<u32, Parent>,
-    pub(crate) guests: Vec<Guest>,
+    pub(crate) guests: Guests,
     pub(crate) quotas: Vec<Quota>,
     pub(crate) dirs: Vec<DirLine>,
 }
@@ -79,7 +80,7 @@ impl Policy {
     pub fn guests(&self) -> &[Guest]
         ensures { result.now ≡ self.now.guests }
     {
-        &self.guests
+        self.guests.as_slice()
     }
 
     /// The level of the first guest line that fits, or None where none fits. The uid None, of a caller
@@ -87,10 +88,7 @@ impl Policy {
     pub fn guest_level(&self, class: u32, uid: Option<u32>) -> Option<Level>
         ensures { option_map (λ level. level.0) result ≡ guest_level self.now class uid }
     {
-        self.guests
-            .iter()
-            .find(|guest| guest.is_for(class, uid))
-            .map(|guest| guest.level)
+        self.guests.level_of(class, uid)
     }
 
     /// How much a level may hold, in nodes and in bytes: what its quota line says, or else 4,096 nodes and

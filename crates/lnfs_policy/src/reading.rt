@@ -13,6 +13,7 @@ use crate::fits::{
     spelling_of,
 };
 use crate::formats::{entries_of, spells_all};
+use crate::guests::Guests;
 use crate::line::{Line, line_of};
 use crate::mode::Mode;
 use crate::policy::Policy;
@@ -297,6 +298,7 @@ impl Reading {
         if !spells_all(codecs, &entries, &labels)? {
             return Err(Stop::Broken(Cause::Missing));
         }
+        let guests = Guests::of(alloc, guests)?;
         Ok(Policy {
             text,
             mode,

@@ -1,8 +1,5 @@
 //! What the lines of a policy give.
 
-ghost use Rattle.std.specs.Prelude.{◌≡◌};
-ghost use Rattle.lnfs_policy.specs.Policy.{is_for};
-
 use lnfs_calipso::Level;
 use lnfs_format::Pair;
 use lnfs_types::Octets;
@@ -46,20 +43,6 @@ pub struct Guest {
     /// None is for all, also for those who have no uid.
     pub uid: Option<u32>,
     pub level: Level,
-}
-
-impl Guest {
-    /// Whether the line is for a caller. None asks for a caller without a uid.
-    pub fn is_for(&self, class: u32, uid: Option<u32>) -> bool
-        ensures { result ≡ is_for class uid self.now }
-    {
-        let admitted = match (self.uid, uid) {
-            (None, _) => true,
-            (Some(_), None) => false,
-            (Some(named), Some(asked)) => named == asked,
-        };
-        self.class == class && admitted
-    }
 }
 
 /// What the nodes and the bytes of a level may come to.

@@ -26,4 +26,5 @@ invariant_of-result g c =
     let l : is_empty r.labels ≡ false = search rules in
     let e : c.in_ok-entries.entries.items ≡ entries_in r = search rules in
     let s : spells_all (entries_in r) r.labels ≡ true = search rules in
-    rw (c.of.ensures, c.of-2.ensures, e) (c.requires _ (ap finish (sym c.self.view_is) ∙ full r c.in-Some.mode b m l s))
+    let lines : c.in_ok-guests.guests ≡ r.guests = search rules in
+    rw (c.of-2.ensures, c.of-3.ensures, e, lines) (c.requires _ (ap finish (sym c.self.view_is) ∙ full r c.in-Some.mode b m l s))
