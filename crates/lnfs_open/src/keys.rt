@@ -6,6 +6,7 @@ use crate::tallies::Uses;
 use lnfs_calipso::Level;
 use lnfs_types::Octets;
 use std::alloc::AllocError;
+use thiserror::Error;
 
 /// A client: the level that its record was given in, and its number there.
 #[derive(Clone, Copy, Debug, PartialEq, Eq, PartialOrd, Ord)]
@@ -45,15 +46,19 @@ pub struct OpenRow {
 }
 
 /// Why a call was refused.
-#[derive(Clone, Copy, Debug, PartialEq, Eq)]
+#[derive(Clone, Copy, Debug, PartialEq, Eq, Error)]
 pub enum OpenError {
     /// The level has as many opens as it may have, or no number is left for one more.
+    #[error("the level has as many opens as it may have, or no number is left")]
     Full,
     /// There is no such open.
+    #[error("there is no such open")]
     Bad,
     /// The open has a later sequence.
+    #[error("the open has a later sequence")]
     Old,
     /// Memory was wanting.
+    #[error("out of memory")]
     Memory,
 }
 
