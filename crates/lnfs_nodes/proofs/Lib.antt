@@ -2,7 +2,8 @@ pub mod Tests
 pub mod Found
 mod ReadLinks
 mod Views
-pub mod Answering
+mod AttributeSizes
+mod AnsweredLists
 mod Supported
 pub mod Written
 pub mod Refusing

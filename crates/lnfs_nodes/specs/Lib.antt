@@ -2,6 +2,9 @@ pub mod Trees
 pub mod Refusals
 pub mod Accesses
 pub mod Comparing
+pub mod Masks
+pub mod Shows
+pub mod Units
 pub mod Walks
 pub mod Writes
 pub mod Acts

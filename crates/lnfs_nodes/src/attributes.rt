@@ -13,8 +13,10 @@ ghost use Rattle.lnfs_tree.specs.Rows.{id_of};
 ghost use Rattle.lnfs_nodes.specs.Trees.{with_tree, refusal_of, denial};
 ghost use Rattle.lnfs_nodes.specs.Writes.{Writes};
 
+use crate::answers::put_answer;
 use crate::held::{denied, node_held};
-use crate::showing::{Viewer, put_answer, shown};
+use crate::masks::answered_to;
+use crate::showing::{Viewer, shown};
 use lnfs_arguments::numbers::OP_GETATTR;
 use lnfs_arguments::statuses::NFS4_OK;
 use lnfs_attrs::{Bitmap, asks_inner};
@@ -69,9 +71,9 @@ pub fn get_attr(
     if let Some(why) = inner_denied(site, viewer.subject, held.facts.label, asked) {
         return Ok(Err(why));
     }
-    let view = shown(alloc, site, tree, viewer, &held, NFS4_OK)?;
+    let node = shown(alloc, site, tree, viewer, &held, NFS4_OK)?;
     out.u32(OP_GETATTR)?;
     out.u32(NFS4_OK)?;
-    put_answer(alloc, asked, true, &view, out)?;
+    put_answer(&answered_to(asked, true), &node, out)?;
     Ok(Ok(()))
 }

@@ -11,14 +11,16 @@ ghost use Rattle.lnfs_tree.specs.Rows.{id_of};
 ghost use Rattle.lnfs_nodes.specs.Trees.{with_tree, refusal_of, answered, stays};
 ghost use Rattle.lnfs_nodes.specs.Comparing.{given_refusal, where_compared};
 
+use crate::answers::put_list;
 use crate::attributes::inner_denied;
 use crate::held::{namespace, node_held};
-use crate::showing::{Viewer, is_whole, shown};
+use crate::masks::{answered_to, is_whole};
+use crate::showing::{Viewer, shown};
 use lnfs_arguments::statuses::{
     NFS4_OK, NFS4ERR_ATTRNOTSUPP, NFS4ERR_INVAL, NFS4ERR_NOT_SAME, NFS4ERR_SAME,
 };
 use lnfs_attrs::numbers::RDATTR_ERROR;
-use lnfs_attrs::{Bitmap, RawAttrs, supported, write_attrs};
+use lnfs_attrs::{Bitmap, RawAttrs, supported};
 use lnfs_operations::{Gate, Refusal};
 use lnfs_site::Site;
 use lnfs_tree::{NodeId, Tree};
@@ -77,9 +79,9 @@ fn is_same(
     if let Some(why) = inner_denied(site, viewer.subject, held.facts.label, &given.mask) {
         return Ok(Err(why));
     }
-    let view = shown(alloc, site, tree, viewer, &held, NFS4_OK)?;
+    let node = shown(alloc, site, tree, viewer, &held, NFS4_OK)?;
     let mut list = XdrWriter::new(alloc);
-    write_attrs(&given.mask, &view, true, &mut list)?;
+    put_list(&answered_to(&given.mask, true), &node, &mut list)?;
     let list = list.into_bytes();
     Ok(Ok(given.list.as_slice() == list.as_slice()))
 }

@@ -2,7 +2,6 @@
 ghost use Rattle.std.specs.Prelude.{◌≡◌, ◌<◌, ◌&&◌, ◌++◌, length, not, cond, IfOk, IfSome, OnOk};
 ghost use Rattle.std.specs.Option.{option_map};
 ghost use Rattle.lnfs_xdr.specs.Written.{Extends};
-ghost use Rattle.lnfs_attrs.specs.Sizes.{ViewFits};
 ghost use Rattle.lnfs_world.specs.World as world;
 ghost use Rattle.lnfs_world.specs.World.{Id, World, node_at};
 ghost use Rattle.lnfs_world.specs.Usage.{bytes_used};
@@ -14,13 +13,15 @@ ghost use Rattle.lnfs_operations.specs.Shown.{asks_inner};
 ghost use Rattle.lnfs_operations.specs.ReadDir.{shown_entry};
 ghost use Rattle.lnfs_tree.specs.Rows.{id_of, row_of_entry};
 ghost use Rattle.lnfs_nodes.specs.Trees.{with_tree};
+ghost use Rattle.lnfs_nodes.specs.Shows.{view_of, NodeViewFits};
 ghost use Rattle.lnfs_nodes.specs.Walks.{entry_as, entry_written, Enters, Grows, Walks, IsListable, listed_in};
 
+use crate::answers::put_answer;
 use crate::held::Held;
-use crate::showing::{Viewer, put_answer, shown};
+use crate::masks::Asking;
+use crate::showing::{NodeView, Viewer, shown};
 use lnfs_arguments::statuses::{NFS4_OK, NFS4ERR_ACCESS};
 use lnfs_attrs::numbers::RDATTR_ERROR;
-use lnfs_attrs::{Bitmap, View, asks_inner};
 use lnfs_calipso::Level;
 use lnfs_monitor::{Question, Verdict};
 use lnfs_site::Site;
@@ -34,7 +35,7 @@ pub struct Lister<'a> {
     pub alloc: Global,
     pub site: &'a Site<'a>,
     pub viewer: Viewer,
-    pub asked: &'a Bitmap,
+    pub asking: Asking<'a>,
 }
 
 /// What came of an entry.
@@ -59,9 +60,9 @@ pub enum Walked {
 
 /// What a node shows to a subject with the inner attributes or without them.
 #[derive(Drop)]
-struct Seen {
+struct Seen<'a> {
     inner: bool,
-    view: View,
+    view: NodeView<'a>,
 }
 
 /// Whether a subject may read what is at a label.
@@ -75,10 +76,10 @@ fn may_read(site: &Site<'_>, subject: Level, label: Level) -> bool
 }
 
 /// Whether inner attributes are asked that aren't shown.
-fn is_hidden(asked: &Bitmap, inner: bool) -> bool
-    ensures { result ≡ (asks_inner asked.now && not inner) }
+fn is_hidden(asking: &Asking<'_>, inner: bool) -> bool
+    ensures { result ≡ (asks_inner asking.now.asked.now && not inner) }
 {
-    asks_inner(asked) && !inner
+    asking.inner && !inner
 }
 
 /// The status of an entry.
@@ -90,19 +91,23 @@ fn error_of(is_hidden: bool) -> u32
 
 /// What a node in a directory shows. Where its label isn't dominated, inner attributes are left out and rdattr_error
 /// tells why, if it is asked; if it isn't and they are, the node may not be shown.
-fn node_seen(lister: &Lister<'_>, tree: &Tree, node: NodeId) -> Result<Option<Seen>, AllocError>
+fn node_seen<'a>(
+    lister: &Lister<'a>,
+    tree: &'a Tree,
+    node: NodeId,
+) -> Result<Option<Seen<'a>>, AllocError>
     requires used { lister.now.viewer.used ≡ bytes_used tree.now.nodes lister.now.viewer.subject.0 }
     ensures shown { IfOk result (λ seen. (p : Place) (rest : World) (e : world.Entry) →
-        shown_entry (site_of lister.now.site.now) (record p { subject = lister.now.viewer.subject.0 }) (with_tree rest tree.now) lister.now.asked.now e (node_at tree.now.nodes (id_of node))
-        ≡ option_map (λ s. entry_as lister.now.asked.now e.cookie e.name s.inner s.view) seen) }
-    ensures fits { IfOk result (λ seen. IfSome seen (λ s. ViewFits s.view)) }
+        shown_entry (site_of lister.now.site.now) (record p { subject = lister.now.viewer.subject.0 }) (with_tree rest tree.now) lister.now.asking.asked.now e (node_at tree.now.nodes (id_of node))
+        ≡ option_map (λ s. entry_as lister.now.asking.asked.now e.cookie e.name s.inner (view_of s.view)) seen) }
+    ensures fits { IfOk result (λ seen. IfSome seen (λ s. NodeViewFits s.view)) }
 {
     let Some(facts) = tree.node(node) else {
         return Ok(None);
     };
     let inner = may_read(lister.site, lister.viewer.subject, facts.label);
-    let hidden = is_hidden(lister.asked, inner);
-    if hidden && !lister.asked.has(RDATTR_ERROR) {
+    let hidden = is_hidden(&lister.asking, inner);
+    if hidden && !lister.asking.asked.has(RDATTR_ERROR) {
         return Ok(None);
     }
     let held = Held { id: node, facts };
@@ -115,11 +120,11 @@ fn node_seen(lister: &Lister<'_>, tree: &Tree, node: NodeId) -> Result<Option<Se
 fn put_seen(
     lister: &Lister<'_>,
     entry: &Entry,
-    seen: &Seen,
+    seen: &Seen<'_>,
     out: &mut XdrWriter,
 ) -> Result<(), AllocError>
-    requires { ViewFits seen.now.view }
-    ensures { OnOk result (out.new ≡ out.old ++ entry_written (entry_as lister.now.asked.now entry.now.cookie entry.now.name seen.now.inner seen.now.view)) }
+    requires { NodeViewFits seen.now.view }
+    ensures { OnOk result (out.new ≡ out.old ++ entry_written (entry_as lister.now.asking.asked.now entry.now.cookie entry.now.name seen.now.inner (view_of seen.now.view))) }
 {
     // A name whose length no word holds doesn't stand in memory either.
     if u32::try_from(entry.name.len()).is_err() {
@@ -128,7 +133,7 @@ fn put_seen(
     out.boolean(true)?;
     out.u64(entry.cookie)?;
     out.opaque(entry.name.as_slice())?;
-    put_answer(lister.alloc, lister.asked, seen.inner, &seen.view, out)
+    put_answer(lister.asking.answered(seen.inner), &seen.view, out)
 }
 
 /// Appends an entry with the word before it, where it fits into so many bytes.
@@ -142,7 +147,7 @@ fn put_entry(
     requires used { lister.now.viewer.used ≡ bytes_used tree.now.nodes lister.now.viewer.subject.0 }
     ensures entered { IfOk result (λ entered. (p : Place) (rest : World) (directory : Id) →
         let e = row_of_entry directory entry.now in
-        Enters out.old out.new room (shown_entry (site_of lister.now.site.now) (record p { subject = lister.now.viewer.subject.0 }) (with_tree rest tree.now) lister.now.asked.now e (node_at tree.now.nodes e.node)) entered) }
+        Enters out.old out.new room (shown_entry (site_of lister.now.site.now) (record p { subject = lister.now.viewer.subject.0 }) (with_tree rest tree.now) lister.now.asking.asked.now e (node_at tree.now.nodes e.node)) entered) }
     ensures grows { IfOk result (λ entered. Grows out.old out.new room entered) }
     ensures extends { IfOk result (λ entered. Extends out.old out.new) }
 {
@@ -185,7 +190,7 @@ pub fn put_entries(
 ) -> Result<Walked, AllocError>
     requires used { lister.now.viewer.used ≡ bytes_used tree.now.nodes lister.now.viewer.subject.0 }
     ensures walked { IfOk result (λ walked. (p : Place) (rest : World) → IsListable tree.now (id_of dir) →
-        Walks out.old out.new (listed_in (site_of lister.now.site.now) (record p { subject = lister.now.viewer.subject.0 }) (with_tree rest tree.now) lister.now.asked.now (id_of dir) cookie room) walked) }
+        Walks out.old out.new (listed_in (site_of lister.now.site.now) (record p { subject = lister.now.viewer.subject.0 }) (with_tree rest tree.now) lister.now.asking.asked.now (id_of dir) cookie room) walked) }
     ensures extends { IfOk result (λ walked. Extends out.old out.new) }
 {
     let begin = out.mark();

@@ -9,8 +9,8 @@ ghost use Rattle.lnfs_operations.specs.Given.{is_mode, set_of};
 ghost use Rattle.lnfs_nodes.specs.Trees.{refusal_of};
 ghost use Rattle.lnfs_nodes.specs.GivenValues.{values_in, label_in, given_of, wanted_in, wanted_of, text_refusal, asked_in, asked_of};
 
+use crate::masks::is_whole;
 use crate::naming::name_refusal;
-use crate::showing::is_whole;
 use lnfs_arguments::What;
 use lnfs_arguments::statuses::{
     NFS4ERR_ATTRNOTSUPP, NFS4ERR_BADLABEL, NFS4ERR_BADXDR, NFS4ERR_INVAL, NFS4ERR_NAMETOOLONG,

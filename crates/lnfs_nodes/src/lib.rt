@@ -3,6 +3,7 @@
 #![tactic(auto)]
 
 mod accessed;
+mod answers;
 mod attributes;
 mod calls;
 mod comparing;
@@ -15,12 +16,14 @@ mod linking;
 mod links;
 mod listing;
 mod lookups;
+mod masks;
 mod naming;
 mod removing;
 mod renaming;
 mod rights;
 mod showing;
 mod told;
+mod units;
 
 pub use accessed::set_accessed;
 pub use attributes::get_attr;
@@ -34,8 +37,9 @@ pub use linking::link;
 pub use links::read_link;
 pub use listing::{Listing, read_dir};
 pub use lookups::{lookup, lookup_parent};
+pub use masks::is_whole;
 pub use removing::{gone_bytes, remove};
 pub use renaming::rename;
 pub use rights::{AccessBits, access};
-pub use showing::{Viewer, is_whole, label_shown};
+pub use showing::{Viewer, label_shown};
 pub use told::cinfo;

@@ -20,6 +20,7 @@ ghost use Rattle.lnfs_nodes.specs.Writes.{Writes};
 use crate::accessed::set_accessed;
 use crate::entries::{Lister, Walked, put_entries};
 use crate::held::{denied, namespace, node_held};
+use crate::masks::Asking;
 use crate::showing::Viewer;
 use lnfs_arguments::numbers::OP_READDIR;
 use lnfs_arguments::statuses::{NFS4_OK, NFS4ERR_ACCESS, NFS4ERR_NOTDIR, NFS4ERR_TOOSMALL};
@@ -90,7 +91,7 @@ fn put_listing(
     requires used { lister.now.viewer.used ≡ bytes_used tree.now.nodes lister.now.viewer.subject.0 }
     ensures lists { IfOk result (λ answer. (p : Place) (rest : World) (d : Node) → IsListable tree.now (id_of dir) →
         let at = record p { subject = lister.now.viewer.subject.0 } in
-        let found = listed_in (site_of lister.now.site.now) at (with_tree rest tree.now) lister.now.asked.now (id_of dir) cookie (size - EMPTY_LISTING) in
+        let found = listed_in (site_of lister.now.site.now) at (with_tree rest tree.now) lister.now.asking.asked.now (id_of dir) cookie (size - EMPTY_LISTING) in
         Lists out.old out.new (finished (site_of lister.now.site.now) at d size found).answer answer) }
     ensures extends { IfOk result (λ answer. Extends out.old out.new) }
 {
@@ -145,11 +146,12 @@ pub fn read_dir(
     if let Some(why) = denied(site, viewer.subject, &Question::Read { label }) {
         return Ok(Err(why));
     }
+    let asking = Asking::new(args.asked);
     let lister = Lister {
         alloc,
         site,
         viewer,
-        asked: args.asked,
+        asking,
     };
     let begin = out.mark();
     match put_listing(

@@ -1,24 +1,21 @@
 //! What a node shows of itself in its attributes (RFC 8881 section 5, RFC 7862 section 12.2).
-ghost use Rattle.std.specs.Prelude.{◌≡◌, ◌&&◌, ◌≤◌, ◌++◌, length, IfOk, OnOk, OnErr};
-ghost use Rattle.lnfs_xdr.specs.Written.{Extends};
-ghost use Rattle.lnfs_attrs.specs.Attributes.{is_listed, is_answered};
-ghost use Rattle.lnfs_attrs.specs.Bitmaps.{BitmapFits};
-ghost use Rattle.lnfs_attrs.specs.Sizes.{ViewFits};
-ghost use Rattle.lnfs_arguments.specs.SharedTexts.{attrs_text};
+ghost use Rattle.std.specs.Prelude.{◌≡◌, ◌≤◌, [], length, IfOk};
+ghost use Rattle.lnfs_format.specs.declared.formats.TheConstants.{MAX_SPELLING};
 ghost use Rattle.lnfs_world.specs.World.{Node, World};
 ghost use Rattle.lnfs_world.specs.Usage.{bytes_used};
 ghost use Rattle.lnfs_world.specs.Outcome.{Place};
 ghost use Rattle.lnfs_site.specs.Site.{site_of};
 ghost use Rattle.lnfs_operations.specs.Handles.{file_id};
-ghost use Rattle.lnfs_operations.specs.Shown.{type_of, time_of, label_shown, label_value, shown, bitmap_of, answer_to};
+ghost use Rattle.lnfs_operations.specs.Shown.{type_of, time_of, label_shown, shown};
 ghost use Rattle.lnfs_tree.specs.Rows.{id_of, kind_of};
 ghost use Rattle.lnfs_world.specs.Given.{stored_of};
 ghost use Rattle.lnfs_nodes.specs.Trees.{with_tree, Holds};
+ghost use Rattle.lnfs_nodes.specs.Shows.{view_of, NodeViewFits};
 
 use crate::handles::handle_of;
 use crate::held::{Held, denied};
 use lnfs_arguments::numbers::{TYPE_DIR, TYPE_LINK};
-use lnfs_attrs::{Bitmap, LabelValue, Moment as Time, View, answered, write_attrs, write_bitmap};
+use lnfs_attrs::{LabelValue, Moment as Time, View};
 use lnfs_calipso::Level;
 use lnfs_format::MAX_SPELLING;
 use lnfs_monitor::Question;
@@ -26,7 +23,6 @@ use lnfs_site::Site;
 use lnfs_tree::{NodeId, NodeKind, Tree};
 use lnfs_types::{Moment, Octets};
 use lnfs_world::Stored;
-use lnfs_xdr::XdrWriter;
 use std::alloc::{AllocError, Global};
 
 /// `nfs_ftype4` of a file (RFC 8881 section 3.2). No argument has it.
@@ -37,6 +33,13 @@ const TYPE_FILE: u32 = 1;
 pub struct Viewer {
     pub subject: Level,
     pub used: u64,
+}
+
+/// What a node shows of itself, and its label, which is lent: that of the view is empty.
+#[derive(Debug, Drop)]
+pub struct NodeView<'a> {
+    pub view: View,
+    pub label: &'a Stored,
 }
 
 fn type_of(kind: NodeKind) -> u32
@@ -80,40 +83,47 @@ pub fn label_shown<'a>(site: &Site<'a>, tree: &'a Tree, subject: Level, held: &H
     site.label(label)
 }
 
-/// A label as the value of an attribute.
-fn label_value(alloc: Global, label: &Stored) -> Result<LabelValue, AllocError>
-    ensures value { IfOk result (λ value. value ≡ label_value (stored_of label.now)) }
-    ensures short { IfOk result (λ value. length value.bytes ≤ MAX_SPELLING) }
+/// A label that is no longer than a label may be.
+fn short_label(label: &Stored) -> Result<&Stored, AllocError>
+    ensures same { IfOk result (λ found. found.now ≡ label.now) }
+    ensures short { IfOk result (λ found. length found.now.bytes ≤ MAX_SPELLING) }
 {
     // No label that is kept is longer.
     if label.bytes.len() > MAX_SPELLING {
         return Err(AllocError);
     }
-    Ok(LabelValue {
-        lfs: label.lfs,
-        pi: label.pi,
-        bytes: Octets::from_slice(alloc, label.bytes.as_slice())?,
-    })
+    Ok(label)
 }
 
-/// What a node shows of itself to who looks, with the status of an entry that can't be read.
-pub fn shown(
+/// The value of sec_label in a view beside which the label is lent. Takes no memory.
+fn no_label(alloc: Global) -> LabelValue
+    ensures { result.bytes ≡ [] }
+{
+    LabelValue {
+        lfs: 0,
+        pi: 0,
+        bytes: Octets::new(Vec::new(alloc)),
+    }
+}
+
+/// What a node shows of itself to who looks, with the status of an entry that can't be read. Takes no memory.
+pub fn shown<'a>(
     alloc: Global,
-    site: &Site<'_>,
-    tree: &Tree,
+    site: &Site<'a>,
+    tree: &'a Tree,
     viewer: Viewer,
     held: &Held,
     error: u32,
-) -> Result<View, AllocError>
+) -> Result<NodeView<'a>, AllocError>
     requires used { viewer.used ≡ bytes_used tree.now.nodes viewer.subject.0 }
     ensures view { IfOk result (λ view. (n : Node) (p : Place) (rest : World) → Holds tree.now n held.now →
-        view ≡ shown (site_of site.now) (record p { subject = viewer.subject.0 }) (with_tree rest tree.now) n error) }
-    ensures fits { IfOk result ViewFits }
+        view_of view ≡ shown (site_of site.now) (record p { subject = viewer.subject.0 }) (with_tree rest tree.now) n error) }
+    ensures fits { IfOk result NodeViewFits }
 {
     let Viewer { subject, used } = viewer;
     let facts = &held.facts;
-    let label = label_value(alloc, label_shown(site, tree, subject, held))?;
-    Ok(View {
+    let label = short_label(label_shown(site, tree, subject, held))?;
+    let view = View {
         kind: type_of(facts.kind),
         change: facts.change,
         size: facts.size,
@@ -126,40 +136,8 @@ pub fn shown(
         access: time_of(facts.access),
         metadata: time_of(facts.metadata),
         modify: time_of(facts.modify),
-        label,
+        label: no_label(alloc),
         error,
-    })
-}
-
-/// A bitmap has eight words of 32 bits.
-pub fn is_whole(_mask: Bitmap)
-    ensures { BitmapFits _mask }
-{}
-
-/// Those of the attributes asked that the server has, without the inner ones where these aren't allowed.
-fn mask_of(asked: &Bitmap, inner: bool) -> Bitmap
-    ensures { result ≡ bitmap_of (λ n. is_listed n && is_answered asked.now inner n) }
-{
-    let mask = answered(asked, inner);
-    is_whole(mask);
-    mask
-}
-
-/// Appends those of the attributes asked that the server has, without the inner ones where these aren't allowed.
-/// Without memory something may have been appended.
-pub fn put_answer(
-    alloc: Global,
-    asked: &Bitmap,
-    inner: bool,
-    view: &View,
-    out: &mut XdrWriter,
-) -> Result<(), AllocError>
-    requires { ViewFits view.now }
-    ensures ok { OnOk result (out.new ≡ out.old ++ attrs_text (answer_to asked.now inner view.now)) }
-    ensures err { OnErr result (Extends out.old out.new) }
-{
-    let mut list = XdrWriter::new(alloc);
-    write_attrs(asked, view, inner, &mut list)?;
-    write_bitmap(&mask_of(asked, inner), out)?;
-    out.opaque(&list.into_bytes())
+    };
+    Ok(NodeView { view, label })
 }

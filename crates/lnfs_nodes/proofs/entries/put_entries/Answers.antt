@@ -24,7 +24,7 @@ loop-entry-preserved c =
       within = omega (arith, within, c.loop-entry.invariant, c.mark.ensures, c.mark-begin.ensures);
       extends = extends_on c.args.out.now c.loop-entry.out c.put_entry.new.out c.loop-entry.invariant.extends c.in_ok-put_entry.ensures.extends;
       so_far = λ p rest listable.
-          let show : Entry → Option DirEntry = λ e. shown_entry (site_of c.args.lister.now.site.now) (record p { subject = c.args.lister.now.viewer.subject.0 }) (with_tree rest c.args.tree.now) c.args.lister.now.asked.now e (node_at c.args.tree.now.nodes e.node) in
+          let show : Entry → Option DirEntry = λ e. shown_entry (site_of c.args.lister.now.site.now) (record p { subject = c.args.lister.now.viewer.subject.0 }) (with_tree rest c.args.tree.now) c.args.lister.now.asking.asked.now e (node_at c.args.tree.now.nodes e.node) in
           let e : Entry = row_of_entry (id_of c.args.dir) c.in-Some.entry.now in
           let took = was_taken c.loop-entry.out c.put_entry.new.out _ (show e) c.in_ok-put_entry.field-0 c.in-Taken.is (c.in_ok-put_entry.ensures.entered p rest (id_of c.args.dir)) in
           one_more show c.args.tree.now.entries (id_of c.args.dir) c.args.cookie c.args.room c.args.out.now c.loop-entry.cookie (c.args.room - (c.mark.result - c.mark-begin.result)) c.loop-entry.out c.put_entry.new.out e took.0
@@ -34,7 +34,7 @@ loop-entry-preserved c =
 
 pub returns-in-Left-clause-walked : goal.returns-in-Left-clause-walked
 returns-in-Left-clause-walked c = λ p rest listable.
-    let show : Entry → Option DirEntry = λ e. shown_entry (site_of c.args.lister.now.site.now) (record p { subject = c.args.lister.now.viewer.subject.0 }) (with_tree rest c.args.tree.now) c.args.lister.now.asked.now e (node_at c.args.tree.now.nodes e.node) in
+    let show : Entry → Option DirEntry = λ e. shown_entry (site_of c.args.lister.now.site.now) (record p { subject = c.args.lister.now.viewer.subject.0 }) (with_tree rest c.args.tree.now) c.args.lister.now.asking.asked.now e (node_at c.args.tree.now.nodes e.node) in
     let e : Entry = row_of_entry (id_of c.args.dir) c.in-Some.entry.now in
     let left = was_left c.loop-entry.out c.put_entry.new.out _ (show e) c.in_ok-put_entry.field-0 c.in-Left.is (c.in_ok-put_entry.ensures.entered p rest (id_of c.args.dir)) in
     one_left show c.args.tree.now.entries (id_of c.args.dir) c.args.cookie c.args.room c.args.out.now c.loop-entry.cookie (c.args.room - (c.mark.result - c.mark-begin.result)) c.loop-entry.out c.put_entry.new.out _ e left.0
@@ -44,7 +44,7 @@ returns-in-Left-clause-walked c = λ p rest listable.
 
 pub returns-in-Denied-clause-walked : goal.returns-in-Denied-clause-walked
 returns-in-Denied-clause-walked c = λ p rest listable.
-    let show : Entry → Option DirEntry = λ e. shown_entry (site_of c.args.lister.now.site.now) (record p { subject = c.args.lister.now.viewer.subject.0 }) (with_tree rest c.args.tree.now) c.args.lister.now.asked.now e (node_at c.args.tree.now.nodes e.node) in
+    let show : Entry → Option DirEntry = λ e. shown_entry (site_of c.args.lister.now.site.now) (record p { subject = c.args.lister.now.viewer.subject.0 }) (with_tree rest c.args.tree.now) c.args.lister.now.asking.asked.now e (node_at c.args.tree.now.nodes e.node) in
     let e : Entry = row_of_entry (id_of c.args.dir) c.in-Some.entry.now in
     one_denied show c.args.tree.now.entries (id_of c.args.dir) c.args.cookie c.args.room c.args.out.now c.loop-entry.cookie c.loop-entry.out c.put_entry.new.out e
     (c.loop-entry.invariant.so_far p rest listable) listable.rise (c.in-Some.ensures.entry listable)
@@ -52,7 +52,7 @@ returns-in-Denied-clause-walked c = λ p rest listable.
 
 pub returns-clause-walked : goal.returns-clause-walked
 returns-clause-walked c = λ p rest listable.
-    let show : Entry → Option DirEntry = λ e. shown_entry (site_of c.args.lister.now.site.now) (record p { subject = c.args.lister.now.viewer.subject.0 }) (with_tree rest c.args.tree.now) c.args.lister.now.asked.now e (node_at c.args.tree.now.nodes e.node) in
+    let show : Entry → Option DirEntry = λ e. shown_entry (site_of c.args.lister.now.site.now) (record p { subject = c.args.lister.now.viewer.subject.0 }) (with_tree rest c.args.tree.now) c.args.lister.now.asking.asked.now e (node_at c.args.tree.now.nodes e.node) in
     all_shown show c.args.tree.now.entries (id_of c.args.dir) c.args.cookie c.args.room c.args.out.now c.loop-entry.cookie c.loop-entry.out _
     (c.loop-entry.invariant.so_far p rest listable) (c.in_default.ensures.entry listable)
     (ap (λ (n : ℕ). nat_lt n c.mark-2.result) c.mark-begin.ensures ∙ ap (nat_lt (length c.args.out.now)) c.mark-2.ensures)

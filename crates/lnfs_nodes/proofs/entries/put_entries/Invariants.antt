@@ -17,7 +17,7 @@ invariant-loop-entry l = record {
   within : length l.out ≤ length l.fn.out + l.room;
   extends : Extends l.fn.out l.out;
   so_far : (p : Place) (rest : World) → IsListable l.tree (id_of l.dir) →
-      SoFar (λ e. shown_entry (site_of l.lister.site.now) (record p { subject = l.lister.viewer.subject.0 }) (with_tree rest l.tree) l.lister.asked.now e (node_at l.tree.nodes e.node))
+      SoFar (λ e. shown_entry (site_of l.lister.site.now) (record p { subject = l.lister.viewer.subject.0 }) (with_tree rest l.tree) l.lister.asking.asked.now e (node_at l.tree.nodes e.node))
       l.tree.entries (id_of l.dir) l.fn.cookie l.cookie l.room l.fn.out l.out;
 }
 

@@ -15,7 +15,7 @@ returns-in_ok-put_end-in-Ended-clause-lists c = λ p rest d listable.
     let at : Place = record p { subject = c.args.lister.now.viewer.subject.0 } in
     listing_done site at d c.args.size c.args.out.now c.put_head.new.out c.put_entries.new.out c.put_end.new.out _ c.in-Ended.any c.in-Ended.eof
     (subst (Walks c.put_head.new.out c.put_entries.new.out _) c.in-Ended.is
-    (subst (λ (room : ℕ). Walks c.put_head.new.out c.put_entries.new.out (listed_in site at (with_tree rest c.args.tree.now) c.args.lister.now.asked.now (id_of c.args.dir) c.args.cookie room) c.in_ok-put_entries.field-0) c.saturating_sub-room.ensures
+    (subst (λ (room : ℕ). Walks c.put_head.new.out c.put_entries.new.out (listed_in site at (with_tree rest c.args.tree.now) c.args.lister.now.asking.asked.now (id_of c.args.dir) c.args.cookie room) c.in_ok-put_entries.field-0) c.saturating_sub-room.ensures
     (c.in_ok-put_entries.ensures.walked p rest listable)))
     (sym c.is_too_small.ensures ∙ c.if-is_too_small.false) c.in_ok-put_head.ensures c.in_ok-put_end-in-Ended.ensures
 

@@ -2,7 +2,7 @@ use Rattle.std.proofs.Common.{ℕ, Bool}
 use Rattle.std.specs.Prelude.{◌&&◌}
 use Rattle.lnfs_attrs.specs.Attributes.{is_listed, is_answered}
 use Rattle.lnfs_operations.proofs.BitmapLaws.{bitmap_told}
-use Rattle.lnfs_nodes.proofs.showing.mask_of.Goals as goal
+use Rattle.lnfs_nodes.proofs.masks.mask_of.Goals as goal
 
 pub returns : goal.returns
 returns c =
