@@ -1,4 +1,4 @@
-use Rattle.std.proofs.Common.{◌≡◌, ◌≤◌, ◌*◌, ℕ, length, take, true}
+use Rattle.std.proofs.Common.{◌≡◌, ◌≤◌, ◌*◌, length, take, true}
 use Rattle.std.specs.List.{flat_map}
 use Rattle.lnfs_attrs.specs.declared.view.View.{View}
 use Rattle.lnfs_attrs.specs.Attributes.{attr_text}
