@@ -1,3 +1,5 @@
 pub mod Counting
 pub mod Kept
+pub mod Bounded
+mod FewBytes
 pub mod FromHomes

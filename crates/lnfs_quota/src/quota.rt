@@ -63,20 +63,21 @@ impl Quota {
         (level.0 as usize) < self.rows.len()
     }
 
-    /// What a level uses: nodes, then bytes.
+    /// What a level uses: nodes, then bytes. One that isn't counted uses nothing.
     pub fn used(&self, level: Level) -> (u64, u64)
-        requires { level.0 < length self.now }
         ensures nodes { result.0 ≡ (row_at self.now level.0).nodes }
         ensures bytes { result.1 ≡ (row_at self.now level.0).bytes }
     {
-        let row = &self.rows[level.0 as usize];
-        (row.nodes, row.bytes)
+        match self.rows.get(level.0 as usize) {
+            Some(row) => (row.nodes, row.bytes),
+            None => (0, 0),
+        }
     }
 
     /// One more node whose home a level is.
     pub fn charge_node(&mut self, level: Level)
         requires known { level.0 < length self.old }
-        requires fits { (row_at self.old level.0).nodes + 1 < 2 ^ 63 }
+        requires fits { (row_at self.old level.0).nodes + 1 < 2 ^ 64 }
         ensures { self.new ≡ node_charged self.old level.0 }
     {
         self.rows[level.0 as usize].nodes += 1;
@@ -91,11 +92,11 @@ impl Quota {
         self.rows[level.0 as usize].nodes -= 1;
     }
 
-    /// A file of a level goes from `old` bytes to `new`.
+    /// A file of a level goes from `old` bytes to `new`. One that doesn't grow always fits.
     pub fn resize(&mut self, level: Level, old: u64, new: u64)
         requires known { level.0 < length self.old }
         requires held { old ≤ (row_at self.old level.0).bytes }
-        requires fits { (row_at self.old level.0).bytes - old + new < 2 ^ 63 }
+        requires fits { old < new → (row_at self.old level.0).bytes - old + new < 2 ^ 64 }
         ensures { self.new ≡ resized self.old level.0 old new }
     {
         let row = &mut self.rows[level.0 as usize];
@@ -116,7 +117,7 @@ impl Quota {
         requires from_known { from.0 < length self.old }
         requires to_known { to.0 < length self.old }
         requires held { bytes ≤ (row_at self.old from.0).bytes }
-        requires fits { (row_at self.old to.0).bytes + bytes < 2 ^ 63 }
+        requires fits { (row_at self.old to.0).bytes + bytes < 2 ^ 64 }
         ensures { self.new ≡ moved self.old from.0 to.0 bytes }
     {
         self.rows[from.0 as usize].bytes -= bytes;

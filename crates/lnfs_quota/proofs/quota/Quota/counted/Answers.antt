@@ -17,9 +17,9 @@ loop-home-preserved c =
     let i = c.loop-home.home-index in
     let d : Level = record { 0 = 0 } in
     elim c.if-knows.branch [
-      | then-knows w ↦ subst (λ (rows : List Row). IsCounted levels (take (i + 1) homes) rows) (sym (w.quota-is ∙ w.charge_node.ensures)) (counted-more levels homes c.loop-home.quota i d c.loop-home-test.true c.loop-home.invariant)
+      | then-knows w ↦ subst (λ (rows : List Row). IsCounted levels (take (i + 1) homes) rows) (sym (w.quota-is ∙ w.charge_node.ensures)) (counted-more levels homes c.loop-home.quota i d c.loop-home-test.true (sym c.knows.ensures ∙ w.if-knows.true) c.loop-home.invariant)
       | else-knows w ↦ subst (λ (rows : List Row). IsCounted levels (take (i + 1) homes) rows) (sym w.quota-is) (counted-passed levels homes c.loop-home.quota i d c.loop-home-test.true (sym c.knows.ensures ∙ w.if-knows.false) c.loop-home.invariant)
     ]
 
 pub returns : goal.returns
-returns c nodes are empty = counted-totals MAX_LEVELS c.args.homes.now c.loop-home.quota nodes (subst (λ (homes : List Level). IsCounted MAX_LEVELS homes c.loop-home.quota) (take_all c.loop-home.home-index c.args.homes.now c.loop-home-test.false) c.loop-home.invariant) are empty
+returns c nodes are empty bounds = counted-totals c.args.homes.now c.loop-home.quota nodes (subst (λ (homes : List Level). IsCounted MAX_LEVELS homes c.loop-home.quota) (take_all c.loop-home.home-index c.args.homes.now c.loop-home-test.false) c.loop-home.invariant) are empty bounds
