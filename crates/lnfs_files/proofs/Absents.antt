@@ -30,12 +30,14 @@ use Rattle.lnfs_nodes.specs.Trees.{refusal_of, Holds}
 use Rattle.lnfs_nodes.specs.declared.held.Held.{Held}
 use Rattle.lnfs_quota.specs.declared.quota.Row.{Row}
 use Rattle.lnfs_quota.specs.Quota.{node_charged}
-use Rattle.lnfs_quota.specs.Totals.{AreTotals}
+use Rattle.lnfs_quota.specs.Totals.{IsInBounds, AreTotals}
+use Rattle.lnfs_quota.proofs.Bounded.{empty_bounds}
 use Rattle.lnfs_nodes.proofs.Refusing.{refused_as}
 use Rattle.lnfs_nodes.proofs.Inserts.{seen, inserted}
 use Rattle.lnfs_tree.specs.declared.node.NodeId.{NodeId}
 use Rattle.lnfs_tree.specs.declared.node.Info.{Info}
 use Rattle.lnfs_files.specs.Worlds.{with_files}
+use Rattle.lnfs_files.specs.Charges.{IsListed}
 use Rattle.lnfs_files.specs.Openings.{where_makable, IsAbsentIn}
 use Rattle.lnfs_world.proofs.NewNames.{next_absent}
 use Rattle.lnfs_files.proofs.Makes.{no_room, no_number, all_room, Alike, Made, counts_made}
@@ -128,19 +130,22 @@ absent_in t h name a d holds = subst (λ (x : Node). (is_directory x.kind ≡ tr
 
 -- ---- totals
 
-made_counts : (rows : List Row) (dom : ℕ → ℕ → Bool) (t u : Rows) (d : Node) (name : List ℕ) (fresh : Fresh) (moment : Moment) (home : ℕ) → Alike rows → Made rows → AreTotals rows t.nodes → NodeFacts dom t.nodes t.entries t.lasts → node_at t.nodes d.id ≡ Some d → is_directory d.kind ≡ true → fresh.home.0 ≡ home
+made_counts : (rows : List Row) (dom : ℕ → ℕ → Bool) (t u : Rows) (d : Node) (name : List ℕ) (fresh : Fresh) (moment : Moment) (home : ℕ) → Alike rows → Made rows → AreTotals rows t.nodes → NodeFacts dom t.nodes t.entries t.lasts → node_at t.nodes d.id ≡ Some d → is_directory d.kind ≡ true → fresh.home.0 ≡ home → IsListed home → IsListed fresh.label.0
     → u ≡ ran (tree.made moment name fresh d (next_id t.lasts fresh.home.0)).changes t → AreTotals (node_charged rows home) u.nodes
-made_counts rows dom t u d name fresh moment home alike law totals facts at directory same e =
+made_counts rows dom t u d name fresh moment home alike law totals facts at directory same home_listed listed e =
     let i : Id = next_id t.lasts fresh.home.0 in
+    let n : Node = new_node moment fresh i in
+    let none : bytes_of n n.kind ≡ 0 = no_bytes moment fresh i in
+    let bounds : IsInBounds n = empty_bounds n (subst IsListed (sym same) home_listed) listed none in
     subst (λ (l : ℕ). AreTotals (node_charged rows l) u.nodes) same
-    (counts_made rows t u d (new_node moment fresh i) (name_added moment d.inner) (next_entry d name i) alike law totals at directory (next_absent dom t.nodes t.entries t.lasts facts fresh.home.0) (no_bytes moment fresh i) e)
+    (counts_made rows t u d n (name_added moment d.inner) (next_entry d name i) alike law totals at directory (next_absent dom t.nodes t.entries t.lasts facts fresh.home.0) bounds none e)
 
 -- in a directory that is held: what the tree did, and the totals
 pub made_in : (t u : Rows) (h : Held) (name : List ℕ) (a : IsAbsentIn t h name) (fresh : Fresh) (moment : Moment) (r : NodeId × Info) → Does {A = NodeId × Info} {B = Id × Info} seen (insert_of t (id_of h.id) name fresh moment) t u (Ok r)
     → u ≡ ran (tree.made moment name fresh a.0 (next_id t.lasts fresh.home.0)).changes t
 made_in t u h name a fresh moment r does = (inserted t u (id_of h.id) a.0 name fresh moment (ap (λ (i : Id). node_at t.nodes i) a.1.0.id ∙ a.1.0.node_is) a.1.1 a.1.2 r does).2
 
-pub counts_in : (rows : List Row) (dom : ℕ → ℕ → Bool) (t u : Rows) (h : Held) (name : List ℕ) (a : IsAbsentIn t h name) (fresh : Fresh) (moment : Moment) (home : ℕ) (r : NodeId × Info) → Alike rows → Made rows → AreTotals rows t.nodes → NodeFacts dom t.nodes t.entries t.lasts → fresh.home.0 ≡ home
+pub counts_in : (rows : List Row) (dom : ℕ → ℕ → Bool) (t u : Rows) (h : Held) (name : List ℕ) (a : IsAbsentIn t h name) (fresh : Fresh) (moment : Moment) (home : ℕ) (r : NodeId × Info) → Alike rows → Made rows → AreTotals rows t.nodes → NodeFacts dom t.nodes t.entries t.lasts → fresh.home.0 ≡ home → IsListed home → IsListed fresh.label.0
     → Does {A = NodeId × Info} {B = Id × Info} seen (insert_of t (id_of h.id) name fresh moment) t u (Ok r) → AreTotals (node_charged rows home) u.nodes
-counts_in rows dom t u h name a fresh moment home r alike law totals facts same does =
-    made_counts rows dom t u a.0 name fresh moment home alike law totals facts a.1.0.node_is a.1.1 same (made_in t u h name a fresh moment r does)
+counts_in rows dom t u h name a fresh moment home r alike law totals facts same home_listed listed does =
+    made_counts rows dom t u a.0 name fresh moment home alike law totals facts a.1.0.node_is a.1.1 same home_listed listed (made_in t u h name a fresh moment r does)

@@ -19,3 +19,4 @@ pub mod Givens
 pub mod Leads
 pub mod Absents
 pub mod OpenFiles
+pub mod Listed

@@ -32,7 +32,7 @@ use Rattle.lnfs_open.specs.declared.keys.OpenRef.{OpenRef}
 use Rattle.lnfs_open.specs.declared.keys.OpenError.TheVariants.{Full}
 use Rattle.lnfs_quota.specs.declared.quota.Row.{Row}
 use Rattle.lnfs_quota.specs.Quota.{node_charged}
-use Rattle.lnfs_quota.specs.Totals.{AreTotals}
+use Rattle.lnfs_quota.specs.Totals.{IsInBounds, AreTotals}
 use Rattle.lnfs_files.specs.Worlds.{with_files}
 use Rattle.lnfs_files.specs.Acts.{Succeeds}
 use Rattle.lnfs_files.specs.declared.opened.Opened as code_opened
@@ -87,16 +87,16 @@ abbrev pub Alike : List Row → Type 0
 Alike rows = (i : Id) (inner : Inner) (n : Node) (w : World) → AreTotals rows w.nodes → node_at w.nodes i ≡ Some n → bytes_of (record n { inner = inner }) n.kind ≡ bytes_of n n.kind → AreTotals rows (apply (Touch i inner) w).nodes
 
 abbrev pub Made : List Row → Type 0
-Made rows = (n : Node) (entry : Entry) (w : World) → AreTotals rows w.nodes → node_at w.nodes n.id ≡ None → bytes_of n n.kind ≡ 0 → AreTotals (node_charged rows n.id.level) (apply (Make n entry) w).nodes
+Made rows = (n : Node) (entry : Entry) (w : World) → AreTotals rows w.nodes → node_at w.nodes n.id ≡ None → IsInBounds n → bytes_of n n.kind ≡ 0 → AreTotals (node_charged rows n.id.level) (apply (Make n entry) w).nodes
 
 no_bytes : (d : Node) (inner : Inner) (k : Kind) → is_directory k ≡ true → bytes_of (record d { inner = inner }) k ≡ bytes_of d k
 no_bytes d inner k e = grind arith
 
-pub counts_made : (rows : List Row) (t u : Rows) (d n : Node) (inner : Inner) (entry : Entry) → Alike rows → Made rows → AreTotals rows t.nodes → node_at t.nodes d.id ≡ Some d → is_directory d.kind ≡ true → node_at t.nodes n.id ≡ None → bytes_of n n.kind ≡ 0
+pub counts_made : (rows : List Row) (t u : Rows) (d n : Node) (inner : Inner) (entry : Entry) → Alike rows → Made rows → AreTotals rows t.nodes → node_at t.nodes d.id ≡ Some d → is_directory d.kind ≡ true → node_at t.nodes n.id ≡ None → IsInBounds n → bytes_of n n.kind ≡ 0
     → u ≡ ran (Touch d.id inner ∷ Make n entry ∷ []) t → AreTotals (node_charged rows n.id.level) u.nodes
-counts_made rows t u d n inner entry alike law totals at directory absent none e =
+counts_made rows t u d n inner entry alike law totals at directory absent bounds none e =
     subst (λ (x : Rows). AreTotals (node_charged rows n.id.level) x.nodes) (sym e)
-    (law n entry (apply (Touch d.id inner) (world_of t)) (alike d.id inner d (world_of t) totals at (no_bytes d inner d.kind directory)) (touch_absent n.id d.id inner t.nodes absent) none)
+    (law n entry (apply (Touch d.id inner) (world_of t)) (alike d.id inner d (world_of t) totals at (no_bytes d inner d.kind directory)) (touch_absent n.id d.id inner t.nodes absent) bounds none)
 
 -- ---- what is made
 

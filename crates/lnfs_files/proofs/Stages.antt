@@ -44,6 +44,10 @@ pub err_refused : {A : Type 0} (r : Result A Refusal) (why : Refusal) → IsErrA
 err_refused (Ok a) why is = absurd is
 err_refused (Err e) why is = ap (λ (x : Refusal). Some (refusal_of x)) is
 
+pub err_is : (r : Result (Unit {0}) Refusal) (why : Refusal) → IsErrAnd r (λ e. e ≡ why) → r ≡ Err why
+err_is (Ok a) why is = absurd is
+err_is (Err e) why is = ap (λ (x : Refusal). Err x) is
+
 pub err_failed : (r : Result (Unit {0}) Refusal) (why : Refusal) → IsErrAnd r (λ e. e ≡ why) → failed r ≡ Some (refusal_of why)
 err_failed (Ok a) why is = absurd is
 err_failed (Err e) why is = ap (λ (x : Refusal). Some (refusal_of x)) is

@@ -1,6 +1,8 @@
 -- WRITE of a file that may be written: what the tree did of it, and what becomes of the totals.
-use Rattle.std.proofs.Common.{◌≡◌, ◌≤◌, ◌-◌, ◌+◌, ℕ, Bool, true, false, cond, not, List, [], ◌∷◌, length, Option, Some, None, Result, Ok, Err, refl, sym, ap, ◌∙◌, subst, arith}
+use Rattle.std.proofs.Common.{◌≡◌, ◌<◌, ◌≤◌, ◌-◌, ◌+◌, ℕ, Bool, true, false, cond, not, List, [], ◌∷◌, length, Option, Some, None, Result, Ok, Err, refl, sym, ap, ◌∙◌, subst, arith}
 use Rattle.std.specs.Prelude.{nat_le, if◌then◌else◌}
+use Rattle.std.proofs.lemmas.Bool.Decides.{nat_tests}
+use Rattle.lnfs_calipso.specs.declared.lattice.TheConstants.{MAX_LEVELS}
 use Rattle.lnfs_words.specs.Words.{is_empty}
 use Rattle.lnfs_arguments.specs.declared.statuses.TheConstants.{NFS4ERR_FBIG, NFS4ERR_DQUOT}
 use Rattle.lnfs_world.specs.World.{Id, Kind, File, Directory, SymbolicLink, Inner, Node, World, node_at}
@@ -21,9 +23,10 @@ use Rattle.lnfs_tree.specs.Rows.{Rows, id_of, kind_of, of_file, on_file, file_fo
 use Rattle.lnfs_tree.specs.Changed.{Doing, Does, ran, test, writes, write_of}
 use Rattle.lnfs_tree.specs.Places.{world_of}
 use Rattle.lnfs_quota.specs.declared.quota.Row.{Row}
-use Rattle.lnfs_quota.specs.Quota.{resized}
-use Rattle.lnfs_quota.specs.Totals.{AreTotals, label_share}
-use Rattle.lnfs_quota.proofs.Kept.{label_own, sums_of, totals_of, sums-resized}
+use Rattle.lnfs_quota.specs.Quota.{row_at, resized}
+use Rattle.lnfs_quota.specs.Totals.{IsInBounds, AreTotals, label_share}
+use Rattle.lnfs_quota.proofs.Kept.{label_own, resized_levels, sums_of, totals_of, sums-resized}
+use Rattle.lnfs_quota.proofs.Bounded.{bounds_found}
 use Rattle.lnfs_quota.proofs.Counting.{sum-held}
 use Rattle.lnfs_content.proofs.Bytes.{length-written}
 use Rattle.lnfs_open.specs.Lists.{Lists}
@@ -146,12 +149,12 @@ module _ (p : Place) (t u : Rows) (n : Node) (h : Held) (args : Arguments) (hold
 -- ---- the totals
 
 -- what is told of the label and of the bytes of a node that is held is counted
-pub is_counted : (rows : List Row) (t : Rows) (h : Held) (bytes : ℕ) → IsThere t h → ((n : Node) → Holds t n h → bytes_of n n.kind ≡ bytes) → AreTotals rows t.nodes → ((i : Id) (n : Node) → AreTotals rows t.nodes → node_at t.nodes i ≡ Some n → AreBytesHeld rows n.label (bytes_of n n.kind)) → AreBytesHeld rows h.facts.label.0 bytes
-is_counted rows t h bytes there same totals law =
+pub is_counted : (rows : List Row) (t : Rows) (h : Held) (bytes : ℕ) → IsThere t h → ((n : Node) → Holds t n h → bytes_of n n.kind ≡ bytes) → AreTotals rows t.nodes → ((i : Id) (n : Node) → AreTotals rows t.nodes → node_at t.nodes i ≡ Some n → bytes_of n n.kind ≤ (row_at rows n.label).bytes) → ((i : Id) (n : Node) → AreTotals rows t.nodes → node_at t.nodes i ≡ Some n → IsInBounds n) → AreBytesHeld rows h.facts.label.0 bytes
+is_counted rows t h bytes there same totals counted bounds =
     let n = there.0 in
     let holds = there.1 in
     subst (λ (x : ℕ). AreBytesHeld rows h.facts.label.0 x) (same n holds)
-    (subst (λ (l : ℕ). AreBytesHeld rows l (bytes_of n n.kind)) (sym holds.tells.label) (law n.id n totals holds.node_is))
+    (subst (λ (l : ℕ). AreBytesHeld rows l (bytes_of n n.kind)) (sym holds.tells.label) ((let label : n.label < MAX_LEVELS = (bounds n.id n totals holds.node_is).label in let many : length rows ≡ MAX_LEVELS = totals.levels in omega arith), counted n.id n totals holds.node_is))
 
 -- the size, by the data as it is told
 pub fits_so : (offset : ℕ) (bytes content inner : List ℕ) (x : ℕ) → content ≡ inner → Some x ≡ fitting_size (size_written offset bytes content) → (nat_le (size_written offset bytes inner) MOST_FILE ≡ true) × (x ≡ size_written offset bytes inner)
@@ -165,6 +168,9 @@ pub past : (r q : Bool) → r ≡ false → r ≡ not q → q ≡ true
 past r true a b = refl
 past r false a b = absurd cc
 
+within_most : (size : ℕ) → nat_le size MOST_FILE ≡ true → size ≤ MOST_FILE
+within_most size is = grind (arith, nat_tests, is)
+
 -- how many bytes there are afterwards
 module _ (rows : List Row) (t u : Rows) (n : Node) (totals : AreTotals rows t.nodes) (at : node_at t.nodes n.id ≡ Some n) (kind : n.kind ≡ File) where
   own : bytes_of n n.kind ≡ length n.inner.content
@@ -176,12 +182,16 @@ module _ (rows : List Row) (t u : Rows) (n : Node) (totals : AreTotals rows t.no
       let within : label_share n n.label ≤ bytes_used t.nodes n.label = sum-held (λ m. label_share m n.label) n.id n t.nodes at in
       let size : bytes_of n n.kind ≡ length n.inner.content = own in
       let held : length n.inner.content ≤ bytes_used t.nodes n.label = omega arith in
-      totals_of t.nodes (sums-resized (sums_of totals) n.label (length n.inner.content) (length n.inner.content) (bytes_used t.nodes) held (λ k. refl)) (λ k. refl) (λ k. refl)
+      let label : n.label < MAX_LEVELS = (bounds_found n.id n t.nodes totals.bounds at).label in
+      let many : length rows ≡ MAX_LEVELS = totals.levels in
+      let known : n.label < length rows = omega arith in
+      totals_of t.nodes (sums-resized (sums_of totals) n.label (length n.inner.content) (length n.inner.content) (bytes_used t.nodes) known held (λ k. refl)) (λ k. refl) (λ k. refl)
+      (resized_levels rows n.label (length n.inner.content) (length n.inner.content) ∙ totals.levels) totals.bounds
 
   module _ (p : Place) (args : Arguments)
-      (law : (inner : Inner) → AreTotals (resized rows n.label (bytes_of n n.kind) (bytes_of (record n { inner = inner }) n.kind)) (apply (Touch n.id inner) (world_of t)).nodes) where
-    pub written_totals : u ≡ ran (data_written p n args) t → AreTotals (resized rows n.label (length n.inner.content) (size_written args.offset args.content n.inner.content)) u.nodes
-    written_totals is = subst (λ (x : Rows). AreTotals (resized rows n.label (length n.inner.content) (size_written args.offset args.content n.inner.content)) x.nodes) (sym is) (by args.content)
+      (law : (inner : Inner) → bytes_of (record n { inner = inner }) n.kind ≤ MOST_FILE → AreTotals (resized rows n.label (bytes_of n n.kind) (bytes_of (record n { inner = inner }) n.kind)) (apply (Touch n.id inner) (world_of t)).nodes) where
+    pub written_totals : nat_le (size_written args.offset args.content n.inner.content) MOST_FILE ≡ true → u ≡ ran (data_written p n args) t → AreTotals (resized rows n.label (length n.inner.content) (size_written args.offset args.content n.inner.content)) u.nodes
+    written_totals few is = subst (λ (x : Rows). AreTotals (resized rows n.label (length n.inner.content) (size_written args.offset args.content n.inner.content)) x.nodes) (sym is) (by args.content few)
       where
         after : List ℕ → Inner
         after bytes = data_changed p.moment (written args.offset bytes n.inner.content) n.inner
@@ -191,8 +201,8 @@ module _ (rows : List Row) (t u : Rows) (n : Node) (totals : AreTotals rows t.no
             let long : length (written args.offset (b ∷ bytes) n.inner.content) ≡ args.offset + (length (b ∷ bytes) + (length n.inner.content - (args.offset + length (b ∷ bytes)))) = length-written args.offset (b ∷ bytes) n.inner.content in
             ap (bytes_of (record n { inner = after (b ∷ bytes) })) kind ∙ long ∙ omega arith
 
-        by : (bytes : List ℕ) → AreTotals (resized rows n.label (length n.inner.content) (size_written args.offset bytes n.inner.content)) (ran (cond (is_empty bytes) [] (Touch n.id (after bytes) ∷ [])) t).nodes
-        by [] = unwritten
-        by (b ∷ bytes) =
+        by : (bytes : List ℕ) → nat_le (size_written args.offset bytes n.inner.content) MOST_FILE ≡ true → AreTotals (resized rows n.label (length n.inner.content) (size_written args.offset bytes n.inner.content)) (ran (cond (is_empty bytes) [] (Touch n.id (after bytes) ∷ [])) t).nodes
+        by [] few = unwritten
+        by (b ∷ bytes) few =
             subst (λ (old : ℕ). AreTotals (resized rows n.label old (size_written args.offset (b ∷ bytes) n.inner.content)) (touched n.id (after (b ∷ bytes)) t.nodes)) own
-            (subst (λ (new : ℕ). AreTotals (resized rows n.label (bytes_of n n.kind) new) (touched n.id (after (b ∷ bytes)) t.nodes)) (size b bytes) (law (after (b ∷ bytes))))
+            (subst (λ (new : ℕ). AreTotals (resized rows n.label (bytes_of n n.kind) new) (touched n.id (after (b ∷ bytes)) t.nodes)) (size b bytes) (law (after (b ∷ bytes)) (subst (λ (new : ℕ). new ≤ MOST_FILE) (sym (size b bytes)) (within_most _ few))))

@@ -1,5 +1,5 @@
 //! OPEN of a name that isn't there: a file is made, where one is to be.
-ghost use Rattle.std.specs.Prelude.{◌≡◌, ◌&&◌, true, Some, List, IfOk, OnErr, OnOk, nat_lt};
+ghost use Rattle.std.specs.Prelude.{◌≡◌, ◌&&◌, true, Some, List, IfOk, IfSome, OnErr, nat_lt};
 ghost use Rattle.std.specs.List.{AllByRecursion};
 ghost use Rattle.std.specs.Option.{option_map};
 ghost use Rattle.lnfs_world.specs.World.{Node, World, label_at};
@@ -20,7 +20,7 @@ ghost use Rattle.lnfs_quota.specs.Totals.{AreTotals};
 ghost use Rattle.lnfs_files.specs.Worlds.{with_files};
 ghost use Rattle.lnfs_files.specs.Acts.{ActsTo};
 ghost use Rattle.lnfs_files.specs.Openings.{args_of, wanted_of, opened_of, IsAbsentIn, IsOrMade};
-ghost use Rattle.lnfs_files.specs.Charges.{MayRise};
+ghost use Rattle.lnfs_files.specs.Charges.{MayRise, IsListed};
 
 use crate::charging::room_for;
 use crate::opened::{Opened, state_id_of};
@@ -70,6 +70,7 @@ fn fresh_file(
     wanted: Wanted,
 ) -> Result<Fresh, AllocError>
     ensures home { IfOk result (λ fresh. fresh.home ≡ dir.now.facts.label) }
+    ensures label { IfOk result (λ fresh. fresh.label ≡ label) }
     ensures node { IfOk result (λ fresh. (d : Node) (p : Place) (w : World) → Holds tree.now d dir.now → label.0 ≡ level_or d.label (option_map given_of wanted.label) →
         tree_changed.new_node p.moment fresh (next_id w.lasts.nodes d.label)
         ≡ operation.new_file (site_of opener.now.site.now) (record p { subject = opener.now.caller.now.subject.0 }) w making.now (wanted_of wanted) d) }
@@ -93,18 +94,13 @@ fn fresh_file(
 }
 
 /// Whether a level may have one more node, and the client one more open.
-fn has_room(
-    opener: &Opener<'_>,
-    opens: &Opens,
-    quota: &Quota,
-    home: Level,
-) -> Result<bool, AllocError>
-    ensures room { IfOk result (λ room. (nodes : List Node) → AreTotals quota.now nodes →
-        room ≡ (nat_lt (nodes_used nodes home.0) ((site_of opener.now.site.now).nodes home.0) && has_open_left opens.now opener.now.client.level.0)) }
-    ensures rises { OnOk result (MayRise quota.now home.0) }
+fn has_room(opener: &Opener<'_>, opens: &Opens, quota: &Quota, home: Level) -> bool
+    ensures room { (nodes : List Node) → AreTotals quota.now nodes →
+        result ≡ (nat_lt (nodes_used nodes home.0) ((site_of opener.now.site.now).nodes home.0) && has_open_left opens.now opener.now.client.level.0) }
+    ensures rises { result ≡ true → MayRise quota.now home.0 }
 {
-    let room = room_for(opener.site, quota, home)?;
-    Ok(room && opens.room(opener.client, opener.args.owner, None).is_ok())
+    let room = room_for(opener.site, quota, home);
+    room && opens.room(opener.client, opener.args.owner, None).is_ok()
 }
 
 /// Makes a file in a directory that hasn't its name, and opens it.
@@ -130,6 +126,7 @@ pub fn open_absent(
     requires facts { NodeFacts (site_of opener.now.site.now).dom tree.old.nodes tree.old.entries tree.old.lasts }
     requires opens { AllByRecursion (λ o. is_good_open (site_of opener.now.site.now).dom (label_at tree.old.nodes) o ≡ true) opens.old.opens }
     requires counts { AreTotals quota.old tree.old.nodes }
+    requires listed { IfSome wanted.label (λ given. IsListed given.level.0) }
     ensures acts { IfOk result (λ told. (p : Place) (rest : World) (d : Node) → Holds tree.old d dir.now →
         let at = placed p opener.now.caller.now in
         ActsTo opened_of (λ o. record at { current = Some (id_of o.node) }) at rest tree.old tree.new opens.old opens.new
@@ -146,7 +143,7 @@ pub fn open_absent(
     if let Err(why) = check_makable(opener.site, caller.subject, args, dir, label) {
         return Ok(Err(why));
     }
-    if !has_room(opener, opens, quota, home)? {
+    if !has_room(opener, opens, quota, home) {
         return Ok(Err(no_space()));
     }
     let set = wanted.set;

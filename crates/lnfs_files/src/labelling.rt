@@ -1,6 +1,6 @@
 //! A label that SETATTR sets: as it is spelled where labels are carried alone, and else by its level (RFC 7862 section
 //! 12.2.4).
-ghost use Rattle.std.specs.Prelude.{◌≡◌, ◌==◌, false, Ok, IfOk, OnErr, length};
+ghost use Rattle.std.specs.Prelude.{◌≡◌, ◌==◌, false, Ok, length};
 ghost use Rattle.std.specs.Option.{option_map};
 ghost use Rattle.lnfs_attrs.specs.declared.bitmap.Bitmap as bitmap;
 ghost use Rattle.lnfs_monitor.specs.Rules.{Write, Raise};
@@ -22,19 +22,17 @@ ghost use Rattle.lnfs_nodes.specs.Trees.{Holds, IsHeld, held_in, refusal_of, den
 ghost use Rattle.lnfs_nodes.specs.Acts.{placed};
 ghost use Rattle.lnfs_files.specs.Worlds.{with_files};
 ghost use Rattle.lnfs_files.specs.Acts.{Acts};
-ghost use Rattle.lnfs_files.specs.Charges.{MayMove};
+ghost use Rattle.lnfs_files.specs.Charges.{IsListed};
 
-use crate::charging::check_move;
 use lnfs_arguments::statuses::NFS4ERR_NOTEMPTY;
 use lnfs_calipso::Level;
 use lnfs_monitor::Question;
 use lnfs_nodes::{Caller, Held, denied, label_shown, namespace};
 use lnfs_operations::Refusal;
-use lnfs_quota::{Quota, totals};
+use lnfs_quota::{Quota, fitting, totals};
 use lnfs_site::Site;
 use lnfs_tree::{NodeKind, Tree};
 use lnfs_world::Stored;
-use std::alloc::AllocError;
 
 // ---- as it is spelled
 
@@ -150,7 +148,7 @@ fn put_level(
     requires counts { AreTotals quota.old tree.old.nodes }
     requires held { IsHeld tree.old (held_in tree.old.nodes (option_map id_of caller.now.current)) (Ok held.now) }
     requires bytes { (t : Rows) (n : Node) → Holds t n held.now → bytes ≡ bytes_of n n.kind }
-    requires moves { MayMove quota.old held.now.facts.label.0 level.0 bytes }
+    requires listed { IsListed level.0 }
     requires other { (level.0 == held.now.facts.label.0) ≡ false }
     ensures acts { (n : Node) (p : Place) (rest : World) (opens : Lists) (set : bitmap.Bitmap) → Holds tree.old n held.now →
         let at = placed p caller.now in
@@ -158,8 +156,9 @@ fn put_level(
     ensures counts { AreTotals quota.new tree.new.nodes }
     ensures levels { length quota.new ≡ length quota.old }
 {
-    // The call says what another label does to the totals.
+    // The calls say what another label does to the totals, and that they hold the bytes.
     totals();
+    fitting();
     match tree.raise(held.id, level, caller.moment) {
         Ok(()) => {
             quota.move_up(held.facts.label, level, bytes);
@@ -171,11 +170,7 @@ fn put_level(
 }
 
 /// Sets the level of a label. A level that is the node's own changes nothing, and a directory keeps its label as long as
-/// it holds names. The bytes of a file are counted in the new level, whatever its limit.
-///
-/// # Errors
-///
-/// `AllocError` of levels that aren't counted, and of one whose total rises no more. Then nothing has changed.
+/// it holds names. The bytes of a file are counted in the new level, whatever its limit. Takes no memory.
 pub fn raise(
     site: &Site<'_>,
     tree: &mut Tree,
@@ -183,30 +178,25 @@ pub fn raise(
     caller: &Caller,
     held: &Held,
     level: Level,
-) -> Result<Result<(), Refusal>, AllocError>
+) -> Result<(), Refusal>
     requires facts { NodeFacts (site_of site.now).dom tree.old.nodes tree.old.entries tree.old.lasts }
     requires counts { AreTotals quota.old tree.old.nodes }
     requires held { IsHeld tree.old (held_in tree.old.nodes (option_map id_of caller.now.current)) (Ok held.now) }
-    ensures acts { IfOk result (λ told. (n : Node) (p : Place) (rest : World) (opens : Lists) (set : bitmap.Bitmap) → Holds tree.old n held.now →
+    requires listed { IsListed level.0 }
+    ensures acts { (n : Node) (p : Place) (rest : World) (opens : Lists) (set : bitmap.Bitmap) → Holds tree.old n held.now →
         let at = placed p caller.now in
         Acts (λ it. set) at rest tree.old tree.new opens opens
         (where_allowed (site_of site.now) at (Raise n.label (parent_labels tree.old.nodes tree.old.entries n.id) level.0)
-        (raised at (with_files rest tree.old opens) n level.0 set)) told) }
+        (raised at (with_files rest tree.old opens) n level.0 set)) result }
     ensures counts { AreTotals quota.new tree.new.nodes }
     ensures levels { length quota.new ≡ length quota.old }
-    ensures kept { OnErr result (tree.new ≡ tree.old) }
-    ensures uncharged { OnErr result (quota.new ≡ quota.old) }
 {
-    // The call says that the node's bytes are counted in its label.
-    totals();
     if let Some(why) = raise_denied(site, tree, caller.subject, held, level) {
-        return Ok(Err(why));
+        return Err(why);
     }
-    let label = held.facts.label;
-    if level == label {
-        return Ok(Ok(()));
+    if level == held.facts.label {
+        return Ok(());
     }
     let bytes = counted_bytes(held);
-    check_move(quota, label, level, bytes)?;
-    Ok(put_level(tree, quota, caller, held, level, bytes))
+    put_level(tree, quota, caller, held, level, bytes)
 }

@@ -1,5 +1,5 @@
 //! OPEN (RFC 8881 section 18.16).
-ghost use Rattle.std.specs.Prelude.{◌≡◌, true, Some, Ok, IfOk, OnErr};
+ghost use Rattle.std.specs.Prelude.{◌≡◌, true, Some, Ok, IfOk, IfSome, OnErr};
 ghost use Rattle.std.specs.Option.{option_map};
 ghost use Rattle.std.specs.List.{AllByRecursion};
 ghost use Rattle.lnfs_world.specs.World.{Node, World, label_at, is_directory};
@@ -15,6 +15,7 @@ ghost use Rattle.lnfs_nodes.specs.Acts.{placed};
 ghost use Rattle.lnfs_quota.specs.Totals.{AreTotals};
 ghost use Rattle.lnfs_files.specs.Worlds.{with_files};
 ghost use Rattle.lnfs_files.specs.Acts.{ActsTo};
+ghost use Rattle.lnfs_files.specs.Charges.{IsListed};
 ghost use Rattle.lnfs_files.specs.Openings.{args_of, wanted_of, opened_of, where_readable, Leads, Finds, IsOrMade};
 
 use crate::absent::open_absent;
@@ -87,6 +88,7 @@ fn open_name(
     requires facts { NodeFacts (site_of opener.now.site.now).dom tree.old.nodes tree.old.entries tree.old.lasts }
     requires opens { AllByRecursion (λ o. is_good_open (site_of opener.now.site.now).dom (label_at tree.old.nodes) o ≡ true) opens.old.opens }
     requires counts { AreTotals quota.old tree.old.nodes }
+    requires listed { IfSome wanted.label (λ given. IsListed given.level.0) }
     ensures acts { IfOk result (λ told. (p : Place) (rest : World) →
         let at = placed p opener.now.caller.now in
         ActsTo opened_of (λ o. record at { current = Some (id_of o.node) }) at rest tree.old tree.new opens.old opens.new
@@ -157,6 +159,7 @@ fn open_claimed(
     requires facts { NodeFacts (site_of opener.now.site.now).dom tree.old.nodes tree.old.entries tree.old.lasts }
     requires opens { AllByRecursion (λ o. is_good_open (site_of opener.now.site.now).dom (label_at tree.old.nodes) o ≡ true) opens.old.opens }
     requires counts { AreTotals quota.old tree.old.nodes }
+    requires listed { IfSome wanted.label (λ given. IsListed given.level.0) }
     ensures acts { IfOk result (λ told. (p : Place) (rest : World) →
         let at = placed p opener.now.caller.now in
         ActsTo opened_of (λ o. record at { current = Some (id_of o.node) }) at rest tree.old tree.new opens.old opens.new

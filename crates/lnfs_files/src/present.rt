@@ -13,7 +13,6 @@ ghost use Rattle.lnfs_files.specs.Acts.{ActsTo};
 ghost use Rattle.lnfs_files.specs.Openings.{args_of, wanted_of, opened_of, IsThere};
 
 use crate::asked::Opening;
-use crate::charging::byte_room;
 use crate::opened::{Opened, cut_set, state_id_of};
 use crate::references::node_key;
 use crate::sharing::check_openable;
@@ -73,11 +72,6 @@ pub fn open_present(
     if let Err(why) = check_openable(site, opens, caller, client, args, sized, held) {
         return Ok(Err(why));
     }
-    if sized {
-        // The call says that the file's bytes are counted in its label. One that is cut stays within the limit.
-        totals();
-        byte_room(site, quota, held.facts.label, held.facts.size, 0)?;
-    }
     let node = node_key(held.id);
     let id = match opens.open(client, args.owner, node, args.share(), args.deny) {
         Ok(id) => id,
@@ -89,6 +83,8 @@ pub fn open_present(
         },
     };
     if sized {
+        // The call says that the file's bytes are counted in its label.
+        totals();
         put_size(tree, quota, held, 0, caller.moment);
     }
     Ok(Ok(Opened {

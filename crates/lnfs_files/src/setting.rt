@@ -14,9 +14,11 @@ ghost use Rattle.lnfs_nodes.specs.Acts.{placed};
 ghost use Rattle.lnfs_nodes.specs.GivenValues.{wanted_of};
 ghost use Rattle.lnfs_files.specs.Worlds.{with_files};
 ghost use Rattle.lnfs_files.specs.Acts.{Acts};
+ghost use Rattle.lnfs_files.specs.Charges.{IsListed};
 ghost use Rattle.lnfs_files.specs.Setting.{size_refusal, wanted_done};
 
 use crate::labelling::{raise, respell};
+use crate::listing::are_listed;
 use crate::values::set_values;
 use lnfs_arguments::StateId;
 use lnfs_arguments::statuses::{NFS4ERR_INVAL, NFS4ERR_ISDIR};
@@ -43,11 +45,7 @@ fn size_refused(sized: bool, kind: NodeKind) -> Option<Refusal>
     }
 }
 
-/// Sets what is wanted of a node.
-///
-/// # Errors
-///
-/// `AllocError` where there is no memory. Then nothing has changed.
+/// Sets what is wanted of a node. Takes no memory.
 fn set_wanted(
     site: &Site<'_>,
     tree: &mut Tree,
@@ -58,18 +56,17 @@ fn set_wanted(
     held: &Held,
     id: &StateId,
     wanted: Wanted,
-) -> Result<Result<(), Refusal>, AllocError>
+) -> Result<(), Refusal>
     requires facts { NodeFacts (site_of site.now).dom tree.old.nodes tree.old.entries tree.old.lasts }
     requires counts { AreTotals quota.old tree.old.nodes }
     requires held { IsHeld tree.old (held_in tree.old.nodes (option_map id_of caller.now.current)) (Ok held.now) }
     requires file { IfSome wanted.size (λ size. kind_of held.now.facts.kind ≡ File) }
-    ensures acts { IfOk result (λ told. (n : Node) (p : Place) (rest : World) (set : bitmap.Bitmap) → p.client ≡ client → Holds tree.old n held.now →
+    requires listed { IfSome wanted.label (λ given. IsListed given.level.0) }
+    ensures acts { (n : Node) (p : Place) (rest : World) (set : bitmap.Bitmap) → p.client ≡ client → Holds tree.old n held.now →
         let at = placed p caller.now in
-        Acts (λ it. set) at rest tree.old tree.new opens.now opens.now (wanted_done (site_of site.now) id.now at (with_files rest tree.old opens.now) n (wanted_of wanted) set) told) }
+        Acts (λ it. set) at rest tree.old tree.new opens.now opens.now (wanted_done (site_of site.now) id.now at (with_files rest tree.old opens.now) n (wanted_of wanted) set) result }
     ensures counts { AreTotals quota.new tree.new.nodes }
     ensures levels { length quota.new ≡ length quota.old }
-    ensures kept { OnErr result (tree.new ≡ tree.old) }
-    ensures uncharged { OnErr result (quota.new ≡ quota.old) }
 {
     let Some(given) = wanted.label else {
         let Wanted { size, mode, .. } = wanted;
@@ -78,7 +75,7 @@ fn set_wanted(
         );
     };
     if site.is_limited() {
-        Ok(respell(site, tree, quota, caller, held, given.spelled))
+        respell(site, tree, quota, caller, held, given.spelled)
     } else {
         raise(site, tree, quota, caller, held, given.level)
     }
@@ -116,6 +113,8 @@ pub fn set_attr(
     ensures kept { OnErr result (tree.new ≡ tree.old) }
     ensures uncharged { OnErr result (quota.new ≡ quota.old) }
 {
+    // The call says that a label that is given is one of those that a policy may list.
+    are_listed(site);
     let wanted = match read_wanted(alloc, site, given)? {
         Ok(wanted) => wanted,
         Err(why) => return Ok(Err(why)),
@@ -127,7 +126,7 @@ pub fn set_attr(
     if let Some(why) = size_refused(wanted.size.is_some(), held.facts.kind) {
         return Ok(Err(why));
     }
-    match set_wanted(site, tree, opens, quota, caller, client, &held, id, wanted)? {
+    match set_wanted(site, tree, opens, quota, caller, client, &held, id, wanted) {
         Ok(()) => Ok(Ok(set_of(given))),
         Err(why) => Ok(Err(why)),
     }

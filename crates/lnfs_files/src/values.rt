@@ -1,5 +1,5 @@
 //! The attributes but the label that SETATTR sets: the size of a file, and a mode (RFC 8881 section 18.30).
-ghost use Rattle.std.specs.Prelude.{◌≡◌, ◌||◌, ◌≤◌, true, List, [], ◌∷◌, Ok, Some, None, is_some, cond, IfOk, IfSome, OnOk, OnErr, length};
+ghost use Rattle.std.specs.Prelude.{◌≡◌, ◌||◌, ◌≤◌, true, List, [], ◌∷◌, Ok, Some, None, is_some, cond, IfSome, OnOk, length};
 ghost use Rattle.std.specs.Option.{option_map};
 ghost use Rattle.lnfs_attrs.specs.declared.bitmap.Bitmap as bitmap;
 ghost use Rattle.lnfs_monitor.specs.Rules.{Write};
@@ -24,7 +24,7 @@ ghost use Rattle.lnfs_files.specs.Charges.{MayResize};
 ghost use Rattle.lnfs_files.specs.Openings.{IsThere};
 ghost use Rattle.lnfs_files.specs.Setting.{unlabelled};
 
-use crate::charging::byte_room;
+use crate::charging::{byte_room, is_numbered};
 use crate::state_ids::{Way, check_usable};
 use crate::writing::past_quota;
 use lnfs_arguments::StateId;
@@ -39,7 +39,6 @@ use lnfs_site::Site;
 use lnfs_tree::{NodeId, Tree};
 use lnfs_types::Moment;
 use lnfs_world::numbers::MOST_FILE;
-use std::alloc::AllocError;
 
 // ---- what is tested
 
@@ -63,10 +62,6 @@ fn write_denied(site: &Site<'_>, subject: Level, label: Level, writes: bool) -> 
 
 /// What refuses a size of a file: the use of its state id, NFS4ERR_FBIG where a file may not have so many bytes, and
 /// NFS4ERR_DQUOT where it grows and its level's bytes would pass their limit.
-///
-/// # Errors
-///
-/// `AllocError` of a level that isn't counted, and of one whose total rises no more.
 fn check_size(
     site: &Site<'_>,
     tree: &Tree,
@@ -77,35 +72,31 @@ fn check_size(
     held: &Held,
     id: &StateId,
     size: u64,
-) -> Result<Result<(), Refusal>, AllocError>
+) -> Result<(), Refusal>
     requires counts { AreTotals quota.now tree.now.nodes }
     requires held { IsHeld tree.now (held_in tree.now.nodes (option_map id_of caller.now.current)) (Ok held.now) }
     requires file { kind_of held.now.facts.kind ≡ File }
-    ensures refused { IfOk result (λ told. (n : Node) (p : Place) (rest : World) → p.client ≡ client → Holds tree.now n held.now →
+    ensures refused { (n : Node) (p : Place) (rest : World) → p.client ≡ client → Holds tree.now n held.now →
         let at = placed p caller.now in
-        failed told ≡ refusal_in (where_size (site_of site.now) id.now at (with_files rest tree.now opens.now) n (Some size) (passed at))) }
-    ensures fits { IfOk result (λ told. OnOk told (size ≤ MOST_FILE)) }
-    ensures resizes { IfOk result (λ told. OnOk told (MayResize quota.now held.now.facts.label.0 held.now.facts.size size)) }
+        failed result ≡ refusal_in (where_size (site_of site.now) id.now at (with_files rest tree.now opens.now) n (Some size) (passed at)) }
+    ensures fits { OnOk result (size ≤ MOST_FILE) }
+    ensures resizes { OnOk result (MayResize quota.now held.now.facts.label.0 held.now.facts.size size) }
 {
     // The call says that the file's bytes are counted in its label.
     totals();
     if let Err(why) = check_usable(site, opens, caller, client, held.id, id, Way::Writing) {
-        return Ok(Err(why));
+        return Err(why);
     }
     if size > MOST_FILE {
-        return Ok(Err(namespace(NFS4ERR_FBIG)));
+        return Err(namespace(NFS4ERR_FBIG));
     }
-    if !byte_room(site, quota, held.facts.label, held.facts.size, size)? {
-        return Ok(Err(past_quota()));
+    if !byte_room(site, quota, held.facts.label, held.facts.size, size) {
+        return Err(past_quota());
     }
-    Ok(Ok(()))
+    Ok(())
 }
 
 /// What refuses a size, if one is set.
-///
-/// # Errors
-///
-/// Those of `check_size`.
 fn check_given(
     site: &Site<'_>,
     tree: &Tree,
@@ -116,19 +107,19 @@ fn check_given(
     held: &Held,
     id: &StateId,
     size: Option<u64>,
-) -> Result<Result<(), Refusal>, AllocError>
+) -> Result<(), Refusal>
     requires counts { AreTotals quota.now tree.now.nodes }
     requires held { IsHeld tree.now (held_in tree.now.nodes (option_map id_of caller.now.current)) (Ok held.now) }
     requires file { IfSome size (λ size. kind_of held.now.facts.kind ≡ File) }
-    ensures refused { IfOk result (λ told. (n : Node) (p : Place) (rest : World) → p.client ≡ client → Holds tree.now n held.now →
+    ensures refused { (n : Node) (p : Place) (rest : World) → p.client ≡ client → Holds tree.now n held.now →
         let at = placed p caller.now in
-        failed told ≡ refusal_in (where_size (site_of site.now) id.now at (with_files rest tree.now opens.now) n size (passed at))) }
-    ensures fits { IfOk result (λ told. OnOk told (IfSome size (λ size. size ≤ MOST_FILE))) }
-    ensures resizes { IfOk result (λ told. OnOk told (IfSome size (λ size. MayResize quota.now held.now.facts.label.0 held.now.facts.size size))) }
+        failed result ≡ refusal_in (where_size (site_of site.now) id.now at (with_files rest tree.now opens.now) n size (passed at)) }
+    ensures fits { OnOk result (IfSome size (λ size. size ≤ MOST_FILE)) }
+    ensures resizes { OnOk result (IfSome size (λ size. MayResize quota.now held.now.facts.label.0 held.now.facts.size size)) }
 {
     match size {
         Some(size) => check_size(site, tree, opens, quota, caller, client, held, id, size),
-        None => Ok(Ok(())),
+        None => Ok(()),
     }
 }
 
@@ -146,8 +137,9 @@ pub(crate) fn put_size(tree: &mut Tree, quota: &mut Quota, held: &Held, size: u6
     ensures counts { AreTotals quota.new tree.new.nodes }
     ensures levels { length quota.new ≡ length quota.old }
 {
-    // The call says what a change of a file's bytes does to the totals.
+    // The calls say what a change of a file's bytes does to the totals.
     totals();
+    is_numbered(held.id);
     // The file is there and may have so many bytes, so that there is no error.
     let _done = tree.set_size(held.id, size, moment);
     quota.resize(held.facts.label, held.facts.size, size);
@@ -193,11 +185,7 @@ fn put_values(
     }
 }
 
-/// Sets the attributes but the label.
-///
-/// # Errors
-///
-/// `AllocError` of a level that isn't counted, and of one whose total rises no more. Then nothing has changed.
+/// Sets the attributes but the label. Takes no memory.
 pub fn set_values(
     site: &Site<'_>,
     tree: &mut Tree,
@@ -209,25 +197,21 @@ pub fn set_values(
     id: &StateId,
     size: Option<u64>,
     mode: Option<u32>,
-) -> Result<Result<(), Refusal>, AllocError>
+) -> Result<(), Refusal>
     requires counts { AreTotals quota.old tree.old.nodes }
     requires held { IsHeld tree.old (held_in tree.old.nodes (option_map id_of caller.now.current)) (Ok held.now) }
     requires file { IfSome size (λ size. kind_of held.now.facts.kind ≡ File) }
-    ensures acts { IfOk result (λ told. (n : Node) (p : Place) (rest : World) (set : bitmap.Bitmap) → p.client ≡ client → Holds tree.old n held.now →
+    ensures acts { (n : Node) (p : Place) (rest : World) (set : bitmap.Bitmap) → p.client ≡ client → Holds tree.old n held.now →
         let at = placed p caller.now in
-        Acts (λ it. set) at rest tree.old tree.new opens.now opens.now (values_set (site_of site.now) id.now at (with_files rest tree.old opens.now) n (unlabelled size mode) set) told) }
+        Acts (λ it. set) at rest tree.old tree.new opens.now opens.now (values_set (site_of site.now) id.now at (with_files rest tree.old opens.now) n (unlabelled size mode) set) result }
     ensures counts { AreTotals quota.new tree.new.nodes }
     ensures levels { length quota.new ≡ length quota.old }
-    ensures kept { OnErr result (tree.new ≡ tree.old) }
-    ensures uncharged { OnErr result (quota.new ≡ quota.old) }
 {
     let writes = writes(size.is_some(), mode);
     if let Some(why) = write_denied(site, caller.subject, held.facts.label, writes) {
-        return Ok(Err(why));
+        return Err(why);
     }
-    if let Err(why) = check_given(site, tree, opens, quota, caller, client, held, id, size)? {
-        return Ok(Err(why));
-    }
+    check_given(site, tree, opens, quota, caller, client, held, id, size)?;
     put_values(tree, quota, caller, held, size, mode);
-    Ok(Ok(()))
+    Ok(())
 }

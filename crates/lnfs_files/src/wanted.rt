@@ -1,14 +1,16 @@
 //! What is wanted of a file by the attributes that come with an OPEN (RFC 8881 section 18.16.3).
-ghost use Rattle.std.specs.Prelude.{◌≡◌, IfOk};
+ghost use Rattle.std.specs.Prelude.{◌≡◌, IfOk, IfSome};
 ghost use Rattle.std.specs.Option.{option_map};
 ghost use Rattle.lnfs_world.specs.Outcome.{Place, Outcome};
 ghost use Rattle.lnfs_site.specs.Site.{site_of};
 ghost use Rattle.lnfs_operations.specs.Chain.{Answer};
 ghost use Rattle.lnfs_operations.specs.Open as operation;
 ghost use Rattle.lnfs_nodes.specs.Acts.{checked};
+ghost use Rattle.lnfs_files.specs.Charges.{IsListed};
 ghost use Rattle.lnfs_files.specs.Openings.{wanted_of, where_given};
 
 use crate::asked::attrs_of;
+use crate::listing::are_listed;
 use crate::opened::are_words;
 use lnfs_arguments::Making;
 use lnfs_arguments::statuses::NFS4ERR_INVAL;
@@ -64,9 +66,12 @@ fn read_given(
     site: &Site<'_>,
     given: &RawAttrs,
 ) -> Result<Result<Wanted, Refusal>, AllocError>
-    ensures { IfOk result (λ told. (p : Place) (next : operation.Wanted → Outcome (Answer operation.Opened)) →
+    ensures tests { IfOk result (λ told. (p : Place) (next : operation.Wanted → Outcome (Answer operation.Opened)) →
         where_given (site_of site.now) p given.now next ≡ checked p told (λ x. next (wanted_of x))) }
+    ensures listed { IfOk result (λ told. IfOk told (λ wanted. IfSome wanted.label (λ given. IsListed given.level.0))) }
 {
+    // The call says that a label that is given is one of those that a policy may list.
+    are_listed(site);
     let values = match values_of(alloc, given)? {
         Ok(values) => values,
         Err(why) => return Ok(Err(why)),
@@ -97,8 +102,9 @@ pub fn read_wanted(
     site: &Site<'_>,
     making: &Option<Making>,
 ) -> Result<Result<Wanted, Refusal>, AllocError>
-    ensures { IfOk result (λ told. (p : Place) (next : operation.Wanted → Outcome (Answer operation.Opened)) →
+    ensures tests { IfOk result (λ told. (p : Place) (next : operation.Wanted → Outcome (Answer operation.Opened)) →
         operation.where_wanted (site_of site.now) p making.now next ≡ checked p told (λ x. next (wanted_of x))) }
+    ensures listed { IfOk result (λ told. IfOk told (λ wanted. IfSome wanted.label (λ given. IsListed given.level.0))) }
 {
     match making {
         Some(making) => read_given(alloc, site, attrs_of(making)),

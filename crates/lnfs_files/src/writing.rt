@@ -18,7 +18,7 @@ ghost use Rattle.lnfs_files.specs.Worlds.{with_files};
 ghost use Rattle.lnfs_files.specs.Acts.{Acts};
 ghost use Rattle.lnfs_files.specs.Writing.{write_on, fitting_size};
 
-use crate::charging::byte_room;
+use crate::charging::{byte_room, is_numbered};
 use crate::files::usable_file;
 use crate::state_ids::Way;
 use lnfs_arguments::StateId;
@@ -85,8 +85,9 @@ fn put(
     ensures kept { OnErr result (tree.new ≡ tree.old) }
     ensures uncharged { OnErr result (quota.new ≡ quota.old) }
 {
-    // The call says that the file's bytes are counted in its label, and what a change of them does to the totals.
+    // The calls say that the file's bytes are counted in its label, and what a change of them does to the totals.
     totals();
+    is_numbered(held.id);
     let Ok(file) = tree.file(held.id) else {
         unreachable!();
     };
@@ -95,7 +96,7 @@ fn put(
         return Ok(Err(namespace(NFS4ERR_FBIG)));
     };
     let label = held.facts.label;
-    if !byte_room(site, quota, label, old, size)? {
+    if !byte_room(site, quota, label, old, size) {
         return Ok(Err(past_quota()));
     }
     match tree.write(alloc, held.id, offset, content, caller.moment) {

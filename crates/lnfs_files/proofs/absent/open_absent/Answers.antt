@@ -1,8 +1,10 @@
-use Rattle.std.proofs.Common.{◌≡◌, refl, ap, sym, subst, ◌∙◌, ℕ, true, false, List, Some, None}
+use Rattle.std.proofs.Common.{◌≡◌, ◌<◌, refl, ap, sym, subst, ◌∙◌, ℕ, true, false, List, length, Option, Some, None, arith}
+use Rattle.std.specs.Option.{option_map}
+use Rattle.lnfs_calipso.specs.declared.lattice.TheConstants.{MAX_LEVELS}
 use Rattle.lnfs_calipso.specs.declared.Level.{Level}
 use Rattle.lnfs_arguments.specs.declared.types.Making.{Making}
 use Rattle.lnfs_world.specs.World.{Id, Node, World, node_at, label_at}
-use Rattle.std.specs.Prelude.{◌&&◌}
+use Rattle.std.specs.Prelude.{◌&&◌, IfSome}
 use Rattle.lnfs_world.specs.Effects.{name_added, next_entry, has_number, has_cookie, next_id}
 use Rattle.lnfs_world.specs.Change.{Change}
 use Rattle.lnfs_world.specs.Outcome.{Place, Outcome}
@@ -18,7 +20,11 @@ use Rattle.lnfs_nodes.specs.Acts.{placed}
 use Rattle.lnfs_tree.proofs.Kept.{kept}
 use Rattle.lnfs_nodes.proofs.Inserts.{seen, inserted, spent, only_spent}
 use Rattle.lnfs_quota.specs.declared.quota.Row.{Row}
-use Rattle.lnfs_quota.specs.Totals.{AreTotals}
+use Rattle.lnfs_quota.specs.Totals.{IsInBounds, AreTotals}
+use Rattle.lnfs_nodes.specs.GivenValues.{given_of}
+use Rattle.lnfs_nodes.specs.declared.held.Held.{Held}
+use Rattle.lnfs_nodes.specs.declared.given.GivenLabel as code
+use Rattle.lnfs_files.specs.Charges.{IsListed}
 use Rattle.lnfs_files.specs.Worlds.{with_files}
 use Rattle.lnfs_files.specs.Acts.{Succeeds}
 use Rattle.lnfs_files.specs.Openings.{args_of, wanted_of}
@@ -29,6 +35,25 @@ use Rattle.lnfs_files.proofs.Makes.{makes, none_of}
 use Rattle.lnfs_files.proofs.Opens.{wished, did_wish, only_memory}
 use Rattle.lnfs_files.proofs.Absents.{behind, by_label, opens_left, is_full, is_spent, is_made, absent_in, made_in, counts_in, same_changes, no_label}
 use Rattle.lnfs_files.proofs.absent.open_absent.Goals as goal
+
+-- what is there has a label that a policy may list, and so has what is made in it
+module _ (rows : List Row) (t : Rows) (h : Held) (name : List ℕ) (a : files.IsAbsentIn t h name) (counts : AreTotals rows t.nodes) (law : (i : Id) (n : Node) → AreTotals rows t.nodes → node_at t.nodes i ≡ Some n → IsInBounds n) where
+  home_listed : IsListed h.facts.label.0
+  home_listed = subst IsListed (sym a.1.0.tells.label) (law a.0.id a.0 counts a.1.0.node_is).label
+
+  label_of_fresh : (given : Option code.GivenLabel) → IfSome given (λ (g : code.GivenLabel). IsListed g.level.0) → (level label : Level) → level.0 ≡ level_or h.facts.label.0 (option_map given_of given) → label ≡ level → IsListed label.0
+  label_of_fresh given listed level label is same = subst IsListed (sym (ap (λ (l : Level). l.0) same ∙ is)) (by given listed)
+    where
+      by : (o : Option code.GivenLabel) → IfSome o (λ (g : code.GivenLabel). IsListed g.level.0) → IsListed (level_or h.facts.label.0 (option_map given_of o))
+      by None listed = home_listed
+      by (Some g) listed = listed
+
+pub charge_node-requires : goal.charge_node-requires
+charge_node-requires c =
+    let rows = c.args.quota.now in
+    let listed : c.args.dir.now.facts.label.0 < MAX_LEVELS = home_listed rows c.args.tree.now c.args.dir.now c.args.name.now c.requires.there c.requires.counts (c.totals.ensures.held_bounds rows c.args.tree.now.nodes) in
+    let many : length rows ≡ MAX_LEVELS = c.requires.counts.levels in
+    record { known = omega arith; fits = c.has_room.ensures.rises c.if-not-has_room.false }
 
 pub returns-in-Err-clause-acts : goal.returns-in-Err-clause-acts
 returns-in-Err-clause-acts c = λ p rest d holds.
@@ -50,8 +75,8 @@ returns-in-Err-clause-acts c = λ p rest d holds.
       opens = refl;
     }
 
-pub returns-then-not-branch-clause-acts : goal.returns-then-not-branch-clause-acts
-returns-then-not-branch-clause-acts c = λ p rest d holds.
+pub returns-then-not-has_room-clause-acts : goal.returns-then-not-has_room-clause-acts
+returns-then-not-has_room-clause-acts c = λ p rest d holds.
     let at : Place = placed p c.args.opener.now.caller.now in
     let t = c.args.tree.now in
     let s = c.args.opens.now in
@@ -67,7 +92,7 @@ returns-then-not-branch-clause-acts c = λ p rest d holds.
           by_label site args at rest t s number d name wanted making _ _ c.level_or-label.result.0 c.in-Some.is holds.tells.label c.level_or-label.ensures _
           (c.in_default-check_makable.ensures at t d (behind site args at rest t s number d name wanted making) holds
           ∙ is_full site args at rest t s number d name wanted making c.args.dir.now.facts.label.0 c.args.opener.now.client.level.0 holds.tells.label (ap (λ (l : Level). l.0) c.requires.level) c.no_space.result c.no_space.ensures
-          (sym c.if-not-branch.true ∙ c.in_ok-has_room.ensures.room t.nodes c.requires.counts));
+          (sym c.if-not-has_room.true ∙ c.has_room.ensures.room t.nodes c.requires.counts));
       tree = refl;
       opens = refl;
     }
@@ -112,7 +137,7 @@ pub unreachable-requires-in_default-error-2 : goal.unreachable-requires-in_defau
 unreachable-requires-in_default-error-2 c =
     let opener = c.args.opener.now in
     only_memory c.args.opens.now c.open.new.self (wished opener.client.level.0 opener.client.number (args_of opener.args.now) (node_id c.node_key.result) c.share.result) c.in-Err-open.error c.in_default-error-2.not-Memory c.in-Err-open.ensures
-    (opens_left _ _ (sym c.if-not-branch.false ∙ c.in_ok-has_room.ensures.room c.args.tree.now.nodes c.requires.counts))
+    (opens_left _ _ (sym c.if-not-has_room.false ∙ c.has_room.ensures.room c.args.tree.now.nodes c.requires.counts))
 
 pub returns-in-Ok-open-clause-acts : goal.returns-in-Ok-open-clause-acts
 returns-in-Ok-open-clause-acts c = λ p rest d holds.
@@ -144,7 +169,7 @@ returns-in-Ok-open-clause-acts c = λ p rest d holds.
     (sym (by_label site args at rest t s number d name wanted making _ _ c.level_or-label.result.0 c.in-Some.is holds.tells.label c.level_or-label.ensures _
     (c.in_default-check_makable.ensures at t d (behind site args at rest t s number d name wanted making) holds
     ∙ is_made site args at rest t s number d name wanted making c.args.dir.now.facts.label.0 c.args.opener.now.client.level.0 holds.tells.label level
-    (sym c.if-not-branch.false ∙ c.in_ok-has_room.ensures.room t.nodes c.requires.counts)
+    (sym c.if-not-has_room.false ∙ c.has_room.ensures.room t.nodes c.requires.counts)
     (ap (λ (l : Level). has_number t.lasts l.0 && has_cookie d) (sym c.in_ok-fresh.ensures.home) ∙ there.0))))
     (makes args at rest t u s v number d name wanted.set n c.in-Ok-open.id r c.in-Ok.made.1 none
     (did_wish s v _ c.args.opener.now.client.level.0 at.subject number args (node_id c.node_key.result) n.id c.share.result (access_of args) level (c.node_key.ensures ∙ id) c.share.ensures c.in-Ok-open.ensures)
@@ -156,7 +181,10 @@ returns-in-Ok-open-clause-counts c =
     let rows = c.args.quota.now in
     subst (λ (rows : List Row). AreTotals rows c.insert.new.self.nodes) (sym c.charge_node.ensures)
     (counts_in rows (site_of c.args.opener.now.site.now).dom c.args.tree.now c.insert.new.self c.args.dir.now c.args.name.now c.requires.there c.in_ok-fresh.fresh c.args.opener.now.caller.now.moment c.args.dir.now.facts.label.0 c.in-Ok.made
-    (c.totals.ensures.touched_alike rows) (c.totals.ensures.made rows) c.requires.counts c.requires.facts (ap (λ (l : Level). l.0) c.in_ok-fresh.ensures.home) c.in-Ok.ensures.does)
+    (c.totals.ensures.touched_alike rows) (c.totals.ensures.made rows) c.requires.counts c.requires.facts (ap (λ (l : Level). l.0) c.in_ok-fresh.ensures.home)
+    (home_listed rows c.args.tree.now c.args.dir.now c.args.name.now c.requires.there c.requires.counts (c.totals.ensures.held_bounds rows c.args.tree.now.nodes))
+    (label_of_fresh rows c.args.tree.now c.args.dir.now c.args.name.now c.requires.there c.requires.counts (c.totals.ensures.held_bounds rows c.args.tree.now.nodes) c.args.wanted.label c.requires.listed c.level_or-label.result c.in_ok-fresh.fresh.label c.level_or-label.ensures c.in_ok-fresh.ensures.label)
+    c.in-Ok.ensures.does)
 
 pub returns-in-Memory-error-clause-tree : goal.returns-in-Memory-error-clause-tree
 returns-in-Memory-error-clause-tree c =
@@ -172,4 +200,7 @@ returns-in-Memory-error-clause-counts c =
     let rows = c.args.quota.now in
     subst (λ (rows : List Row). AreTotals rows c.insert.new.self.nodes) (sym c.charge_node.ensures)
     (counts_in rows (site_of c.args.opener.now.site.now).dom c.args.tree.now c.insert.new.self c.args.dir.now c.args.name.now c.requires.there c.in_ok-fresh.fresh c.args.opener.now.caller.now.moment c.args.dir.now.facts.label.0 c.in-Ok.made
-    (c.totals.ensures.touched_alike rows) (c.totals.ensures.made rows) c.requires.counts c.requires.facts (ap (λ (l : Level). l.0) c.in_ok-fresh.ensures.home) c.in-Ok.ensures.does)
+    (c.totals.ensures.touched_alike rows) (c.totals.ensures.made rows) c.requires.counts c.requires.facts (ap (λ (l : Level). l.0) c.in_ok-fresh.ensures.home)
+    (home_listed rows c.args.tree.now c.args.dir.now c.args.name.now c.requires.there c.requires.counts (c.totals.ensures.held_bounds rows c.args.tree.now.nodes))
+    (label_of_fresh rows c.args.tree.now c.args.dir.now c.args.name.now c.requires.there c.requires.counts (c.totals.ensures.held_bounds rows c.args.tree.now.nodes) c.args.wanted.label c.requires.listed c.level_or-label.result c.in_ok-fresh.fresh.label c.level_or-label.ensures c.in_ok-fresh.ensures.label)
+    c.in-Ok.ensures.does)

@@ -1,5 +1,7 @@
-use Rattle.std.proofs.Common.{◌∙◌, ap, sym, refl, subst, ℕ, List, length, [], ◌∷◌}
+use Rattle.std.proofs.Common.{◌≡◌, ◌+◌, ◌^◌, ◌<◌, ◌≤◌, ◌∙◌, ap, sym, refl, subst, arith, ℕ, List, length, [], ◌∷◌}
 use Rattle.lnfs_attrs.specs.declared.bitmap.Bitmap.{Bitmap}
+use Rattle.lnfs_calipso.specs.declared.lattice.TheConstants.{MAX_LEVELS}
+use Rattle.lnfs_world.specs.declared.numbers.TheConstants.{MOST_FILE}
 use Rattle.lnfs_world.specs.Change.{Relabel}
 use Rattle.lnfs_world.specs.Effects.{attributes_changed}
 use Rattle.lnfs_world.specs.Usage.{bytes_of}
@@ -7,17 +9,37 @@ use Rattle.lnfs_world.specs.Outcome.{Place, Outcome}
 use Rattle.lnfs_operations.specs.declared.Refusal.{Refusal}
 use Rattle.lnfs_operations.specs.Chain.{Answer, refuse}
 use Rattle.lnfs_quota.specs.declared.quota.Row.{Row}
-use Rattle.lnfs_quota.specs.Quota.{moved}
+use Rattle.lnfs_quota.specs.Quota.{row_at, moved}
 use Rattle.lnfs_quota.specs.Totals.{AreTotals}
 use Rattle.lnfs_tree.specs.Rows.{Rows, id_of}
 use Rattle.lnfs_tree.specs.Places.{world_of}
 use Rattle.lnfs_nodes.specs.Acts.{placed}
 use Rattle.lnfs_files.specs.Worlds.{with_files}
 use Rattle.lnfs_files.specs.Acts.{Succeeds}
-use Rattle.lnfs_files.proofs.Charged.{moved_levels}
-use Rattle.lnfs_files.proofs.WriteOn.{is_there, found, some_place}
+use Rattle.lnfs_files.specs.Charges.{AreBytesHeld}
+use Rattle.lnfs_quota.proofs.Kept.{moved_levels}
+use Rattle.lnfs_files.proofs.WriteOn.{is_there, is_counted, found, some_place}
 use Rattle.lnfs_files.proofs.Labels.{raised_full, raised_so, full, was_raised, not_raised, succeeds, same_bytes}
 use Rattle.lnfs_files.proofs.labelling.put_level.Goals as goal
+
+pub move_up-requires : goal.move_up-requires
+move_up-requires c =
+    let rows = c.args.quota.now in
+    let t = c.args.tree.now in
+    let h = c.args.held.now in
+    let x = is_there t _ h c.requires.held in
+    let held : AreBytesHeld rows h.facts.label.0 c.args.bytes =
+    is_counted rows t h _ x (λ n holds. sym (c.requires.bytes t n holds)) c.requires.counts (c.totals.ensures.held_bytes rows t.nodes) (c.totals.ensures.held_bounds rows t.nodes) in
+    let few : c.args.bytes ≤ MOST_FILE = subst (λ (b : ℕ). b ≤ MOST_FILE) (sym (c.requires.bytes t x.0 x.1)) (c.totals.ensures.held_bounds rows t.nodes x.0.id x.0 c.requires.counts x.1.node_is).bytes in
+    let room : (row_at rows c.args.level.0).bytes + MOST_FILE < 2 ^ 64 = c.fitting.ensures rows t.nodes c.args.level.0 c.requires.counts c.requires.facts.1.rise in
+    let many : length rows ≡ MAX_LEVELS = c.requires.counts.levels in
+    let listed : c.args.level.0 < MAX_LEVELS = c.requires.listed in
+    record {
+      from_known = held.0;
+      to_known = omega arith;
+      held = held.1;
+      fits = omega arith;
+    }
 
 pub returns-in-Ok-clause-acts : goal.returns-in-Ok-clause-acts
 returns-in-Ok-clause-acts c = λ n p rest opens set holds.
@@ -46,7 +68,7 @@ returns-in-Ok-clause-counts c =
     (subst (λ (label : ℕ). AreTotals (moved rows label level c.args.bytes) u.nodes) (sym x.1.tells.label)
     (subst (λ (bytes : ℕ). AreTotals (moved rows n.label level bytes) u.nodes) (sym (c.requires.bytes t n x.1))
     (subst (λ (r : Rows). AreTotals (moved rows n.label level (bytes_of n n.kind)) r.nodes) (sym done.1)
-    (c.totals.ensures.relabelled rows n.id level (attributes_changed at.moment n.inner) n (world_of t) c.requires.counts x.1.node_is (same_bytes n (attributes_changed at.moment n.inner) refl)))))
+    (c.totals.ensures.relabelled rows n.id level (attributes_changed at.moment n.inner) n (world_of t) c.requires.counts x.1.node_is c.requires.listed (same_bytes n (attributes_changed at.moment n.inner) refl)))))
 
 pub returns-in-Ok-clause-levels : goal.returns-in-Ok-clause-levels
 returns-in-Ok-clause-levels c = ap (λ (rows : List Row). length rows) c.move_up.ensures ∙ moved_levels c.args.quota.now c.args.held.now.facts.label.0 c.args.level.0 c.args.bytes

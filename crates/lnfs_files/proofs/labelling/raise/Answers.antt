@@ -12,15 +12,8 @@ use Rattle.lnfs_nodes.proofs.Tests.{allowed}
 use Rattle.lnfs_nodes.proofs.Refusing.{denied}
 use Rattle.lnfs_files.specs.Worlds.{with_files}
 use Rattle.lnfs_files.specs.Acts.{Succeeds, Acts}
-use Rattle.lnfs_files.proofs.WriteOn.{is_there, is_counted}
 use Rattle.lnfs_files.proofs.Labels.{raised_same, succeeds}
 use Rattle.lnfs_files.proofs.labelling.raise.Goals as goal
-
-pub check_move-requires : goal.check_move-requires
-check_move-requires c =
-    let t = c.args.tree.now in
-    let h = c.args.held.now in
-    record { held = is_counted c.args.quota.now t h _ (is_there t _ h c.requires.held) (λ n holds. sym (c.counted_bytes-bytes.ensures t n holds)) c.requires.counts (c.totals.ensures.held_bytes c.args.quota.now t.nodes) }
 
 pub put_level-requires : goal.put_level-requires
 put_level-requires c = record {
@@ -28,7 +21,7 @@ put_level-requires c = record {
   counts = c.requires.counts;
   held = c.requires.held;
   bytes = c.counted_bytes-bytes.ensures;
-  moves = c.in_ok-check_move.ensures;
+  listed = c.requires.listed;
   other = sym c.eq.ensures ∙ c.if-eq.false;
 }
 

@@ -1,4 +1,4 @@
-use Rattle.std.proofs.Common.{◌≡◌, refl, ap, sym, ◌∙◌, Bool, Err}
+use Rattle.std.proofs.Common.{◌≡◌, refl, ap, sym, ◌∙◌, Bool, Err, arith}
 use Rattle.lnfs_calipso.specs.declared.Level.{Level}
 use Rattle.lnfs_arguments.specs.declared.statuses.TheConstants.{NFS4ERR_NOSPC}
 use Rattle.lnfs_world.specs.Outcome.{Place}
@@ -13,14 +13,17 @@ use Rattle.lnfs_files.specs.Openings.{args_of, wanted_of}
 use Rattle.lnfs_files.proofs.WriteOn.{is_counted}
 use Rattle.lnfs_files.proofs.Sizes.{held_bytes}
 use Rattle.lnfs_files.proofs.Opens.{wish, wished, did_wish, with_own, refused_so, only_full, is_full, after_cut, succeeds}
-use Rattle.lnfs_files.proofs.present.open_present.Goals.{then-sized-2, else-sized-2}
+use Rattle.lnfs_files.proofs.present.open_present.Goals.{then-sized, else-sized}
 use Rattle.lnfs_files.proofs.present.open_present.Goals as goal
 
-pub byte_room-requires : goal.byte_room-requires
-byte_room-requires c =
+pub put_size-requires-clause-resizes : goal.put_size-requires-clause-resizes
+put_size-requires-clause-resizes c =
     let t = c.args.tree.now in
     let h = c.args.held.now in
-    record { held = is_counted c.args.quota.now t h _ c.requires.there (λ n holds. held_bytes t n h holds c.in_default.ensures.file) c.requires.counts (c.totals.ensures.held_bytes c.args.quota.now t.nodes) }
+    record {
+      held = is_counted c.args.quota.now t h _ c.requires.there (λ n holds. held_bytes t n h holds c.in_default.ensures.file) c.requires.counts (c.totals.ensures.held_bytes c.args.quota.now t.nodes) (c.totals.ensures.held_bounds c.args.quota.now t.nodes);
+      fits = λ grows. absurd (grind (arith, grows));
+    }
 
 pub returns-in-Full-clause-acts : goal.returns-in-Full-clause-acts
 returns-in-Full-clause-acts c = λ p rest n holds.
@@ -56,11 +59,11 @@ returns-clause-acts c = λ p rest n holds.
     let v = c.open.new.self in
     let number = c.args.opener.now.client.number in
     let w : Wanted = wanted_of c.args.wanted.now in
-    succeeds args at rest t s number n c.if-sized-2.tree v w c.args.info c.in-Ok.id _ _
+    succeeds args at rest t s number n c.if-sized.tree v w c.args.info c.in-Ok.id _ _
     (c.in_default.ensures.checked p rest t n (with_own args at rest t s number n w c.args.info) holds)
     (did_wish s v _ c.args.opener.now.client.level.0 at.subject number args (node_id c.node_key-node.result) n.id c.share.result (access_of args) (ap (λ (l : Level). l.0) c.requires.level) (c.node_key-node.ensures ∙ holds.id) c.share.ensures c.in-Ok.ensures)
-    (elim c.if-sized-2.branch [
-      | then-sized-2 b ↦ b.tree-is ∙ b.put_size.ensures.done n holds ∙ ap (λ (x : Bool). after_cut args at rest t s number n (record w { sized = x })) (sym b.if-sized-2.true)
-      | else-sized-2 b ↦ b.tree-is ∙ ap (λ (x : Bool). after_cut args at rest t s number n (record w { sized = x })) (sym b.if-sized-2.false)
+    (elim c.if-sized.branch [
+      | then-sized b ↦ b.tree-is ∙ b.put_size.ensures.done n holds ∙ ap (λ (x : Bool). after_cut args at rest t s number n (record w { sized = x })) (sym b.if-sized.true)
+      | else-sized b ↦ b.tree-is ∙ ap (λ (x : Bool). after_cut args at rest t s number n (record w { sized = x })) (sym b.if-sized.false)
     ])
     c.state_id_of.ensures holds.id refl c.cut_set.ensures

@@ -1,17 +1,17 @@
-use Rattle.std.proofs.Common.{◌∙◌, ap, sym, subst, refl, Bool, Ok, Err, Result}
+use Rattle.std.proofs.Common.{◌∙◌, ap, sym, subst, refl, Bool, Ok, Err}
 use Rattle.lnfs_attrs.specs.declared.bitmap.Bitmap.{Bitmap}
 use Rattle.lnfs_world.specs.World.{World}
 use Rattle.lnfs_world.specs.Outcome.{Place}
 use Rattle.lnfs_site.specs.Site.{site_of}
-use Rattle.lnfs_operations.specs.declared.Refusal.{Refusal}
 use Rattle.lnfs_operations.specs.SetAttr.{set_attr}
 use Rattle.lnfs_tree.specs.Rows.{kind_of}
 use Rattle.lnfs_nodes.specs.Acts.{placed}
 use Rattle.lnfs_nodes.specs.GivenValues.{wanted_of}
 use Rattle.lnfs_nodes.proofs.Refusing.{not_held}
 use Rattle.lnfs_files.specs.Worlds.{with_opens, with_files}
-use Rattle.lnfs_files.specs.Acts.{Acts, Succeeds}
-use Rattle.lnfs_files.specs.Setting.{size_refusal, wanted_done}
+use Rattle.lnfs_files.specs.Acts.{Succeeds}
+use Rattle.lnfs_files.specs.Setting.{size_refusal}
+use Rattle.lnfs_files.proofs.Listed.{held_listed, wanted_listed}
 use Rattle.lnfs_files.proofs.SetAttrs.{on_node, refused, taken, sized_not, acted, is_file}
 use Rattle.lnfs_files.proofs.setting.set_attr.Goals as goal
 
@@ -20,6 +20,7 @@ set_wanted-requires c = record {
   facts = c.requires.facts;
   counts = c.requires.counts;
   held = c.in-Ok-node_held.ensures;
+  listed = held_listed c.in-Ok.wanted.label (wanted_listed (site_of c.args.site.now) c.are_listed.ensures c.args.given.now (wanted_of c.in-Ok.wanted) (sym (rw c.in-Ok.is at c.in_ok-wanted.ensures)));
   file = is_file c.in-Ok.wanted.size (kind_of c.in-Ok-node_held.held.facts.kind) (c.in_default.ensures ∙ ap (λ (b : Bool). size_refusal b (kind_of c.in-Ok-node_held.held.facts.kind)) c.is_some.ensures);
 }
 
@@ -56,23 +57,23 @@ returns-in-Some-clause-acts c = λ p rest client.
       opens = refl;
     }
 
-pub returns-in-Ok-2-clause-acts : goal.returns-in-Ok-2-clause-acts
-returns-in-Ok-2-clause-acts c = λ p rest client.
+pub returns-in-Ok-set_wanted-clause-acts : goal.returns-in-Ok-set_wanted-clause-acts
+returns-in-Ok-set_wanted-clause-acts c = λ p rest client.
     let at : Place = placed p c.args.caller.now in
     let t = c.args.tree.now in
     let u = c.set_wanted.new.tree in
     let s = c.args.opens.now in
     let site = site_of c.args.site.now in
     subst (λ (set : Bitmap). Succeeds set at rest t u s s (set_attr site c.args.id.now c.args.given.now at (with_files rest t s))) (sym c.set_of.ensures)
-    (acted site c.args.id.now c.args.given.now at rest t u s c.in-Ok-node_held.held (wanted_of c.in-Ok.wanted) c.in-Ok-node_held.ensures (rw c.in-Ok.is at c.in_ok-wanted.ensures) (Ok c.in-Ok-2.field-0) (c.in_default.ensures ∙ ap (λ (b : Bool). size_refusal b (kind_of c.in-Ok-node_held.held.facts.kind)) c.is_some.ensures)
-    (λ n set holds. subst (λ (told : Result (Unit {0}) Refusal). Acts (λ it. set) at rest t u s s (wanted_done site c.args.id.now at (with_files rest t s) n (wanted_of c.in-Ok.wanted) set) told) c.in-Ok-2.is (c.in_ok-set_wanted.ensures.acts n p rest set client holds)))
+    (acted site c.args.id.now c.args.given.now at rest t u s c.in-Ok-node_held.held (wanted_of c.in-Ok.wanted) c.in-Ok-node_held.ensures (rw c.in-Ok.is at c.in_ok-wanted.ensures) (Ok c.in-Ok-set_wanted.field-0) (c.in_default.ensures ∙ ap (λ (b : Bool). size_refusal b (kind_of c.in-Ok-node_held.held.facts.kind)) c.is_some.ensures)
+    (λ n set holds. c.in-Ok-set_wanted.ensures.acts n p rest set client holds))
 
-pub returns-in-Err-2-clause-acts : goal.returns-in-Err-2-clause-acts
-returns-in-Err-2-clause-acts c = λ p rest client.
+pub returns-in-Err-set_wanted-clause-acts : goal.returns-in-Err-set_wanted-clause-acts
+returns-in-Err-set_wanted-clause-acts c = λ p rest client.
     let at : Place = placed p c.args.caller.now in
     let t = c.args.tree.now in
     let u = c.set_wanted.new.tree in
     let s = c.args.opens.now in
     let site = site_of c.args.site.now in
-    acted site c.args.id.now c.args.given.now at rest t u s c.in-Ok-node_held.held (wanted_of c.in-Ok.wanted) c.in-Ok-node_held.ensures (rw c.in-Ok.is at c.in_ok-wanted.ensures) (Err c.in-Err-2.why) (c.in_default.ensures ∙ ap (λ (b : Bool). size_refusal b (kind_of c.in-Ok-node_held.held.facts.kind)) c.is_some.ensures)
-    (λ n set holds. subst (λ (told : Result (Unit {0}) Refusal). Acts (λ it. set) at rest t u s s (wanted_done site c.args.id.now at (with_files rest t s) n (wanted_of c.in-Ok.wanted) set) told) c.in-Err-2.is (c.in_ok-set_wanted.ensures.acts n p rest set client holds))
+    acted site c.args.id.now c.args.given.now at rest t u s c.in-Ok-node_held.held (wanted_of c.in-Ok.wanted) c.in-Ok-node_held.ensures (rw c.in-Ok.is at c.in_ok-wanted.ensures) (Err c.in-Err-set_wanted.why) (c.in_default.ensures ∙ ap (λ (b : Bool). size_refusal b (kind_of c.in-Ok-node_held.held.facts.kind)) c.is_some.ensures)
+    (λ n set holds. c.in-Err-set_wanted.ensures.acts n p rest set client holds)

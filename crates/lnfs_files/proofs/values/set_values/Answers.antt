@@ -1,16 +1,16 @@
-use Rattle.std.proofs.Common.{◌≤◌, ◌∙◌, ap, sym, refl, subst, Result}
-use Rattle.std.specs.Prelude.{IfSome, OnOk}
+use Rattle.std.proofs.Common.{◌∙◌, sym, refl, subst, Result}
 use Rattle.lnfs_attrs.specs.declared.bitmap.Bitmap.{Bitmap}
 use Rattle.lnfs_world.specs.World.{World}
 use Rattle.lnfs_world.specs.Outcome.{Place, Outcome}
 use Rattle.lnfs_site.specs.Site.{site_of}
 use Rattle.lnfs_operations.specs.declared.Refusal.{Refusal}
 use Rattle.lnfs_operations.specs.Chain.{Answer}
-use Rattle.lnfs_world.specs.declared.numbers.TheConstants.{MOST_FILE}
-use Rattle.lnfs_nodes.specs.Acts.{failed, placed}
+use Rattle.lnfs_operations.specs.SetAttr.{values_set}
+use Rattle.lnfs_nodes.specs.Acts.{placed}
 use Rattle.lnfs_files.specs.Worlds.{with_files}
-use Rattle.lnfs_files.specs.Acts.{Succeeds}
-use Rattle.lnfs_files.specs.Charges.{MayResize}
+use Rattle.lnfs_files.specs.Acts.{Acts, Succeeds}
+use Rattle.lnfs_files.specs.Setting.{unlabelled}
+use Rattle.lnfs_files.proofs.Stages.{err_is}
 use Rattle.lnfs_files.proofs.Sizes.{asks_held, not_asked, not_sized, values_done}
 use Rattle.lnfs_files.proofs.values.set_values.Goals as goal
 
@@ -19,8 +19,8 @@ put_values-requires c = record {
   counts = c.requires.counts;
   held = c.requires.held;
   file = c.requires.file;
-  fits = subst (λ (told : Result (Unit {0}) Refusal). OnOk told (IfSome c.args.size (λ size. size ≤ MOST_FILE))) c.in_default-2.is c.in_ok-why.ensures.fits;
-  resizes = subst (λ (told : Result (Unit {0}) Refusal). OnOk told (IfSome c.args.size (λ size. MayResize c.args.quota.now c.args.held.now.facts.label.0 c.args.held.now.facts.size size))) c.in_default-2.is c.in_ok-why.ensures.resizes;
+  fits = c.in_ok-check_given.ensures.fits;
+  resizes = c.in_ok-check_given.ensures.resizes;
 }
 
 pub returns-in-Some-clause-acts : goal.returns-in-Some-clause-acts
@@ -34,17 +34,22 @@ returns-in-Some-clause-acts c = λ n p rest set client holds.
       opens = refl;
     }
 
-pub returns-in-Err-clause-acts : goal.returns-in-Err-clause-acts
-returns-in-Err-clause-acts c = λ n p rest set client holds.
+pub returns-in_err-check_given-clause-acts : goal.returns-in_err-check_given-clause-acts
+returns-in_err-check_given-clause-acts c = λ n p rest set client holds.
     let site = site_of c.args.site.now in
     let at : Place = placed p c.args.caller.now in
-    let w : World = with_files rest c.args.tree.now c.args.opens.now in
+    let t = c.args.tree.now in
+    let s = c.args.opens.now in
+    let w : World = with_files rest t s in
+    let why : Refusal = c.in_err-check_given.field-0.0 in
     let may = c.in_default.ensures ∙ asks_held site at.subject c.args.size c.args.mode c.is_some.result c.writes-writes.result n.label c.args.held.now.facts.label.0 c.is_some.ensures c.writes-writes.ensures holds.tells.label in
-    record {
-      outcome = not_sized site c.args.id.now at w n c.args.size c.args.mode set may c.in-Err.why (sym (ap failed c.in-Err.is) ∙ c.in_ok-why.ensures.refused n p rest client holds);
+    subst (λ (told : Result (Unit {0}) Refusal). Acts {A = Unit {0}} (λ it. set) at rest t t s s (values_set site c.args.id.now at w n (unlabelled c.args.size c.args.mode) set) told)
+    (sym (err_is c.from_residual.result why c.from_residual.ensures.1))
+    (record {
+      outcome = not_sized site c.args.id.now at w n c.args.size c.args.mode set may why (c.in_err-check_given.ensures.refused n p rest client holds);
       tree = refl;
       opens = refl;
-    }
+    })
 
 pub returns-clause-acts : goal.returns-clause-acts
 returns-clause-acts c = λ n p rest set client holds.
@@ -56,5 +61,5 @@ returns-clause-acts c = λ n p rest set client holds.
     let w : World = with_files rest t s in
     let may = c.in_default.ensures ∙ asks_held site at.subject c.args.size c.args.mode c.is_some.result c.writes-writes.result n.label c.args.held.now.facts.label.0 c.is_some.ensures c.writes-writes.ensures holds.tells.label in
     subst (λ (o : Outcome (Answer Bitmap)). Succeeds set at rest t u s s o)
-    (sym (values_done site c.args.id.now at w n c.args.size c.args.mode set may (sym (ap failed c.in_default-2.is) ∙ c.in_ok-why.ensures.refused n p rest client holds)))
+    (sym (values_done site c.args.id.now at w n c.args.size c.args.mode set may (c.in_ok-check_given.ensures.refused n p rest client holds)))
     (record { answer = refl; place = refl; world = c.put_values.ensures.done n p rest s holds })
