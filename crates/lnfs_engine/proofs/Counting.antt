@@ -1,7 +1,9 @@
 -- What operations do to how many nodes and bytes a level has, and to the totals.
-use Rattle.std.proofs.Common.{◌≡◌, ◌+◌, ◌<◌, ◌≤◌, ◌==◌, ℕ, Bool, true, false, cond, not, List, [], ◌∷◌, length, Option, Some, None, refl, sym, ap, ◌∙◌, arith}
+use Rattle.std.proofs.Common.{◌≡◌, ◌+◌, ◌<◌, ◌≤◌, ◌==◌, ℕ, Bool, true, false, cond, not, List, [], ◌∷◌, length, Option, Some, None, refl, sym, ap, ◌∙◌, subst, arith}
 use Rattle.std.specs.Prelude.{filter, Result, Ok, Err, IfOk}
 use Rattle.std.specs.Option.{option_map}
+use Rattle.std.specs.List.{AllByRecursion}
+use Rattle.lnfs_calipso.specs.declared.lattice.TheConstants.{MAX_LEVELS}
 use Rattle.std.proofs.lemmas.Bool.Decides.{nat_tests}
 use Rattle.lnfs_world.specs.Rows.{inserted, Rising}
 use Rattle.lnfs_world.specs.World.{Id, Kind, File, Directory, SymbolicLink, Inner, Node, Entry, node_order, same_id, node_at}
@@ -12,14 +14,15 @@ use Rattle.lnfs_world.proofs.Seen.{node_at-id}
 use Rattle.lnfs_world.proofs.Sorted.{rising_updated}
 use Rattle.lnfs_quota.specs.declared.quota.Row.{Row}
 use Rattle.lnfs_quota.specs.Quota.{row_at, node_charged}
-use Rattle.lnfs_quota.specs.Totals.{AreTotals, home_share, label_share}
+use Rattle.lnfs_quota.specs.Totals.{IsInBounds, AreTotals, home_share, label_share}
+use Rattle.lnfs_quota.proofs.Bounded.{bounds_found, bounds_made, bounds_left, bounds_updated, bounds_kept}
 use Rattle.lnfs_quota.proofs.Counting.{sum-made, sum-dropped, sum-updated_alike, sum-updated}
-use Rattle.lnfs_quota.proofs.Kept.{label_alike, label_empty, sums_of, totals_of, sums-charged}
+use Rattle.lnfs_quota.proofs.Kept.{label_alike, label_empty, charged_levels, sums_of, totals_of, sums-charged}
 use Rattle.lnfs_tree.specs.Changed.{Gone}
 use Rattle.lnfs_operations.specs.declared.Refusal.{Refusal}
 use Rattle.lnfs_nodes.specs.Told.{bytes_in, gone_bytes}
 use Rattle.lnfs_nodes.proofs.Going.{bytes_gone}
-use Rattle.lnfs_files.specs.Charges.{IsLess}
+use Rattle.lnfs_files.specs.Charges.{IsLess, IsListed}
 use Rattle.lnfs_engine.specs.Counts.{IsHeld, AreAsMany, IsMore, WentFrom, TakenFrom}
 
 -- ---- what a node counts for
@@ -69,7 +72,7 @@ pub record Touched (before after : List Node) : Type 0 where
 
 module _ (nodes : List Node) where
   pub as_many : AreAsMany nodes nodes
-  as_many = record { nodes = λ level. refl; bytes = λ level. refl }
+  as_many = record { nodes = λ level. refl; bytes = λ level. refl; bounds = λ all. all }
 
   pub untouched : Rising node_order nodes → Touched nodes nodes
   untouched rise = record { many = as_many; weights = λ i. refl; rise = rise }
@@ -87,6 +90,7 @@ module _ (nodes : List Node) where
     many = record {
       nodes = λ level. sum-updated_alike (λ m. home_share m level) renew n.id after (λ x. refl) ∙ t.many.nodes level;
       bytes = λ level. at level (node_at after n.id) refl (t.weights n.id ∙ ap (option_map weight) there) ∙ t.many.bytes level;
+      bounds = λ all. in_bounds (t.many.bounds all) (node_at after n.id) refl (t.weights n.id ∙ ap (option_map weight) there);
     };
     weights = λ i. told_touched weight n.id inner i after light ∙ t.weights i;
     rise = rising_updated node_order _ _ (λ x y. refl) (λ x y. refl) after t.rise;
@@ -99,6 +103,13 @@ module _ (nodes : List Node) where
       light m found =
           let size : length inner.content ≡ length m.inner.content = content ∙ sym (ap (λ (w : Weight). w.size) (same_weight after n.id m n t found there)) in
           λ i. record { label = m.label; kind = m.kind; size = size i }
+
+      same_bytes : (m : Node) → node_at after n.id ≡ Some m → bytes_of (renew m) m.kind ≡ bytes_of m m.kind
+      same_bytes m found = own_bytes (renew m) m.kind ∙ ap (λ (w : Weight). bytes_in m.kind w.size) (light m found) ∙ sym (own_bytes m m.kind)
+
+      in_bounds : AllByRecursion IsInBounds after → (o : Option Node) → node_at after n.id ≡ o → option_map weight o ≡ Some (weight n) → AllByRecursion IsInBounds (touched n.id inner after)
+      in_bounds all None none weighs = absurd cc
+      in_bounds all (Some m) found weighs = bounds_updated renew n.id m after found (bounds_kept m inner (bounds_found n.id m after all found) (same_bytes m found)) all
 
       at : (level : ℕ) (o : Option Node) → node_at after n.id ≡ o → option_map weight o ≡ Some (weight n) → bytes_used (touched n.id inner after) level ≡ bytes_used after level
       at level None none weighs = absurd cc
@@ -113,6 +124,9 @@ module _ (nodes : List Node) where
   dropped after entries i n there t = record {
     less_nodes = λ level. home level (node_at after i) refl weighs;
     less_bytes = λ level. label level (node_at after i) refl weighs;
+    bounds = λ all. bounds_left (λ x. not (same_id i x.id)) after (t.many.bounds all);
+    home_listed = λ all. subst (λ (j : Id). IsListed j.level) (node_at-id i nodes n there) (bounds_found i n nodes all there).home;
+    label_listed = λ all. (bounds_found i n nodes all there).label;
   }
     where
       left : List Node
@@ -135,14 +149,16 @@ module _ (nodes : List Node) where
           ∙ ap (λ (k : ℕ). bytes_used left level + k) (sym (share_alike m n level (same_weight after i m n t found there))) ∙ less ∙ t.many.bytes level
 
   -- one is made
-  pub made : (after : List Node) (n : Node) → node_at nodes n.id ≡ None → bytes_of n n.kind ≡ 0 → Touched nodes after → IsMore n.id.level nodes (inserted node_order n after)
-  made after n absent light t = record {
+  pub made : (after : List Node) (n : Node) → node_at nodes n.id ≡ None → bytes_of n n.kind ≡ 0 → (AllByRecursion IsInBounds nodes → IsInBounds n) → Touched nodes after → IsMore n.id.level nodes (inserted node_order n after)
+  made after n absent light bounds t = record {
     nodes = λ level. sum-made (λ m. home_share m level) n after nothing ∙ ap (λ (k : ℕ). k + home_share n level) (t.many.nodes level);
     bytes = λ level.
         let sum : bytes_used (inserted node_order n after) level ≡ bytes_used after level + label_share n level = sum-made (λ m. label_share m level) n after nothing in
         let none : label_share n level ≡ 0 = label_empty n level light in
         let before : bytes_used after level ≡ bytes_used nodes level = t.many.bytes level in
         omega arith;
+    bounds = λ all. bounds_made n after (bounds all) (t.many.bounds all);
+    listed = λ all. (bounds all).home;
   }
     where
       at : (o : Option Node) → option_map weight o ≡ None → o ≡ None
@@ -156,29 +172,39 @@ module _ (nodes : List Node) where
 
 module _ (rows : List Row) (before after : List Node) (counts : AreTotals rows before) where
   pub many_counts : AreAsMany before after → AreTotals rows after
-  many_counts many = record { homes = λ level known. counts.homes level known ∙ sym (many.nodes level); labels = λ level known. counts.labels level known ∙ sym (many.bytes level) }
+  many_counts many = record {
+    levels = counts.levels;
+    homes = λ level. counts.homes level ∙ sym (many.nodes level);
+    labels = λ level. counts.labels level ∙ sym (many.bytes level);
+    bounds = many.bounds counts.bounds;
+  }
+
+  -- a level that a policy may list has a row
+  pub has_row : (level : ℕ) → IsListed level → level < length rows
+  has_row level listed = let many : length rows ≡ MAX_LEVELS = counts.levels in let below : level < MAX_LEVELS = listed in omega arith
 
   pub more_counts : (home : ℕ) → IsMore home before after → AreTotals (node_charged rows home) after
-  more_counts home more = totals_of after (sums-charged (sums_of counts) home (nodes_used after) more.nodes) (λ level. refl) more.bytes
+  more_counts home more = totals_of after (sums-charged (sums_of counts) home (nodes_used after) (has_row home (more.listed counts.bounds)) more.nodes) (λ level. refl) more.bytes
+      (charged_levels rows home ∙ counts.levels) (more.bounds counts.bounds)
 
   -- what went was counted
   pub went_held : (gone : Option Gone) → WentFrom gone before after → IsHeld rows gone
   went_held None went = tt
-  went_held (Some g) went = (node, bytes)
+  went_held (Some g) went = ((has_row home (went.home_listed counts.bounds), node), (has_row g.label (went.label_listed counts.bounds), bytes))
     where
       home : ℕ
       home = g.node.level
 
-      node : home < length rows → 0 < (row_at rows home).nodes
-      node known =
+      node : 0 < (row_at rows home).nodes
+      node =
           let sum : nodes_used after home + cond (home == home) 1 0 ≡ nodes_used before home = went.less_nodes home in
-          let total : (row_at rows home).nodes ≡ nodes_used before home = counts.homes home known in
+          let total : (row_at rows home).nodes ≡ nodes_used before home = counts.homes home in
           grind (arith, nat_tests, sum, total)
 
-      bytes : g.label < length rows → gone_bytes g ≤ (row_at rows g.label).bytes
-      bytes known =
+      bytes : gone_bytes g ≤ (row_at rows g.label).bytes
+      bytes =
           let sum : bytes_used after g.label + cond (g.label == g.label) (gone_bytes g) 0 ≡ bytes_used before g.label = went.less_bytes g.label in
-          let total : (row_at rows g.label).bytes ≡ bytes_used before g.label = counts.labels g.label known in
+          let total : (row_at rows g.label).bytes ≡ bytes_used before g.label = counts.labels g.label in
           grind (arith, nat_tests, sum, total)
 
   pub taken_held : {A : Type 0} (gone : A → Option Gone) (found : Result A Refusal) → TakenFrom gone found before after → IfOk found (λ a. IsHeld rows (gone a))

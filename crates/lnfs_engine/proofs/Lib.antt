@@ -10,5 +10,6 @@ pub mod Staying
 pub mod Running
 pub mod Serving
 pub mod OnNames
+pub mod FirstBounds
 pub mod Counting
 pub mod NamesCounts

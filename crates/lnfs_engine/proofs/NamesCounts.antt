@@ -1,28 +1,31 @@
 -- How many nodes and bytes each level has after an operation that changes the tree.
 use Rattle.std.proofs.Common.{◌≡◌, ◌==◌, ℕ, Bool, true, false, cond, not, List, [], ◌∷◌, Option, Some, None, refl, sym, ap, ◌∙◌, subst, arith}
-use Rattle.std.specs.Prelude.{◌++◌, if◌then◌else◌}
+use Rattle.std.specs.Prelude.{◌++◌, ◌&&◌, nat_lt, if◌then◌else◌}
+use Rattle.std.specs.List.{AllByRecursion}
 use Rattle.std.specs.Option.{option_and_then}
+use Rattle.std.proofs.lemmas.Bool.{and_parts}
 use Rattle.std.proofs.lemmas.Bool.Decides.{nat_tests}
 use Rattle.std.proofs.lemmas.List.{append-nil}
 use Rattle.lnfs_types.specs.declared.event.Moment.{Moment}
 use Rattle.lnfs_attrs.specs.declared.raw.RawAttrs.{RawAttrs}
+use Rattle.lnfs_attrs.specs.declared.view.LabelValue.{LabelValue}
 use Rattle.lnfs_arguments.specs.declared.stateid.Cinfo.{Cinfo}
 use Rattle.lnfs_arguments.specs.declared.types.What.{What}
 use Rattle.lnfs_arguments.specs.declared.types.What.TheVariants.{Dir, Symlink}
-use Rattle.lnfs_world.specs.World.{Id, Node, Entry, World, same_id, node_at, is_directory}
+use Rattle.lnfs_world.specs.World.{Id, Stored, Node, Entry, World, same_id, node_at, is_directory}
 use Rattle.lnfs_world.specs.Names.{entry_at, size_of}
 use Rattle.lnfs_world.specs.Tree.{has_other_name, holds_names, goes_under}
-use Rattle.lnfs_world.specs.Usage.{bytes_of}
+use Rattle.lnfs_world.specs.Usage.{nodes_used, bytes_of}
 use Rattle.lnfs_world.specs.Change.{Change, Touch, Unlink, Drop, Move, apply, apply_all, touched}
-use Rattle.lnfs_world.specs.Effects.{attributes_changed, names_changed, name_added, next_entry, has_cookie, taken_out, may_give_way, directories_changed}
+use Rattle.lnfs_world.specs.Effects.{attributes_changed, names_changed, name_added, next_entry, has_cookie, has_number, taken_out, may_give_way, directories_changed}
 use Rattle.lnfs_world.specs.Facts.{NodeFacts}
-use Rattle.lnfs_world.specs.Outcome.{Site, Place, Outcome, done_to}
+use Rattle.lnfs_world.specs.Outcome.{LevelOf, Site, Place, Outcome, done_to}
 use Rattle.lnfs_world.proofs.Seen.{node_at-id}
 use Rattle.lnfs_world.proofs.NewNames.{next_absent}
 use Rattle.lnfs_operations.specs.declared.Gate.{Gate}
 use Rattle.lnfs_operations.specs.Chain.{Answer, Done, refuse, done, demand}
 use Rattle.lnfs_operations.specs.Create.{Made, kind_of, new_node, create, made as made_at}
-use Rattle.lnfs_operations.specs.Given.{set_of}
+use Rattle.lnfs_operations.specs.Given.{GivenLabel, spelled_by, level_or, set_of}
 use Rattle.lnfs_operations.specs.Handles.{with_node}
 use Rattle.lnfs_operations.specs.Judged.{where_allowed}
 use Rattle.lnfs_operations.specs.NewNames.{where_directory, where_old, unchanged}
@@ -42,13 +45,16 @@ use Rattle.lnfs_operations.proofs.FileLaws.{read_any}
 use Rattle.lnfs_operations.proofs.Readings.{read_link_any}
 use Rattle.lnfs_operations.proofs.ReadDirLaws.{read_dir_any}
 use Rattle.lnfs_operations.proofs.CreateLaws.{create_any}
+use Rattle.lnfs_operations.proofs.GivenLaws.{IsGiven}
 use Rattle.lnfs_operations.proofs.Namings.{removed, link_any}
 use Rattle.lnfs_tree.specs.Rows.{Rows}
 use Rattle.lnfs_tree.specs.Changed.{Gone, gone}
 use Rattle.lnfs_nodes.specs.Trees.{with_tree}
 use Rattle.lnfs_nodes.specs.Told.{bytes_in, gone_at, gone_from}
 use Rattle.lnfs_nodes.specs.Renames.{gone_between, gone_past}
-use Rattle.lnfs_files.specs.Charges.{IsLess}
+use Rattle.lnfs_quota.specs.Totals.{IsInBounds}
+use Rattle.lnfs_quota.proofs.Bounded.{bounds_found, empty_bounds}
+use Rattle.lnfs_files.specs.Charges.{IsLess, IsListed}
 use Rattle.lnfs_engine.specs.Counts.{AreAsMany, IsMore, WentFrom}
 use Rattle.lnfs_engine.proofs.Counting.{Touched, as_many, untouched, touch, dropped, made}
 
@@ -96,13 +102,34 @@ module _ (site : Site) (p : Place) (rest : World) (t : Rows) (facts : NodeFacts 
   abbrev pub MadeOne : Outcome (Answer Made) → Type 0
   MadeOne o = (r : Made) → o.answer ≡ Done r → IsMore p.subject t.nodes (done_to w o).nodes
 
-  pub create_more : (what : What) (name : List ℕ) (given : RawAttrs) → MadeOne (create site what name given p w)
-  create_more what name given = create_any MadeOne site what name given p w (λ gate status r is. absurd cc) (λ values label d parsed as_given may r is.
+  abbrev pub HasRoom : Outcome (Answer Made) → Type 0
+  HasRoom o = (r : Made) → o.answer ≡ Done r → nat_lt (nodes_used t.nodes p.subject) (site.nodes p.subject) ≡ true
+
+  -- each level that is read of a label is one that a policy may list
+  abbrev pub Listing : Type 0
+  Listing = (spelled : Stored) (level : ℕ) → site.reading spelled ≡ LevelOf level → IsListed level
+
+  level_listed : Listing → (value : Option LabelValue) (label : Option GivenLabel) (level : ℕ) → IsGiven site value label → IsListed level → IsListed (level_or level label)
+  level_listed law None label level absent listed = subst (λ (o : Option GivenLabel). IsListed (level_or level o)) (sym absent) listed
+  level_listed law (Some v) label level read listed = subst (λ (o : Option GivenLabel). IsListed (level_or level o)) (sym read.2) (law (spelled_by v) read.0 read.1)
+
+  pub create_more : Listing → (what : What) (name : List ℕ) (given : RawAttrs) → MadeOne (create site what name given p w)
+  create_more law what name given = create_any MadeOne site what name given p w (λ gate status r is. absurd cc) (λ values label d parsed as_given may r is.
       let n : Node = new_node site p w what values.mode label d in
       let own : d.label ≡ p.subject = let same = may.own in grind (arith, nat_tests, same) in
+      let bounds : AllByRecursion IsInBounds t.nodes → IsInBounds n = λ all.
+      let home : IsInBounds d = bounds_found d.id d t.nodes all may.found in
+      empty_bounds n home.label (level_listed law values.label label d.label as_given home.label) (no_file n what) in
       let touched_one = touch t.nodes t.nodes d (name_added p.moment d.inner) may.found refl none in
       subst (λ home. IsMore home t.nodes (done_to w (made_at p d name (set_of given) n)).nodes) own
-      (made t.nodes (touched d.id (name_added p.moment d.inner) t.nodes) n (next_absent site.dom t.nodes t.entries t.lasts facts d.label) (no_file n what) touched_one))
+      (made t.nodes (touched d.id (name_added p.moment d.inner) t.nodes) n (next_absent site.dom t.nodes t.entries t.lasts facts d.label) (no_file n what) bounds touched_one))
+
+  -- it has room
+  pub create_room : (what : What) (name : List ℕ) (given : RawAttrs) → HasRoom (create site what name given p w)
+  create_room what name given = create_any HasRoom site what name given p w (λ gate status r is. absurd cc) (λ values label d parsed as_given may r is.
+      let own : d.label ≡ p.subject = let same = may.own in grind (arith, nat_tests, same) in
+      subst (λ (s : ℕ). nat_lt (nodes_used t.nodes s) (site.nodes s) ≡ true) own
+      (and_parts (nat_lt (nodes_used t.nodes d.label) (site.nodes d.label)) (has_number t.lasts d.label && has_cookie d) may.room).0)
 
   -- ---- a name that is taken out
 

@@ -111,6 +111,11 @@ module _ {A R : Type 0} (told : A → R) (lands : A → Place) (p : Place) (old 
   taken gone is (Ok a) did same stays went = subst (λ (w : World). WentFrom (gone a) old.nodes w.nodes) did.world (subst (λ g. WentFrom g old.nodes (done_to old o).nodes) (sym same) (went (told a) did.answer))
   taken gone is (Err why) did same stays went = subst (λ (w : World). AreAsMany old.nodes w.nodes) (sym did.world) stays
 
+  -- what holds behind each success
+  pub succeeded : (P : Type 0) (found : Result A Refusal) → Tells told lands p old new o found → ((r : R) → o.answer ≡ Done r → P) → IfOk found (λ a. P)
+  succeeded P (Ok a) did holds = holds (told a) did.answer
+  succeeded P (Err why) did holds = tt
+
   -- a success that makes a node is charged to its home
   pub charged_counts : (rows : List Row) (home : ℕ) (found : Result A Refusal) → Tells told lands p old new o found → AreTotals rows old.nodes → ((r : R) → o.answer ≡ Done r → IsMore home old.nodes (done_to old o).nodes) → AreTotals (charged rows home found) new.nodes
   charged_counts rows home (Ok a) did counts more = subst (λ (w : World). AreTotals (node_charged rows home) w.nodes) did.world (more_counts rows old.nodes (done_to old o).nodes counts home (more (told a) did.answer))

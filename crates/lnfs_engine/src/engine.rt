@@ -3,6 +3,7 @@ ghost use Rattle.std.specs.Prelude.{◌≡◌, ◌≤◌, ◌++◌, drop, length
 ghost use Rattle.std.specs.List.{AllByRecursion};
 ghost use Rattle.lnfs_policy.specs.Policy.{dominance};
 ghost use Rattle.lnfs_world.specs.Usage.{bytes_of};
+ghost use Rattle.lnfs_quota.specs.Totals.{IsInBounds};
 ghost use Rattle.lnfs_world.specs.Outcome.{begins_at};
 ghost use Rattle.lnfs_world.specs.Both.{both, BothStand};
 ghost use Rattle.lnfs_site.specs.Site.{site_of};
@@ -100,13 +101,15 @@ fn serve<X: Extra>(
 }
 
 impl<X: Extra> Engine<X> {
-    /// The nodes of a tree without bytes, no client, no open and no context. What each level uses is counted.
+    /// The nodes of a tree without bytes, no client, no open and no context. What each level uses is counted. The homes and
+    /// the labels are levels that a policy may list.
     ///
     /// # Errors
     ///
     /// `AllocError` where there is no memory.
     pub fn new(alloc: Global, tree: Tree, extra: X) -> Result<Engine<X>, AllocError>
         requires empty { AllByRecursion (λ n. bytes_of n n.kind ≡ 0) tree.nodes }
+        requires bounds { AllByRecursion IsInBounds tree.nodes }
         ensures store { IfOk result (λ engine. engine.store ≡ only_tree tree) }
         ensures extra { IfOk result (λ engine. engine.extra ≡ extra) }
     {

@@ -1,5 +1,5 @@
 //! The operations that make, name, move and take out nodes (RFC 8881 section 18).
-ghost use Rattle.std.specs.Prelude.{◌≡◌, List, Some, IfOk};
+ghost use Rattle.std.specs.Prelude.{◌≡◌, ◌<◌, List, Some, IfOk, length};
 ghost use Rattle.std.specs.Option.{option_map};
 ghost use Rattle.lnfs_world.specs.World.{Node, World};
 ghost use Rattle.lnfs_world.specs.Facts.{NodeFacts};
@@ -30,7 +30,7 @@ use crate::place::{Place, Request, caller_of};
 use crate::reply::{Answer, Came, say};
 use lnfs_arguments::{Op, What};
 use lnfs_attrs::RawAttrs;
-use lnfs_files::room_for;
+use lnfs_files::{are_listed, room_for};
 use lnfs_nodes::{Created, cinfo, create, link, remove, rename};
 use lnfs_open::Opens;
 use lnfs_operations::Refusal;
@@ -159,7 +159,8 @@ fn on_rename(
 
 /// What CREATE tells. The new node is added to the total of the subject's level, and becomes the current file handle.
 fn take_made(quota: &mut Quota, place: &mut Place, told: Result<Created, Refusal>) -> Answer
-    requires rises { MayRise quota.old place.old.subject.0 }
+    requires known { IfOk told (λ c. place.old.subject.0 < length quota.old) }
+    requires rises { IfOk told (λ c. MayRise quota.old place.old.subject.0) }
     ensures answer { result ≡ told_as (λ c. results.Create (cinfo_of c.info) c.set) told }
     ensures plain { IsPlain result }
     ensures place { place_of place.new ≡ landed (λ c. record (place_of place.old) { current = Some (id_of c.node) }) (place_of place.old) told }
@@ -195,7 +196,9 @@ fn on_create(
     ensures counts { AreTotals quota.new tree.new.nodes }
 {
     let caller = caller_of(place);
-    let room = room_for(request.site, quota, place.subject)?;
+    // The call says that a label that is given is one of those that a policy may list.
+    are_listed(request.site);
+    let room = room_for(request.site, quota, place.subject);
     let told = create(
         request.alloc,
         request.site,

@@ -86,15 +86,12 @@ fn tell_access(bits: Result<AccessBits, Refusal>) -> Answer
     }
 }
 
-/// How many bytes the files of a level have. There is no answer for a level that isn't counted.
-fn used_by(quota: &Quota, level: Level) -> Result<u64, AllocError>
-    ensures { IfOk result (λ used. (nodes : List Node) → AreTotals quota.now nodes → used ≡ bytes_used nodes level.0) }
+/// How many bytes the files of a level have.
+fn used_by(quota: &Quota, level: Level) -> u64
+    ensures { (nodes : List Node) → AreTotals quota.now nodes → result ≡ bytes_used nodes level.0 }
 {
-    if !quota.knows(level) {
-        return Err(AllocError);
-    }
     let (_, used) = quota.used(level);
-    Ok(used)
+    used
 }
 
 /// A result without anything behind its status, or what refused the operation.
@@ -182,7 +179,7 @@ pub fn on_nodes(
             wrote(out, op, answer)
         }
         Op::GetAttr { asked } => {
-            let used = used_by(quota, subject)?;
+            let used = used_by(quota, subject);
             let viewer = Viewer { subject, used };
             let answer = get_attr(request.alloc, site, tree, viewer, current, asked, out)?;
             wrote(out, op, answer)
@@ -198,7 +195,7 @@ pub fn on_nodes(
                 maxcount: *maxcount,
                 asked,
             };
-            let used = used_by(quota, subject)?;
+            let used = used_by(quota, subject);
             let viewer = Viewer { subject, used };
             let alloc = request.alloc;
             let moment = place.moment;
@@ -206,13 +203,13 @@ pub fn on_nodes(
             wrote(out, op, answer)
         }
         Op::Verify { attrs } => {
-            let used = used_by(quota, subject)?;
+            let used = used_by(quota, subject);
             let viewer = Viewer { subject, used };
             let answer = verify(request.alloc, site, tree, viewer, current, attrs)?;
             say(out, op, plain(answer, OpResult::Verify))
         }
         Op::NVerify { attrs } => {
-            let used = used_by(quota, subject)?;
+            let used = used_by(quota, subject);
             let viewer = Viewer { subject, used };
             let answer = nverify(request.alloc, site, tree, viewer, current, attrs)?;
             say(out, op, plain(answer, OpResult::NVerify))

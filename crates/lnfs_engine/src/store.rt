@@ -1,9 +1,8 @@
 //! The rows of the world.
-ghost use Rattle.std.specs.Prelude.{◌≡◌, ◌<◌, IfOk};
+ghost use Rattle.std.specs.Prelude.{◌≡◌, IfOk};
 ghost use Rattle.std.specs.List.{AllByRecursion};
-ghost use Rattle.lnfs_calipso.specs.declared.lattice.TheConstants.{MAX_LEVELS};
 ghost use Rattle.lnfs_world.specs.Usage.{nodes_used, bytes_used, bytes_of};
-ghost use Rattle.lnfs_quota.specs.Totals.{AreTotals};
+ghost use Rattle.lnfs_quota.specs.Totals.{IsInBounds, AreTotals};
 ghost use Rattle.lnfs_session.specs.Standing as sessions;
 ghost use Rattle.lnfs_tree.specs.Rows.{rows_of};
 ghost use Rattle.lnfs_open.specs.Lists as opens;
@@ -45,13 +44,15 @@ impl Model for Store {
 }
 
 impl Store {
-    /// The nodes of a tree without bytes, no client, no open and no context. What each level uses is counted.
+    /// The nodes of a tree without bytes, no client, no open and no context. What each level uses is counted. The homes and
+    /// the labels are levels that a policy may list.
     ///
     /// # Errors
     ///
     /// `AllocError` where there is no memory.
     pub fn new(alloc: Global, tree: Tree) -> Result<Store, AllocError>
         requires empty { AllByRecursion (λ n. bytes_of n n.kind ≡ 0) tree.nodes }
+        requires bounds { AllByRecursion IsInBounds tree.nodes }
         ensures { IfOk result (λ store. store ≡ only_tree tree) }
     {
         let quota = counted(alloc, &tree)?;
@@ -92,15 +93,11 @@ impl Store {
         &self.quota
     }
 
-    /// What a level uses: the nodes whose home it is, then the bytes of the files whose label it is. A policy lists at most 32
-    /// levels.
+    /// What a level uses: the nodes whose home it is, then the bytes of the files whose label it is.
     pub fn used(&self, level: Level) -> (u64, u64)
-        requires { level.0 < MAX_LEVELS }
         ensures nodes { result.0 ≡ nodes_used self.now.nodes level.0 }
         ensures bytes { result.1 ≡ bytes_used self.now.nodes level.0 }
     {
-        // The call says that so many levels are counted.
-        let _levels = self.quota.levels();
         self.quota.used(level)
     }
 

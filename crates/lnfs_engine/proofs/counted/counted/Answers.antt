@@ -8,5 +8,5 @@ pub returns : goal.returns
 returns c =
     let nodes = c.args.tree.now.nodes in
     IfOk-weaker c.counted.result _ (λ quota. AreTotals quota nodes)
-    (λ quota totals. totals nodes (sym c.in_ok-homes.ensures ∙ ap (λ (homes : List Level). map (λ l. l.0) homes) (sym c.deref.ensures.value)) c.requires.empty)
+    (λ quota totals. totals nodes (sym c.in_ok-homes.ensures ∙ ap (λ (homes : List Level). map (λ l. l.0) homes) (sym c.deref.ensures.value)) c.requires.empty c.requires.bounds)
     c.counted.ensures
