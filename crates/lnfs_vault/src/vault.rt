@@ -1,5 +1,5 @@
 //! The vault.
-ghost use Rattle.std.specs.Prelude.{◌≡◌, ◌+◌, ◌<◌, ◌≤◌, ℕ, List, [], ◌∷◌, ◌++◌, Some, true, false, length, IfOk, IfSome, OnOk, OnErr, IsErr};
+ghost use Rattle.std.specs.Prelude.{◌≡◌, ◌+◌, ◌≤◌, ℕ, List, [], ◌∷◌, ◌++◌, Some, true, false, length, IfOk, IfSome, OnOk, OnErr, IsErr};
 ghost use Rattle.lnfs_types.specs.declared.limits.TheConstants.{RECORD_LIMIT};
 ghost use Rattle.lnfs_types.specs.Moments.{Fits};
 ghost use Rattle.lnfs_policy.specs.Policy.{dominance};
@@ -161,17 +161,13 @@ impl<M: Mechanism + Drop, X: Extra> VaultOf<M, X> {
         &self.journal
     }
 
-    /// What a level uses: the nodes whose home it is, then the bytes of the files whose label it is. Both are kept as totals,
-    /// one of each for each level of the policy.
+    /// What a level uses: the nodes whose home it is, then the bytes of the files whose label it is. Both are kept as totals.
     pub fn used(&self, level: Level) -> (u64, u64)
-        requires { level.0 < length self.now.policy.labels }
         ensures nodes { self.now.stopped ≡ false →
             result.0 ≡ nodes_used (state_after X.extra M.signing self.now.policy self.now.journal).world.nodes level.0 }
         ensures bytes { self.now.stopped ≡ false →
             result.1 ≡ bytes_used (state_after X.extra M.signing self.now.policy self.now.journal).world.nodes level.0 }
     {
-        // The call says that a policy lists at most 32 levels.
-        let _levels = self.policy.lattice().len();
         self.engine.store.used(level)
     }
 
