@@ -5,7 +5,8 @@ ghost use Rattle.lnfs_history.specs.Rules.{keeper};
 
 use crate::entry::View;
 use atomic_table::{Join, Play, Seat, Split, Table, TableRule};
-use lnfs_types::{Event, Octets};
+use lnfs_rpc::ReplyRecord;
+use lnfs_types::Event;
 use std::alloc::{AllocError, Global};
 use std::marker::{Brand, Model, PhantomData};
 use std::snapshot::Snapshot;
@@ -231,7 +232,7 @@ impl<B: Room> History<B> {
         keeper: &mut Recorder<B>,
         place: LinkView<B>,
         event: &Snapshot<Event>,
-        reply: &Option<Octets>,
+        reply: &Option<ReplyRecord>,
     ) -> LinkView<B>
         requires { event.now.value.link ≡ place.link }
         ensures place { result ≡ part place.link (place.entries ++ entry event.now.value reply.now ∷ []) }
@@ -246,7 +247,7 @@ impl<B: Room> History<B> {
         keeper: &mut Recorder<B>,
         place: LinkView<B>,
         event: &Snapshot<Event>,
-        reply: &Option<Octets>,
+        reply: &Option<ReplyRecord>,
     ) -> LinkView<B>
         requires entry { E.entry ≡ entry event.now.value reply.now }
         requires link { E.entry.event.link ≡ place.link }

@@ -44,7 +44,7 @@ fn serve_event<M: Mechanism + Drop, K: Sink, A: Sink>(
     ensures cause { WritesOnly result (counts (K.write_faults out.old) (A.write_faults audit.old)) (counts (K.write_faults out.new) (A.write_faults audit.new)) }
 {
     let served = vault.serve(codecs, event)?;
-    let bytes = frame(alloc, &served.reply)?;
+    let bytes = frame(alloc, served.reply);
     let line = text_of(alloc, &served.line)?;
     put(out, &bytes)?;
     put_line(out, audit, &line)

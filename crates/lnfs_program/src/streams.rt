@@ -10,8 +10,9 @@ ghost use Rattle.lnfs_workers.specs.Transcripts.{framed};
 
 use crate::status::{Status, Stop};
 use lnfs_outside::{Files, Sink, put_all};
-use lnfs_types::{Octets, RECORD_LIMIT};
-use std::alloc::{AllocError, Global};
+use lnfs_rpc::ReplyRecord;
+use lnfs_types::RECORD_LIMIT;
+use std::alloc::Global;
 
 /// The length of a piece that is read at once, in bytes.
 pub const PIECE: usize = 65_536;
@@ -129,13 +130,14 @@ pub fn read_file<F: Files>(
     Ok(Some(bytes))
 }
 
-/// A reply as the one fragment that it is sent in (RFC 5531 section 11); nothing where there is none.
-pub fn frame(alloc: Global, reply: &Option<Octets>) -> Result<Vec<u8>, AllocError>
-    requires { IfSome reply.now (λ bytes. length bytes ≤ RECORD_LIMIT) }
-    ensures { IfOk result (λ bytes. bytes.items ≡ framed reply.now) }
+/// A reply as the one fragment that it is sent in (RFC 5531 section 11); nothing where there is none. Takes
+/// no memory.
+pub fn frame(alloc: Global, reply: Option<ReplyRecord>) -> Vec<u8>
+    requires { IfSome reply (λ bytes. length bytes ≤ RECORD_LIMIT) }
+    ensures { result.items ≡ framed reply }
 {
     match reply {
-        Some(reply) => lnfs_rpc::frame(alloc, reply.as_slice()),
-        None => Ok(Vec::new(alloc)),
+        Some(reply) => reply.into_frame(),
+        None => Vec::new(alloc),
     }
 }

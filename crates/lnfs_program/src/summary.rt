@@ -52,14 +52,14 @@ fn count<M: Mechanism + Drop>(
     ensures state { OnOk result (vault.new ≡ record vault.old { journal = vault.old.journal ++ event ∷ [] }) }
 {
     let served = vault.serve(codecs, event)?;
-    let bytes = frame(alloc, &served.reply)?;
-    tally.frames.update(bytes.as_slice());
     if served.reply.is_some() {
         tally.replies += 1;
     }
     if served.line.is_some() {
         tally.failed += 1;
     }
+    let bytes = frame(alloc, served.reply);
+    tally.frames.update(bytes.as_slice());
     Ok(())
 }
 

@@ -61,10 +61,8 @@ fn replies_to(rt: &impl Abort, alloc: Global, events: Vec<Event>) -> Result<Vec<
             continue;
         }
         let served = vault.serve(&codecs, event)?;
-        if let Some(reply) = &served.reply {
-            let head = 0x8000_0000 | u32::try_from(reply.len()).unwrap_or(0);
-            frames.extend_from_slice(&head.to_be_bytes())?;
-            frames.extend_from_slice(reply.as_slice())?;
+        if let Some(reply) = served.reply {
+            frames.extend_from_slice(&reply.into_frame())?;
         }
     }
     Ok(frames)

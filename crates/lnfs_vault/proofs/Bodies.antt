@@ -1,5 +1,5 @@
--- What is signed of a result that is within the limits of the server has a length that a word spells.
-use Rattle.std.proofs.Common.{◌≡◌, ◌≤◌, ◌<◌, ◌^◌, ◌+◌, ℕ, List, ◌++◌, length, ap, arith}
+-- What is signed of a result that is within the limits of the server has a length that a word spells; one that is not signed stands behind the room of a head.
+use Rattle.std.proofs.Common.{◌≡◌, ◌≤◌, ◌<◌, ◌^◌, ◌+◌, ℕ, List, [], ◌++◌, length, ap, ◌∙◌, append_assoc, arith}
 use Rattle.std.proofs.lemmas.List.{length-append}
 use Rattle.lnfs_calipso.specs.Label.{IsPreorderWithBottom}
 use Rattle.lnfs_types.specs.declared.event.Moment.{Moment}
@@ -14,20 +14,26 @@ use Rattle.lnfs_operations.specs.SlotRule.{served}
 use Rattle.lnfs_operations.specs.Sizes.{Sizes, IsRead}
 use Rattle.lnfs_operations.proofs.SizeLaws.{served_short}
 use Rattle.lnfs_xdr.specs.Canon.{word}
+use Rattle.lnfs_rpc.specs.Formats.{head_room}
+use Rattle.lnfs_rpc.specs.Replies.{accepted, reply_text}
+use Rattle.lnfs_rpc.proofs.Rooms.{has_room}
 use Rattle.lnfs_xdr.proofs.Sizes.{length-word}
 use Rattle.lnfs_gss3.specs.Mechanism.{Signing}
 use Rattle.lnfs_step.proofs.FirstSizes.{spells_shortly}
-use Rattle.lnfs_step.specs.Wrapping.{Wrapping, Plain, Signed}
-use Rattle.lnfs_vault.specs.Requests.{results_begun, FitsBody}
+use Rattle.lnfs_step.specs.declared.numbers.TheConstants.{SUCCESS}
+use Rattle.lnfs_step.specs.Wrapping.{Wrapping, Plain, Signed, verifier_in}
+use Rattle.lnfs_vault.specs.Requests.{results_begun, IsBegun}
 
 -- a databody of a result that is short
-pub fits : (m : Signing) (w : Wrapping) (xid : ℕ) (built results : List ℕ) → length results ≤ 65536 → built ≡ results_begun m w xid ++ results → FitsBody w built
-fits m Plain xid built results short is = tt
+pub fits : (m : Signing) (w : Wrapping) (xid : ℕ) (built results : List ℕ) → length results ≤ 65536 → built ≡ results_begun m w xid ++ results → IsBegun w built
+fits m Plain xid built results short is =
+    let head = reply_text xid (accepted (verifier_in m Plain) SUCCESS) [] in
+    has_room built (head ++ results) (is ∙ append_assoc head_room head results)
 fits m (Signed parent header sequence) xid built results short is = omega (arith, short, ap length is, length-append (word sequence) results, length-word sequence)
 
 pub body_fits : (X : Extra) → AreLawful X → (m : Signing) (w : Wrapping) (xid : ℕ) (built : List ℕ) (p : Policy) → IsPreorderWithBottom (dominance p) → (sent : Sent) (c : Compound) (level : ℕ) (moment : Moment) (b : Both X.Row) →
     BothStand X.Fact (dominance p) (begins_at level moment) b → Sizes b.world → IsRead c →
-    built ≡ results_begun m w xid ++ (served X (site_of p) sent c (begins_at level moment) b).answer.result → FitsBody w built
+    built ≡ results_begun m w xid ++ (served X (site_of p) sent c (begins_at level moment) b).answer.result → IsBegun w built
 body_fits X owed m w xid built p lattice sent c level moment b stands sizes read is =
     let result = (served X (site_of p) sent c (begins_at level moment) b).answer.result in
     fits m w xid built result (omega (arith, served_short X owed (site_of p) lattice (spells_shortly p) sent c level moment b stands sizes read)) is

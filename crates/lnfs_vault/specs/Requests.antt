@@ -3,6 +3,8 @@ use Rattle.std.specs.Prelude.{◌≡◌, ◌≤◌, ◌<◌, ◌^◌, ℕ, List,
 use Rattle.lnfs_xdr.specs.declared.flavors.TheConstants.{AUTH_NONE, RPCSEC_GSS}
 use Rattle.lnfs_xdr.specs.Canon.{word}
 use Rattle.lnfs_rpc.specs.Calls.{OpaqueAuth}
+use Rattle.lnfs_rpc.specs.Numbers.{head_length}
+use Rattle.lnfs_rpc.specs.Formats.{head_room}
 use Rattle.lnfs_rpc.specs.Replies.{accepted, reply_text}
 use Rattle.lnfs_format.specs.declared.formats.TheConstants.{MAX_SPELLING}
 use Rattle.lnfs_operations.specs.Sizes.{IsRead}
@@ -86,12 +88,12 @@ abbrev pub verifier_by : Option (List ℕ) → OpaqueAuth
 verifier_by None = record { flavor = AUTH_NONE; body = [] }
 verifier_by (Some mic) = record { flavor = RPCSEC_GSS; body = mic }
 
--- what stands before results in the buffer that they are built in
+-- what stands before results in the buffer that they are built in: the head of the reply, or the front of what is signed
 abbrev pub results_begun : Signing → wrapping.Wrapping → (xid : ℕ) → List ℕ
-results_begun m wrapping.Plain xid = reply_text xid (accepted (verifier_in m wrapping.Plain) SUCCESS) []
+results_begun m wrapping.Plain xid = head_room ++ reply_text xid (accepted (verifier_in m wrapping.Plain) SUCCESS) []
 results_begun m (wrapping.Signed parent header sequence) xid = word sequence
 
--- what is signed has a length that a word spells
-abbrev pub FitsBody : wrapping.Wrapping → (built : List ℕ) → Type 0
-FitsBody wrapping.Plain built = Unit {0}
-FitsBody (wrapping.Signed parent header sequence) built = length built < 2 ^ 32
+-- The room of a frame's head is there; what is signed has a length that a word spells.
+abbrev pub IsBegun : wrapping.Wrapping → (built : List ℕ) → Type 0
+IsBegun wrapping.Plain built = head_length ≤ length built
+IsBegun (wrapping.Signed parent header sequence) built = length built < 2 ^ 32

@@ -28,15 +28,16 @@ use lnfs_format::Codecs;
 use lnfs_gss3::numbers::RPCSEC_GSS_CTXPROBLEM;
 use lnfs_gss3::{ContextError, ContextHandle, Mechanism, put_create_results};
 use lnfs_operations::numbers::MOST_SIZE;
+use lnfs_rpc::ReplyRecord;
 use lnfs_site::Site;
 use lnfs_step::numbers::{GARBAGE_ARGS, SYSTEM_ERR};
-use lnfs_types::{Event, Octets};
+use lnfs_types::Event;
 use std::alloc::{AllocError, Global};
 
 /// What a step says, before its event is in the journal.
 #[derive(Debug, Drop)]
 pub struct Said {
-    pub reply: Option<Octets>,
+    pub reply: Option<ReplyRecord>,
     pub line: Option<AuditLine>,
 }
 

@@ -30,9 +30,10 @@ use lnfs_engine::{Engine, Extra, NoExtra, first_tree};
 use lnfs_format::Codecs;
 use lnfs_gss3::Mechanism;
 use lnfs_policy::Policy;
+use lnfs_rpc::ReplyRecord;
 use lnfs_site::{Labels, Site};
 use lnfs_step::{purge, sessions};
-use lnfs_types::{Event, Octets};
+use lnfs_types::Event;
 use std::alloc::{AllocError, Global};
 use std::marker::Model;
 
@@ -40,7 +41,7 @@ use std::marker::Model;
 #[derive(Debug, Drop)]
 pub struct Served {
     /// The reply record; None where none is due.
-    pub reply: Option<Octets>,
+    pub reply: Option<ReplyRecord>,
     /// What was refused, if anything was.
     pub line: Option<AuditLine>,
     /// The event's place in the journal, from 1.

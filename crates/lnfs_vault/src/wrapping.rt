@@ -1,17 +1,17 @@
 //! How a reply is wrapped: plainly, or signed under a parent of the policy.
 ghost use Rattle.std.specs.Prelude.{◌≡◌, ◌++◌, ◌≤◌, ℕ, List, [], length, IfOk};
 ghost use Rattle.lnfs_rpc.specs.Calls.{seen_auth};
+ghost use Rattle.lnfs_rpc.specs.Formats.{head_room};
 ghost use Rattle.lnfs_rpc.specs.Numbers.{body_limit};
 ghost use Rattle.lnfs_rpc.specs.Replies.{accepted, reply_text};
 ghost use Rattle.lnfs_step.specs.Wrapping.{verifier_in, answer_text, bare_text, results_in, refusal_text};
-ghost use Rattle.lnfs_vault.specs.Requests.{seen_wrapping, seen_cause, verifier_by, results_begun, FitsBody};
+ghost use Rattle.lnfs_vault.specs.Requests.{seen_wrapping, seen_cause, verifier_by, results_begun, IsBegun};
 
 use crate::request::{Cause, Wrapping};
 use lnfs_gss3::numbers::SIGNATURE;
 use lnfs_gss3::{Mechanism, append_signed, begin_databody, reply_mic};
-use lnfs_rpc::{Auth, Head, NFS_VERSION, PROG_MISMATCH, begin_reply, write_reply};
+use lnfs_rpc::{Auth, Head, NFS_VERSION, PROG_MISMATCH, ReplyRecord, begin_reply, write_reply};
 use lnfs_step::numbers::SUCCESS;
-use lnfs_types::Octets;
 use lnfs_xdr::{AUTH_NONE, RPCSEC_GSS, XdrWriter};
 use std::alloc::{AllocError, Global};
 
@@ -51,8 +51,8 @@ fn verifier(mic: &Option<[u8; SIGNATURE]>) -> Auth<'_>
     }
 }
 
-/// The reply to a call that was accepted, without its results, which are appended behind it. The buffer's room is reserved
-/// at once: `results` is how many bytes of them are to come.
+/// The reply to a call that was accepted, without its results, which are appended behind it. It stands behind the room of
+/// its frame's head. The buffer's room is reserved at once: `results` is how many bytes of them are to come.
 fn begin_accepted<M: Mechanism>(
     alloc: Global,
     mechanism: &M,
@@ -61,7 +61,8 @@ fn begin_accepted<M: Mechanism>(
     stat: u32,
     results: usize,
 ) -> Result<XdrWriter, AllocError>
-    ensures { IfOk result (λ out. out ≡ reply_text xid (accepted (verifier_in M.signing (seen_wrapping wrapping.now)) stat) []) }
+    ensures { IfOk result (λ out.
+        out ≡ head_room ++ reply_text xid (accepted (verifier_in M.signing (seen_wrapping wrapping.now)) stat) []) }
 {
     let mic = mic_in(alloc, mechanism, wrapping)?;
     let head = Head::Accepted {
@@ -77,11 +78,11 @@ pub fn bare<M: Mechanism>(
     mechanism: &M,
     wrapping: &Wrapping<'_>,
     xid: u32,
-) -> Result<Octets, AllocError>
+) -> Result<ReplyRecord, AllocError>
     ensures { IfOk result (λ reply. reply ≡ bare_text M.signing (seen_wrapping wrapping.now) xid) }
 {
     let out = begin_accepted(alloc, mechanism, wrapping, xid, SUCCESS, 0)?;
-    Ok(Octets::new(out.into_bytes()))
+    Ok(ReplyRecord::new(out.into_bytes()))
 }
 
 /// A buffer for results of at most so many bytes: the reply's own, where they are sent as they are, or that of a databody.
@@ -107,18 +108,18 @@ pub fn end_results<M: Mechanism>(
     wrapping: &Wrapping<'_>,
     xid: u32,
     built: Vec<u8>,
-) -> Result<Octets, AllocError>
-    requires { FitsBody (seen_wrapping wrapping.now) built.items }
+) -> Result<ReplyRecord, AllocError>
+    requires { IsBegun (seen_wrapping wrapping.now) built.items }
     ensures { (results : List ℕ) → built.items ≡ results_begun M.signing (seen_wrapping wrapping.now) xid ++ results →
         IfOk result (λ reply. reply ≡ answer_text M.signing (seen_wrapping wrapping.now) xid results) }
 {
     match wrapping {
-        Wrapping::Plain => Ok(Octets::new(built)),
+        Wrapping::Plain => Ok(ReplyRecord::new(built)),
         Wrapping::Signed { parent, .. } => {
             let room = built.len().saturating_add(SIGNED);
             let mut out = begin_accepted(alloc, mechanism, wrapping, xid, SUCCESS, room)?;
             append_signed(&mut out, mechanism, parent, &built)?;
-            Ok(Octets::new(out.into_bytes()))
+            Ok(ReplyRecord::new(out.into_bytes()))
         }
     }
 }
@@ -145,7 +146,7 @@ pub fn refusal<M: Mechanism>(
     wrapping: &Wrapping<'_>,
     xid: u32,
     cause: Cause,
-) -> Result<Octets, AllocError>
+) -> Result<ReplyRecord, AllocError>
     ensures { IfOk result (λ reply. reply ≡ refusal_text M.signing (seen_wrapping wrapping.now) xid (seen_cause cause)) }
 {
     let results = results_of(alloc, cause)?;
@@ -158,5 +159,5 @@ pub fn refusal<M: Mechanism>(
         },
         Cause::Version => Head::VersionMismatch,
     };
-    Ok(Octets::new(write_reply(alloc, xid, &head, &results)?))
+    write_reply(alloc, xid, &head, &results)
 }

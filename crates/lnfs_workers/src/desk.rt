@@ -12,6 +12,7 @@ use lnfs_engine::Extra;
 use lnfs_format::Codecs;
 use lnfs_gss3::Mechanism;
 use lnfs_history::{History, LinkView, Recorder, Room};
+use lnfs_rpc::ReplyRecord;
 use lnfs_types::{Event, Moment, Octets};
 use lnfs_vault::{AuditLine, Served, VaultOf};
 use std::alloc::AllocError;
@@ -59,7 +60,7 @@ impl<B: Room, M: Mechanism + Drop, X: Extra> Desk<B, M, X> {
         history: &History<B>,
         place: LinkView<B>,
         arrival: LinkRecord,
-    ) -> (LinkView<B>, Result<Option<Octets>, AllocError>)
+    ) -> (LinkView<B>, Result<Option<ReplyRecord>, AllocError>)
         requires short { length arrival.message ≤ RECORD_LIMIT }
         requires secs { arrival.moment.secs ≤ 9223372036854775807 }
         requires nanos { arrival.moment.nanos < 1000000000 }
@@ -120,7 +121,7 @@ pub fn serve_record<B: Room, M: Mechanism + Drop, X: Extra>(
     desk: &Mutex<Desk<B, M, X>>,
     place: LinkView<B>,
     arrival: LinkRecord,
-) -> (LinkView<B>, Result<Option<Octets>, AllocError>)
+) -> (LinkView<B>, Result<Option<ReplyRecord>, AllocError>)
     requires short { length arrival.message ≤ RECORD_LIMIT }
     requires secs { arrival.moment.secs ≤ 9223372036854775807 }
     requires nanos { arrival.moment.nanos < 1000000000 }

@@ -8,15 +8,13 @@ ghost use Rattle.lnfs_workers.specs.Turns.{IsOfWriting};
 
 use crate::ending::Ending;
 use lnfs_outside::{Link, put_all};
-use lnfs_rpc::frame;
-use lnfs_types::Octets;
-use std::alloc::Global;
+use lnfs_rpc::ReplyRecord;
 
-/// Writes the frame of a reply, where there is one.
-pub fn put_reply<L: Link>(alloc: Global, link: &mut L, reply: &Option<Octets>) -> Result<(), Ending>
-    requires { IfSome reply.now (λ r. length r ≤ RECORD_LIMIT) }
-    ensures front { AppendsPart (L.taken link.old) (L.taken link.new) (framed reply.now) }
-    ensures whole { OnOk result (Appends (L.taken link.old) (L.taken link.new) (framed reply.now)) }
+/// Writes the frame of a reply, where there is one. Takes no memory.
+pub fn put_reply<L: Link>(link: &mut L, reply: Option<ReplyRecord>) -> Result<(), Ending>
+    requires { IfSome reply (λ r. length r ≤ RECORD_LIMIT) }
+    ensures front { AppendsPart (L.taken link.old) (L.taken link.new) (framed reply) }
+    ensures whole { OnOk result (Appends (L.taken link.old) (L.taken link.new) (framed reply)) }
     ensures ending { IfErr result (IsOfWriting (L.write_faults link.old) (L.write_faults link.new)) }
     ensures later { L.write_faults link.old ≤ L.write_faults link.new }
     ensures left { L.left link.new ≡ L.left link.old }
@@ -25,10 +23,7 @@ pub fn put_reply<L: Link>(alloc: Global, link: &mut L, reply: &Option<Octets>) -
     let Some(reply) = reply else {
         return Ok(());
     };
-    let Ok(bytes) = frame(alloc, reply.as_slice()) else {
-        return Err(Ending::Memory);
-    };
-    match put_all(link, &bytes) {
+    match put_all(link, &reply.into_frame()) {
         Ok(()) => Ok(()),
         Err(_) => Err(Ending::WriteFault),
     }
