@@ -15,7 +15,7 @@ mod streams;
 
 pub use authsys::{Sys, read_sys};
 pub use calls::{Auth, Call, CallError, read_call};
-pub use framing::frame;
+pub use framing::ReplyRecord;
 pub use numbers::{
     CALL, NFS_PROGRAM, NFS_VERSION, PROC_COMPOUND, PROG_MISMATCH, REPLY, RPC_VERSION,
 };
@@ -23,4 +23,4 @@ pub use promises::{
     call_grammar, credential_grammar, reply_grammar, stream_ends, stream_grammar, written_reply,
 };
 pub use replies::{Head, Reply, begin_reply, read_reply, write_reply};
-pub use streams::{DeframeError, Deframer};
+pub use streams::{DeframeError, Deframed, Deframer};

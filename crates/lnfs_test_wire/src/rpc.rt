@@ -1,9 +1,10 @@
 //! Calls, replies and records of RPC (RFC 5531).
 ghost use Rattle.lnfs_rpc.specs.Replies.{seen_head, BodyFits, ResultsFit};
+ghost use Rattle.lnfs_rpc.specs.Scanning.{Known};
 
 use lnfs_rpc::{
-    Auth, Call, CallError, DeframeError, Deframer, Head, Sys, frame, read_call, read_reply,
-    read_sys, write_reply,
+    Auth, Call, CallError, DeframeError, Deframed, Deframer, Head, ReplyRecord, Sys, read_call,
+    read_reply, read_sys, write_reply,
 };
 use lnfs_xdr::XdrError;
 use std::alloc::{AllocError, Global};
@@ -235,13 +236,51 @@ fn refused_replies(rt: HostRuntime) -> Result<(), AllocError> {
     Ok(())
 }
 
+/// A stream that comes in pieces: the bytes since its last record.
+#[derive(Drop)]
+struct Pieces {
+    alloc: Global,
+    bytes: Vec<u8>,
+    deframer: Deframer,
+    ghost known: { Known bytes.items deframer },
+}
+
+impl Pieces {
+    fn new(alloc: Global) -> Pieces {
+        Pieces {
+            alloc,
+            bytes: Vec::new(alloc),
+            deframer: Deframer::new(alloc),
+        }
+    }
+
+    /// One more piece.
+    #[tactic(auto, using(lnfs_rpc::proofs::Nexts::longer))]
+    fn feed(&mut self, piece: &[u8]) -> Result<(), AllocError> {
+        self.bytes.extend_from_slice(piece)?;
+        Ok(())
+    }
+
+    /// Takes the next record off.
+    fn next(&mut self) -> Result<Option<Vec<u8>>, DeframeError> {
+        match self.deframer.next(self.alloc, &self.bytes) {
+            Ok(Some(Deframed { record, length })) => {
+                self.bytes.drain(..length);
+                Ok(Some(record))
+            }
+            Ok(None) => Ok(None),
+            Err(e) => Err(e),
+        }
+    }
+}
+
 /// Takes the records that are whole, and tells how the last call ended.
 fn take_records(
-    deframer: &mut Deframer,
+    pieces: &mut Pieces,
     records: &mut Vec<Vec<u8>>,
 ) -> Result<Option<DeframeError>, AllocError> {
     for _ in 0..5000 {
-        match deframer.next() {
+        match pieces.next() {
             Ok(None) => break,
             Ok(Some(record)) => records.push(record)?,
             Err(e) => return Ok(Some(e)),
@@ -257,10 +296,10 @@ fn records_in(
     len: usize,
     records: &mut Vec<Vec<u8>>,
 ) -> Result<Option<DeframeError>, AllocError> {
-    let mut deframer = Deframer::new(alloc);
+    let mut pieces = Pieces::new(alloc);
     for piece in stream.chunks(len.max(1)) {
-        deframer.feed(piece)?;
-        let end = take_records(&mut deframer, records)?;
+        pieces.feed(piece)?;
+        let end = take_records(&mut pieces, records)?;
         if end.is_some() {
             return Ok(end);
         }
@@ -320,7 +359,10 @@ fn fragments_in_any_pieces(rt: HostRuntime) -> Result<(), AllocError> {
 #[test]
 fn a_frame_is_a_record(rt: HostRuntime) -> Result<(), AllocError> {
     let alloc = rt.alloc();
-    let framed = frame(alloc, &[1, 2, 3])?;
+    let built = Vec::from_slice(alloc, &[0, 0, 0, 0, 1, 2, 3])?;
+    let reply = ReplyRecord::new(built);
+    assert_eq!(rt; reply.as_slice(), [1, 2, 3].as_slice());
+    let framed = reply.into_frame();
     assert_eq!(rt; framed.as_slice(), [128, 0, 0, 3, 1, 2, 3].as_slice());
     assert_eq!(rt; count_in(alloc, &framed, 2)?, (1, None));
     Ok(())
@@ -358,16 +400,14 @@ fn records_at_the_limit(rt: HostRuntime) -> Result<(), AllocError> {
 
 /// Feeds heads of fragments, and one more that comes in two pieces: it is too long, and stays so.
 fn one_more_is_refused(rt: &impl Abort, alloc: Global, heads: &[u8]) -> Result<(), AllocError> {
-    let mut deframer = Deframer::new(alloc);
-    assert!(rt; !deframer.inside());
-    deframer.feed(heads)?;
-    deframer.feed(&[0, 0, 0, 0, 128, 0, 0])?;
-    assert!(rt; deframer.inside());
-    assert!(rt; matches!(deframer.next(), Ok(None)));
-    deframer.feed(&[0])?;
+    let mut pieces = Pieces::new(alloc);
+    pieces.feed(heads)?;
+    pieces.feed(&[0, 0, 0, 0, 128, 0, 0])?;
+    assert!(rt; matches!(pieces.next(), Ok(None)));
+    pieces.feed(&[0])?;
     for _ in 0..2 {
-        assert!(rt; matches!(deframer.next(), Err(DeframeError::TooLong)));
-        deframer.feed(&[128, 0, 0, 0])?;
+        assert!(rt; matches!(pieces.next(), Err(DeframeError::TooLong)));
+        pieces.feed(&[128, 0, 0, 0])?;
     }
     Ok(())
 }

@@ -162,7 +162,7 @@ ends_writing ending old now new pending after entries e g b is_of w later left r
     by_ending WriteFault h = (omega (arith, g.writing, h), refl, record { earlier = entries; last = e; part = w.part; all = refl; before = refl; behind = w.parts })
     by_ending TooLong h = absurd h
     by_ending Budget h = absurd h
-    by_ending Memory h = omega arith
+    by_ending Memory h = absurd h
 
 -- What is told of a link that is over is what was served: the link that was closed tells what it told before.
 pub told_over : {L : Type 0} (tell : L → Tells) (may : Moment → Type 0) (class : ℕ) (link : L) (end said : LinkEnd L) (place held : Part)

@@ -5,3 +5,4 @@ pub mod Pairs
 pub mod Dealt
 pub mod Seats
 pub mod Shares
+pub mod Buffers

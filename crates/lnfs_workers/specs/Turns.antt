@@ -50,4 +50,4 @@ IsOfWriting before now ReadFault = ⊥
 IsOfWriting before now WriteFault = Rose before now
 IsOfWriting before now TooLong = ⊥
 IsOfWriting before now Budget = ⊥
-IsOfWriting before now Memory = Unit {0}
+IsOfWriting before now Memory = ⊥

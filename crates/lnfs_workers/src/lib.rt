@@ -6,6 +6,7 @@
 //! the program runs, and no answer stands for a difference.
 #![tactic(auto)]
 
+mod buffer;
 mod clock;
 mod deal;
 mod desk;

@@ -9,14 +9,13 @@ use crate::desk::{Desk, LinkRecord, serve_record};
 use crate::ending::{BUDGET, Ending};
 use crate::gate::{TurnGate, Turns};
 use crate::line::{Done, LinkEnd, Waiting};
-use crate::reading::{next_record, read_on};
+use crate::reading::{Incoming, next_record, read_on};
 use crate::writing::put_reply;
 use lnfs_engine::Extra;
 use lnfs_format::Codecs;
 use lnfs_gss3::Mechanism;
 use lnfs_history::{History, LinkView, Room};
 use lnfs_outside::{Clock, Link};
-use lnfs_rpc::Deframer;
 use std::alloc::{AllocError, Global};
 use std::collections::VecDeque;
 use std::sync::{Mutex, Wait};
@@ -76,12 +75,12 @@ fn serve_link<
     ensures number { result.place.link ≡ place.link }
     ensures served { IsServed (telling L.left L.taken L.read_faults L.write_faults) (C.may shared.now.clock.now) class link result.end result.place.entries }
 {
-    let mut deframer = Deframer::new(shared.alloc);
+    let mut incoming = Incoming::new(shared.alloc);
     let mut records = 0;
     for _ in rt.forever() {
-        let message = match next_record(&mut deframer) {
+        let message = match next_record(&mut incoming) {
             Ok(Some(message)) => message,
-            Ok(None) => match read_on(&mut link, &mut deframer) {
+            Ok(None) => match read_on(&mut link, &mut incoming) {
                 None => continue,
                 Some(ending) => return over(class, link, ending, records, place),
             },
@@ -103,7 +102,7 @@ fn serve_link<
             return over(class, link, Ending::Memory, records, place);
         };
         records += 1;
-        let Err(ending) = put_reply(shared.alloc, &mut link, &reply) else {
+        let Err(ending) = put_reply(&mut link, reply) else {
             continue;
         };
         return over(class, link, ending, records, place);

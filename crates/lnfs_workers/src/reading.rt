@@ -1,44 +1,71 @@
 //! Records that come over a link.
-ghost use Rattle.std.specs.Prelude.{◌≡◌, ◌≤◌};
+ghost use Rattle.std.specs.Prelude.{◌≡◌, ◌≤◌, []};
 ghost use Rattle.lnfs_workers.specs.Turns.{Cuts, ReadOn};
 
+use crate::buffer::ReadBuffer;
 use crate::ending::Ending;
 use lnfs_outside::Link;
-use lnfs_rpc::{DeframeError, Deframer};
+use lnfs_rpc::{DeframeError, Deframed, Deframer};
 use lnfs_types::Octets;
+use std::alloc::Global;
+use std::marker::Model;
+
+/// What was read off a link and is not served yet.
+///
+/// Its value is the bytes since the last record that was given.
+#[derive(Drop)]
+pub struct Incoming {
+    alloc: Global,
+    buffer: ReadBuffer,
+    deframer: Deframer,
+}
+
+impl Model for Incoming {
+    ghost use Rattle.std.specs.Prelude.{List, ℕ};
+    ghost use Rattle.lnfs_rpc.specs.Scanning.{Known};
+
+    ghost Value = { List ℕ };
+
+    ghost view = { λ i. i.buffer };
+
+    ghost invariant = { λ i. Known i.buffer i.deframer };
+}
+
+impl Incoming {
+    /// Nothing was read yet. Takes no memory.
+    pub fn new(alloc: Global) -> Incoming
+        ensures { result ≡ [] }
+    {
+        Incoming {
+            alloc,
+            buffer: ReadBuffer::new(alloc),
+            deframer: Deframer::new(alloc),
+        }
+    }
+}
 
 /// The next record of what was read. None where it isn't whole yet; an error where the service ends.
-pub fn next_record(deframer: &mut Deframer) -> Result<Option<Octets>, Ending>
-    ensures { Cuts result deframer.old deframer.new }
+pub fn next_record(incoming: &mut Incoming) -> Result<Option<Octets>, Ending>
+    ensures { Cuts result incoming.old incoming.new }
 {
-    match deframer.next() {
-        Ok(Some(record)) => Ok(Some(Octets::new(record))),
+    let bytes = incoming.buffer.as_slice();
+    match incoming.deframer.next(incoming.alloc, bytes) {
+        Ok(Some(Deframed { record, length })) => {
+            incoming.buffer.take_off(length);
+            Ok(Some(Octets::new(record)))
+        }
         Ok(None) => Ok(None),
         Err(DeframeError::TooLong) => Err(Ending::TooLong),
         Err(DeframeError::Memory) => Err(Ending::Memory),
     }
 }
 
-/// Reads once, and feeds what came. Says where the service ends.
-pub fn read_on<L: Link>(link: &mut L, deframer: &mut Deframer) -> Option<Ending>
-    ensures read { ReadOn result (L.left link.old) (L.left link.new) (L.read_faults link.old) (L.read_faults link.new) deframer.old deframer.new }
+/// Reads once. Says where the service ends.
+pub fn read_on<L: Link>(link: &mut L, incoming: &mut Incoming) -> Option<Ending>
+    ensures read { ReadOn result (L.left link.old) (L.left link.new) (L.read_faults link.old) (L.read_faults link.new) incoming.old incoming.new }
     ensures later { L.read_faults link.old ≤ L.read_faults link.new }
     ensures taken { L.taken link.new ≡ L.taken link.old }
     ensures write_faults { L.write_faults link.new ≡ L.write_faults link.old }
 {
-    let mut buffer = [0; 16_384];
-    let Ok(count) = link.read(&mut buffer) else {
-        return Some(Ending::ReadFault);
-    };
-    if count == 0 {
-        return Some(if deframer.inside() {
-            Ending::Cut
-        } else {
-            Ending::Closed
-        });
-    }
-    match deframer.feed(&buffer[..count]) {
-        Ok(()) => None,
-        Err(_) => Some(Ending::Memory),
-    }
+    incoming.buffer.read_on(link)
 }

@@ -23,7 +23,7 @@ loop-preserved-in-None-read_on g c =
       count = i.count;
       few = i.few;
       events = i.events;
-      going = read_more (tell c.args.link) (tell c.loop.link) (tell c.read_on.new.link) c.next_record.new.deframer c.read_on.new.deframer c.loop.place.entries going read.read read.later read.taken read.write_faults;
+      going = read_more (tell c.args.link) (tell c.loop.link) (tell c.read_on.new.link) c.next_record.new.incoming c.read_on.new.incoming c.loop.place.entries going read.read read.later read.taken read.write_faults;
     }
 
 pub returns-in-Some-read_on-clause-served : goal.returns-in-Some-read_on-clause-served
@@ -39,7 +39,7 @@ returns-in-Some-read_on-clause-served g c =
       records = i.count;
       few = i.few;
       events = i.events;
-      service = ends_reading c.in-Some-read_on.ending (tell c.args.link) (tell c.loop.link) (tell c.read_on.new.link) c.next_record.new.deframer c.read_on.new.deframer c.loop.place.entries going
+      service = ends_reading c.in-Some-read_on.ending (tell c.args.link) (tell c.loop.link) (tell c.read_on.new.link) c.next_record.new.incoming c.read_on.new.incoming c.loop.place.entries going
           (subst IsPartial (sym cut.1) cut.0) read.read read.later read.taken read.write_faults;
     })
 
@@ -53,7 +53,7 @@ returns-in-Err-clause-served g c =
       records = i.count;
       few = i.few;
       events = i.events;
-      service = ends_cutting c.in-Err.ending (tell c.args.link) (tell c.loop.link) c.loop.deframer c.loop.place.entries i.going c.in-Err.ensures.0;
+      service = ends_cutting c.in-Err.ending (tell c.args.link) (tell c.loop.link) c.loop.incoming c.loop.place.entries i.going c.in-Err.ensures.0;
     })
 
 pub returns-then-records-eq-BUDGET-clause-served : goal.returns-then-records-eq-BUDGET-clause-served
@@ -67,7 +67,7 @@ returns-then-records-eq-BUDGET-clause-served g c =
       records = i.count;
       few = i.few;
       events = i.events;
-      service = out_of_budget (tell c.args.link) (tell c.loop.link) c.loop.deframer c.next_record.new.deframer c.loop.place.entries c.in-Ok-Some.message i.going cut.1 (grind (arith, nat_tests, c.if-records-eq-BUDGET.true, i.count));
+      service = out_of_budget (tell c.args.link) (tell c.loop.link) c.loop.incoming c.next_record.new.incoming c.loop.place.entries c.in-Ok-Some.message i.going cut.1 (grind (arith, nat_tests, c.if-records-eq-BUDGET.true, i.count));
     })
 
 pub returns-in_default-clause-served : goal.returns-in_default-clause-served
@@ -82,7 +82,7 @@ returns-in_default-clause-served g c =
       records = i.count;
       few = i.few;
       events = i.events;
-      service = out_of_memory (tell c.args.link) (tell c.loop.link) c.loop.deframer c.next_record.new.deframer c.loop.place.entries c.in-Ok-Some.message i.going cut.1;
+      service = out_of_memory (tell c.args.link) (tell c.loop.link) c.loop.incoming c.next_record.new.incoming c.loop.place.entries c.in-Ok-Some.message i.going cut.1;
     })
 
 pub returns-in-loop-clause-served : goal.returns-in-loop-clause-served
@@ -101,7 +101,7 @@ returns-in-loop-clause-served g c =
       records = omega (arith, i.count, length_push es e);
       few = grind (arith, nat_tests, c.if-records-eq-BUDGET.false, i.count, i.few, length_push es e);
       events = all_push (IsOf c.args.class may) es e i.events (refl, c.moment_of-moment.ensures.may);
-      service = ends_writing c.in-Err-put_reply.ending (tell c.args.link) (tell c.loop.link) (tell c.put_reply.new.link) c.loop.deframer c.next_record.new.deframer es e i.going cut.1
+      service = ends_writing c.in-Err-put_reply.ending (tell c.args.link) (tell c.loop.link) (tell c.put_reply.new.link) c.loop.incoming c.next_record.new.incoming es e i.going cut.1
           wrote.ending wrote.front wrote.later wrote.left wrote.read_faults;
     })
 
@@ -116,12 +116,12 @@ loop-preserved g c =
     let e : Entry = entry (record { class = c.args.class; link = c.loop.place.link; moment = c.moment_of-moment.result; message = c.in-Ok-Some.message }) c.in-Ok.reply in
     let wrote = rw c.in_default-put_reply.is at c.put_reply.ensures.whole in
     let longer = length_push es e in
-    let going = serves (tell c.args.link) (tell c.loop.link) (tell c.put_reply.new.link) c.loop.deframer c.next_record.new.deframer es e i.going cut.1
+    let going = serves (tell c.args.link) (tell c.loop.link) (tell c.put_reply.new.link) c.loop.incoming c.next_record.new.incoming es e i.going cut.1
     wrote c.put_reply.ensures.later c.put_reply.ensures.left c.put_reply.ensures.read_faults in
     record {
       number = ap (λ (p : Part). p.link) told ∙ i.number;
       count = (omega (arith, i.count, longer)) ∙ ap (λ (p : Part). length p.entries) (sym told);
       few = subst (λ (p : Part). length p.entries ≤ BUDGET) (sym told) (grind (arith, nat_tests, c.if-records-eq-BUDGET.false, i.count, i.few, longer));
       events = subst (λ (p : Part). AreOf c.args.class may p.entries) (sym told) (all_push (IsOf c.args.class may) es e i.events (refl, c.moment_of-moment.ensures.may));
-      going = subst (λ (p : Part). Going (tell c.args.link) (tell c.put_reply.new.link) c.next_record.new.deframer p.entries) (sym told) going;
+      going = subst (λ (p : Part). Going (tell c.args.link) (tell c.put_reply.new.link) c.next_record.new.incoming p.entries) (sym told) going;
     }

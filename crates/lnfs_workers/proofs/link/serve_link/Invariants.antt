@@ -11,5 +11,5 @@ invariant-loop g l =
       count : l.records ≡ length l.place.entries;
       few : length l.place.entries ≤ BUDGET;
       events : AreOf l.fn.class (g.C.Clock.may l.fn.shared.clock.now) l.place.entries;
-      going : Going (tell l.fn.link) (tell l.link) l.deframer l.place.entries;
+      going : Going (tell l.fn.link) (tell l.link) l.incoming l.place.entries;
     }
