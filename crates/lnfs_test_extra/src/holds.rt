@@ -11,7 +11,7 @@ use lnfs_test_support::sessions::opened;
 use lnfs_test_support::site::POLICY;
 use lnfs_traffic::read_traffic;
 use lnfs_types::Event;
-use lnfs_vault::VaultOf;
+use lnfs_vault::{Served, VaultOf};
 use std::alloc::{AllocError, Global};
 use std::process::Abort;
 
@@ -60,8 +60,8 @@ fn replies_to(rt: &impl Abort, alloc: Global, events: Vec<Event>) -> Result<Vec<
         if !event.fits() {
             continue;
         }
-        let served = vault.serve(&codecs, event)?;
-        if let Some(reply) = served.reply {
+        let Served { reply, .. } = vault.serve(&codecs, event)?;
+        if let Some(reply) = reply {
             frames.extend_from_slice(&reply.into_frame())?;
         }
     }
