@@ -1,4 +1,5 @@
 pub mod Words
+pub mod Places
 pub mod Fields
 pub mod Chains
 pub mod ChainStops

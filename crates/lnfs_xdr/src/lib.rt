@@ -4,6 +4,7 @@
 //! one spelling whose pad bytes are zero.
 #![tactic(auto)]
 
+mod buffer;
 mod error;
 mod flavors;
 mod limits;

@@ -121,7 +121,8 @@ impl<'a> XdrReader<'a> {
     /// A word that is the expected one, as the tag of a union of which one arm is served
     /// (RFC 4506 section 4.15). `BadBool` where it is another.
     pub fn constant(&mut self, expected: u32) -> Result<u32, XdrError>
-        ensures { Gives (λ n. n) result self.old self.new (among_at (λ n. n == expected) self.old.rest) }
+        ensures { Gives (λ n. n) result self.old self.new
+            (among_at (λ n. n == expected) self.old.rest) }
     {
         let (value, rest) = word_of(self.rest)?;
         if value != expected {
@@ -133,7 +134,8 @@ impl<'a> XdrReader<'a> {
 
     /// A word that is not 0. `BadBool` where it is.
     pub fn nonzero(&mut self) -> Result<u32, XdrError>
-        ensures { Gives (λ n. n) result self.old self.new (among_at (λ n. nat_lt 0 n) self.old.rest) }
+        ensures { Gives (λ n. n) result self.old self.new
+            (among_at (λ n. nat_lt 0 n) self.old.rest) }
     {
         let (value, rest) = word_of(self.rest)?;
         if value == 0 {

@@ -1,7 +1,7 @@
 ghost use Rattle.std.specs.Prelude.{◌≡◌, ◌++◌, ◌<◌, ◌^◌, [], length, take, OnOk, OnErr, IfOk};
 ghost use Rattle.lnfs_xdr.specs.Canon.{word, long, flag, padded, opaque};
 
-use byteorder::{BigEndian, ByteOrder};
+use crate::buffer::Buffer;
 use std::alloc::{AllocError, Global};
 use std::marker::Model;
 
@@ -9,7 +9,7 @@ use std::marker::Model;
 /// before the call.
 #[derive(Drop)]
 pub struct XdrWriter {
-    bytes: Vec<u8>,
+    bytes: Buffer,
 }
 
 impl Model for XdrWriter {
@@ -17,7 +17,7 @@ impl Model for XdrWriter {
 
     ghost Value = { List ℕ };
 
-    ghost view = { λ w. w.bytes.items };
+    ghost view = { λ w. w.bytes };
 }
 
 impl XdrWriter {
@@ -26,7 +26,7 @@ impl XdrWriter {
         ensures { result ≡ [] }
     {
         XdrWriter {
-            bytes: Vec::new(alloc),
+            bytes: Buffer::new(alloc),
         }
     }
 
@@ -35,7 +35,7 @@ impl XdrWriter {
         ensures { IfOk result (λ writer. writer ≡ []) }
     {
         Ok(XdrWriter {
-            bytes: Vec::with_capacity(alloc, capacity)?,
+            bytes: Buffer::with_capacity(alloc, capacity)?,
         })
     }
 
@@ -58,7 +58,7 @@ impl XdrWriter {
         ensures ok { OnOk result (self.new ≡ self.old ++ word v) }
         ensures err { OnErr result (self.new ≡ self.old) }
     {
-        put_word(&mut self.bytes, v)
+        self.bytes.word(v)
     }
 
     /// An unsigned hyper integer (RFC 4506 section 4.5).
@@ -66,7 +66,7 @@ impl XdrWriter {
         ensures ok { OnOk result (self.new ≡ self.old ++ long v) }
         ensures err { OnErr result (self.new ≡ self.old) }
     {
-        put_long(&mut self.bytes, v)
+        self.bytes.long(v)
     }
 
     /// A boolean (RFC 4506 section 4.4).
@@ -75,7 +75,7 @@ impl XdrWriter {
         ensures ok { OnOk result (self.new ≡ self.old ++ flag v) }
         ensures err { OnErr result (self.new ≡ self.old) }
     {
-        put_word(&mut self.bytes, if v { 1 } else { 0 })
+        self.bytes.word(if v { 1 } else { 0 })
     }
 
     /// Bytes of a length that the reader knows, and their pad bytes (RFC 4506 section 4.9).
@@ -83,16 +83,23 @@ impl XdrWriter {
         ensures ok { OnOk result (self.new ≡ self.old ++ padded v.now) }
         ensures err { OnErr result (self.new ≡ self.old) }
     {
-        put_padded(&mut self.bytes, v)
+        self.bytes.padded(v)
     }
 
     /// The length, the bytes, and their pad bytes (RFC 4506 section 4.10).
+    #[tactic(auto, unfolding(crate::specs::Canon::opaque))]
     pub fn opaque(&mut self, v: &[u8]) -> Result<(), AllocError>
         requires { length v.now < 2 ^ 32 }
         ensures ok { OnOk result (self.new ≡ self.old ++ opaque v.now) }
         ensures err { OnErr result (self.new ≡ self.old) }
     {
-        put_opaque(&mut self.bytes, v)
+        let before = self.mark();
+        self.bytes.word(v.len() as u32)?;
+        if self.bytes.padded(v).is_err() {
+            self.truncate(before);
+            return Err(AllocError);
+        }
+        Ok(())
     }
 
     /// Bytes as they are, with no pad: no item of XDR.
@@ -100,67 +107,13 @@ impl XdrWriter {
         ensures ok { OnOk result (self.new ≡ self.old ++ v.now) }
         ensures err { OnErr result (self.new ≡ self.old) }
     {
-        self.bytes.extend_from_slice(v)?;
-        Ok(())
+        self.bytes.raw(v)
     }
 
     /// All that was written. Takes no memory.
     pub fn into_bytes(self) -> Vec<u8>
         ensures { result.items ≡ self }
     {
-        self.bytes
+        self.bytes.into_bytes()
     }
-}
-
-#[tactic(auto, using(crate::proofs::Words::bytes_32), unfolding(crate::specs::Canon::word))]
-fn put_word(out: &mut Vec<u8>, v: u32) -> Result<(), AllocError>
-    ensures ok { OnOk result (out.new.items ≡ out.old.items ++ word v) }
-    ensures err { OnErr result (out.new.items ≡ out.old.items) }
-{
-    let mut bytes = [0; 4];
-    BigEndian::write_u32(&mut bytes, v);
-    out.extend_from_slice(&bytes)?;
-    Ok(())
-}
-
-#[tactic(auto, using(crate::proofs::Words::bytes_64), unfolding(crate::specs::Canon::long))]
-fn put_long(out: &mut Vec<u8>, v: u64) -> Result<(), AllocError>
-    ensures ok { OnOk result (out.new.items ≡ out.old.items ++ long v) }
-    ensures err { OnErr result (out.new.items ≡ out.old.items) }
-{
-    let mut bytes = [0; 8];
-    BigEndian::write_u64(&mut bytes, v);
-    out.extend_from_slice(&bytes)?;
-    Ok(())
-}
-
-#[tactic(auto, unfolding(crate::specs::Canon::padded))]
-fn put_padded(out: &mut Vec<u8>, v: &[u8]) -> Result<(), AllocError>
-    ensures ok { OnOk result (out.new.items ≡ out.old.items ++ padded v.now) }
-    ensures err { OnErr result (out.new.items ≡ out.old.items) }
-{
-    let before = out.len();
-    let padding = (4 - v.len() % 4) % 4;
-    let zeros: [u8; 3] = [0, 0, 0];
-    out.extend_from_slice(v)?;
-    if out.extend_from_slice(&zeros[..padding]).is_err() {
-        out.truncate(before);
-        return Err(AllocError);
-    }
-    Ok(())
-}
-
-#[tactic(auto, unfolding(crate::specs::Canon::opaque))]
-fn put_opaque(out: &mut Vec<u8>, v: &[u8]) -> Result<(), AllocError>
-    requires { length v.now < 2 ^ 32 }
-    ensures ok { OnOk result (out.new.items ≡ out.old.items ++ opaque v.now) }
-    ensures err { OnErr result (out.new.items ≡ out.old.items) }
-{
-    let before = out.len();
-    put_word(out, v.len() as u32)?;
-    if put_padded(out, v).is_err() {
-        out.truncate(before);
-        return Err(AllocError);
-    }
-    Ok(())
 }
