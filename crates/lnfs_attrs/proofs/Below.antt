@@ -10,7 +10,7 @@ use Rattle.lnfs_attrs.specs.Attributes.{AllAsked}
 no_part : (i : ℕ) → 0 / 2 ^ i ≡ 0
 no_part i = omega (arith, shr_le 0 i)
 
-bit_none : (i : ℕ) → bit 0 i ≡ true → ⊥
+pub bit_none : (i : ℕ) → bit 0 i ≡ true → ⊥
 bit_none i e = let f = rw (no_part i) at e in absurd cc
 
 pub has_below : (b : Bitmap) (n : ℕ) → length b.words ≡ 8 → has_attr b n ≡ true → n < 256

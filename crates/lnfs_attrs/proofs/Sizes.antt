@@ -20,7 +20,7 @@ use Rattle.lnfs_attrs.proofs.Words.{before_short}
 -- ---- words
 
 -- a word that is not zero has a bit
-some_bit : (w : ℕ) → 0 < w → w < 2 ^ 32 → (i : ℕ) × (i < 32) × (bit w i ≡ true)
+pub some_bit : (w : ℕ) → 0 < w → w < 2 ^ 32 → (i : ℕ) × (i < 32) × (bit w i ≡ true)
 some_bit w some small =
     let t = bit_at-trailing_zeros w32 w some small in
     (_, t.0, ap (λ (m : ℕ). eqb m 1) t.1)
@@ -68,11 +68,11 @@ below_96 : (ns : List ℕ) → AllByRecursion (λ m. m < 96) ns → (n : ℕ) �
 below_96 [] all n e = absurd cc
 below_96 (m ∷ ms) all n e = first_or (eqb m n) m n (list_any (λ k. k == n) ms) refl all.0 (below_96 ms all.1 n) e
 
-listed_below : (n : ℕ) → is_listed n ≡ true → n < 96
+pub listed_below : (n : ℕ) → is_listed n ≡ true → n < 96
 unfolding is_listed
 listed_below n e = below_96 (numbers_in table) (search rules) n e
 
-settable_below : (n : ℕ) → is_settable n ≡ true → n < 96
+pub settable_below : (n : ℕ) → is_settable n ≡ true → n < 96
 unfolding is_settable
 settable_below n e = below_96 (4 ∷ 33 ∷ 80 ∷ []) (search rules) n e
 

@@ -27,6 +27,10 @@ bit n i = n / 2 ^ i % 2 == 1
 abbrev pub has_attr : Bitmap → ℕ → Bool
 has_attr b n = bit (slice_index b.words (n / 32)) (n % 32)
 
+-- three words, and zeros behind them
+abbrev pub wide : List ℕ → Bitmap
+wide words = record { words = slice_index words 0 ∷ slice_index words 1 ∷ slice_index words 2 ∷ 0 ∷ 0 ∷ 0 ∷ 0 ∷ 0 ∷ [] }
+
 -- none
 abbrev pub no_attributes : Bitmap
 no_attributes = record { words = 0 ∷ 0 ∷ 0 ∷ 0 ∷ 0 ∷ 0 ∷ 0 ∷ 0 ∷ [] }

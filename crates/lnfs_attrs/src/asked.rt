@@ -8,22 +8,15 @@ ghost use Rattle.lnfs_attrs.specs.Attributes.{table, inner_in, is_listed, is_inn
 
 use crate::bitmap::Bitmap;
 use crate::numbers::{
-    ATTR_END, CHANGE, FH_EXPIRE_TYPE, FILEHANDLE, FILEID, FSID, INNER, LEASE, LEASE_TIME,
-    LINK_SUPPORT, LISTED, MODE, MOUNTED_ON_FILEID, NAMED_ATTR, NOBODY, NUMLINKS, OWNER,
-    OWNER_GROUP, QUOTA_AVAIL_HARD, QUOTA_USED, RDATTR_ERROR, SEC_LABEL, SETTABLE_WORDS, SIZE,
+    CHANGE, FH_EXPIRE_TYPE, FILEHANDLE, FILEID, FSID, INNER, LEASE, LEASE_TIME, LINK_SUPPORT,
+    LISTED, MODE, MOUNTED_ON_FILEID, NAMED_ATTR, NOBODY, NUMLINKS, OUTER_WORDS, OWNER, OWNER_GROUP,
+    QUOTA_AVAIL_HARD, QUOTA_USED, RDATTR_ERROR, SEC_LABEL, SETTABLE_WORDS, SIZE,
     SUPPATTR_EXCLCREAT, SUPPORTED_ATTRS, SUPPORTED_WORDS, SYMLINK_SUPPORT, TIME_ACCESS,
     TIME_METADATA, TIME_MODIFY, TYPE, UNIQUE_HANDLES,
 };
 use crate::view::{LabelValue, Moment, View};
 use lnfs_xdr::XdrWriter;
 use std::alloc::AllocError;
-
-#[tactic(auto, unfolding(crate::specs::Attributes::is_listed))]
-fn listed(number: u32) -> bool
-    ensures { result ≡ is_listed number }
-{
-    LISTED.contains(&number)
-}
 
 #[tactic(auto, unfolding(crate::specs::Attributes::is_inner))]
 fn inner(number: u32) -> bool
@@ -36,12 +29,7 @@ fn inner(number: u32) -> bool
 pub fn supported(asked: &Bitmap) -> bool
     ensures { IsTrue result ↔ AllAsked asked.now is_listed }
 {
-    for number in 0..ATTR_END {
-        if asked.has(number) && !listed(number) {
-            return false;
-        }
-    }
-    true
+    asked.is_within(&Bitmap::of_words(SUPPORTED_WORDS))
 }
 
 /// Whether an inner attribute is asked.
@@ -77,7 +65,8 @@ fn put_label(out: &mut XdrWriter, label: &LabelValue) -> Result<(), AllocError>
 
 /// A bitmap of three words.
 fn put_three(out: &mut XdrWriter, words: [u32; 3]) -> Result<(), AllocError>
-    ensures ok { OnOk result (out.new ≡ out.old ++ (word 3 ++ word (slice_index words 0) ++ word (slice_index words 1) ++ word (slice_index words 2))) }
+    ensures ok { OnOk result (out.new ≡ out.old ++ (word 3 ++ word (slice_index words 0)
+        ++ word (slice_index words 1) ++ word (slice_index words 2))) }
     ensures err { OnErr result (Extends out.old out.new) }
 {
     out.u32(3)?;
@@ -139,26 +128,15 @@ fn answers(asked: &Bitmap, allowed: bool, number: u32) -> bool
     asked.has(number) && (allowed || !inner(number))
 }
 
-/// Those of the attributes that are answered.
-fn mask_of(asked: &Bitmap, inner: bool, numbers: &[u32]) -> Bitmap
-    requires { All (λ n. n < 256) numbers.now }
-    ensures { (n : ℕ) → has_attr result n ≡ (list_any (λ m. m == n) numbers.now && is_answered asked.now inner n) }
-{
-    let mut map = Bitmap::empty();
-    for number in numbers {
-        if answers(asked, inner, *number) {
-            map.insert(*number);
-        }
-    }
-    map
-}
-
 /// The attributes whose values `write_attrs` writes.
-#[tactic(auto, unfolding(crate::specs::Attributes::is_listed))]
 pub fn answered(asked: &Bitmap, inner: bool) -> Bitmap
     ensures { (n : ℕ) → has_attr result n ≡ (is_listed n && is_answered asked.now inner n) }
 {
-    mask_of(asked, inner, &LISTED)
+    if inner {
+        asked.both(&Bitmap::of_words(SUPPORTED_WORDS))
+    } else {
+        asked.both(&Bitmap::of_words(OUTER_WORDS))
+    }
 }
 
 /// The value of an attribute, where it is answered.
@@ -188,7 +166,8 @@ fn put_all(
     numbers: &[u32],
 ) -> Result<(), AllocError>
     requires { length view.now.label.bytes ≤ LABEL_LIMIT }
-    ensures ok { OnOk result (out.new ≡ out.old ++ flat_map (attr_text asked.now view.now inner) numbers.now) }
+    ensures ok { OnOk result (out.new ≡ out.old ++ flat_map (attr_text asked.now view.now inner)
+        numbers.now) }
     ensures err { OnErr result (Extends out.old out.new) }
 {
     for number in numbers {

@@ -1,9 +1,10 @@
-ghost use Rattle.std.specs.Prelude.{◌≡◌, ◌==◌, ◌||◌, ◌++◌, ◌<◌, ◌≤◌, ◌^◌, ℕ, false, length, take, All, OnOk, OnErr};
+ghost use Rattle.std.specs.Prelude.{◌≡◌, ◌==◌, ◌||◌, ◌&&◌, ◌↔◌, ◌++◌, ◌<◌, ◌≤◌, ◌^◌, ℕ, IsTrue, false, length, take, All, OnOk, OnErr};
 ghost use Rattle.lnfs_xdr.specs.Written.{Extends};
 ghost use Rattle.std.specs.List.{list_any};
 ghost use Rattle.lnfs_xdr.specs.Reading.{read};
 ghost use Rattle.lnfs_xdr.specs.Cursor.{Parses};
-ghost use Rattle.lnfs_attrs.specs.Bitmaps.{bitmap, so_many_words, trimmed, words_text, bitmap_text, has_attr};
+ghost use Rattle.lnfs_attrs.specs.Attributes.{AllAsked};
+ghost use Rattle.lnfs_attrs.specs.Bitmaps.{wide, bitmap, so_many_words, trimmed, words_text, bitmap_text, has_attr};
 
 use lnfs_xdr::{XdrError, XdrReader, XdrWriter};
 use std::alloc::AllocError;
@@ -44,6 +45,38 @@ impl Bitmap {
         map
     }
 
+    /// The bitmap whose first words are these.
+    pub fn of_words(words: [u32; 3]) -> Bitmap
+        ensures { result ≡ wide words }
+    {
+        Bitmap {
+            words: [words[0], words[1], words[2], 0, 0, 0, 0, 0],
+        }
+    }
+
+    /// Whether each attribute of it is in another one too.
+    pub fn is_within(&self, other: &Bitmap) -> bool
+        ensures { IsTrue result ↔ AllAsked self.now (λ n. has_attr other.now n) }
+    {
+        for place in 0..WORD_LIMIT {
+            if self.words[place] & !other.words[place] != 0 {
+                return false;
+            }
+        }
+        true
+    }
+
+    /// The attributes that are in both.
+    pub fn both(&self, other: &Bitmap) -> Bitmap
+        ensures { (n : ℕ) → has_attr result n ≡ (has_attr self.now n && has_attr other.now n) }
+    {
+        let mut words = [0; WORD_LIMIT];
+        for place in 0..WORD_LIMIT {
+            words[place] = self.words[place] & other.words[place];
+        }
+        Bitmap { words }
+    }
+
     /// Puts an attribute in.
     pub fn insert(&mut self, attr: u32)
         requires { attr < 256 }
@@ -65,7 +98,8 @@ impl Bitmap {
 #[tactic(auto, unfolding(crate::specs::Bitmaps::so_many_words))]
 fn words_of(reader: &mut XdrReader<'_>, count: u32) -> Result<Bitmap, XdrError>
     requires { count ≤ 8 }
-    ensures { Parses (λ b. b) result reader.old reader.new (read (so_many_words count) reader.old.rest) }
+    ensures { Parses (λ b. b) result reader.old reader.new
+        (read (so_many_words count) reader.old.rest) }
 {
     let mut words = [0; WORD_LIMIT];
     for place in 0..count {

@@ -92,14 +92,10 @@ pub const INNER: [u32; 7] = [
     TIME_METADATA,
     TIME_MODIFY,
 ];
-/// Those that can be set.
-pub const SETTABLE: [u32; 3] = [SIZE, MODE, SEC_LABEL];
-
-/// No attribute has this number or a greater one, as a bitmap has at most 8 words.
-pub const ATTR_END: u32 = 256;
-
 /// The words of `supported_attrs`: the attributes of the table.
 pub const SUPPORTED_WORDS: [u32; 3] = [0x00180fff, 0x00b0817a, 0x00010800];
+/// The words of those of the table that are not inner.
+pub const OUTER_WORDS: [u32; 3] = [0x00180fe7, 0x00800170, 0x00010800];
 /// The words of `suppattr_exclcreat`: the attributes that can be set.
 pub const SETTABLE_WORDS: [u32; 3] = [0x00000010, 0x00000002, 0x00010000];
 /// The seconds of a lease.

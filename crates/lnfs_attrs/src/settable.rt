@@ -1,4 +1,5 @@
 use crate::view::LabelValue;
+use thiserror::Error;
 
 /// The attributes that can be set.
 #[derive(Debug, Drop)]
@@ -9,13 +10,17 @@ pub struct AttrSet {
 }
 
 /// Why attributes were not taken.
-#[derive(Debug, Drop)]
+#[derive(Debug, Drop, Error)]
 pub enum AttrError {
     /// One is outside of the table.
+    #[error("an attribute is outside of the table")]
     AttrNotSupp,
     /// One can't be set.
+    #[error("an attribute cannot be set")]
     Inval,
     /// The list isn't exactly the values.
+    #[error("the list is not exactly the values")]
     BadXdr,
+    #[error("out of memory")]
     Memory,
 }

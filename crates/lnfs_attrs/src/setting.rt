@@ -9,7 +9,7 @@ ghost use Rattle.lnfs_attrs.specs.declared.settable.AttrError.TheVariants.{BadXd
 
 use crate::asked::supported;
 use crate::bitmap::Bitmap;
-use crate::numbers::{ATTR_END, LIST_LIMIT, MODE, SEC_LABEL, SETTABLE, SIZE};
+use crate::numbers::{LIST_LIMIT, MODE, SEC_LABEL, SETTABLE_WORDS, SIZE};
 use crate::raw::RawAttrs;
 use crate::settable::{AttrError, AttrSet};
 use crate::view::LabelValue;
@@ -33,23 +33,11 @@ impl From<AllocError> for AttrError {
     }
 }
 
-#[tactic(auto, unfolding(crate::specs::Attributes::is_settable))]
-fn settable(number: u32) -> bool
-    ensures { result ≡ is_settable number }
-{
-    SETTABLE.contains(&number)
-}
-
 /// Whether every attribute can be set.
 fn all_settable(mask: &Bitmap) -> bool
     ensures { IsTrue result ↔ AllAsked mask.now is_settable }
 {
-    for number in 0..ATTR_END {
-        if mask.has(number) && !settable(number) {
-            return false;
-        }
-    }
-    true
+    mask.is_within(&Bitmap::of_words(SETTABLE_WORDS))
 }
 
 #[tactic(auto, unfolding(crate::specs::Settable::label))]
@@ -63,7 +51,8 @@ fn label_of(alloc: Global, reader: &mut XdrReader<'_>) -> Result<LabelValue, Att
 }
 
 fn size_if(reader: &mut XdrReader<'_>, is_there: bool) -> Result<Option<u64>, XdrError>
-    ensures { Parses (λ x. x) result reader.old reader.new (read (given is_there Long) reader.old.rest) }
+    ensures { Parses (λ x. x) result reader.old reader.new
+        (read (given is_there Long) reader.old.rest) }
 {
     if !is_there {
         return Ok(None);
@@ -72,7 +61,8 @@ fn size_if(reader: &mut XdrReader<'_>, is_there: bool) -> Result<Option<u64>, Xd
 }
 
 fn mode_if(reader: &mut XdrReader<'_>, is_there: bool) -> Result<Option<u32>, XdrError>
-    ensures { Parses (λ x. x) result reader.old reader.new (read (given is_there Word) reader.old.rest) }
+    ensures { Parses (λ x. x) result reader.old reader.new
+        (read (given is_there Word) reader.old.rest) }
 {
     if !is_there {
         return Ok(None);

@@ -4,7 +4,7 @@ use Rattle.std.specs.Prelude.{◌||◌, ◌&&◌}
 use Rattle.std.specs.List.{list_all, range_with_len}
 use Rattle.std.proofs.lemmas.Bool.{cases_lt}
 use Rattle.lnfs_attrs.specs.declared.bitmap.Bitmap.{Bitmap}
-use Rattle.lnfs_attrs.specs.declared.numbers.TheConstants.{ATTR_END}
+use Rattle.lnfs_operations.specs.GetAttr.{attr_end}
 use Rattle.lnfs_attrs.specs.Bitmaps.{has_attr}
 use Rattle.lnfs_attrs.specs.Attributes.{is_listed, AllAsked}
 use Rattle.lnfs_attrs.proofs.Below.{all_below}
@@ -50,10 +50,10 @@ then_listed true b e is = e
 then_listed false b e is = cc
 
 -- A test of each attribute of a set is one of each number.
-pub all_tested : (b : Bitmap) (test : ℕ → Bool) → AllAsked b test → list_all (λ n. not (has_attr b n) || test n) (range_with_len 0 ATTR_END) ≡ true
+pub all_tested : (b : Bitmap) (test : ℕ → Bool) → AllAsked b test → list_all (λ n. not (has_attr b n) || test n) (range_with_len 0 attr_end) ≡ true
 all_tested b test told = all_in (λ n. not (has_attr b n) || test n) 256 0 (λ n le lt. listed_or (has_attr b n) (test n) (told n))
 
-pub each_tested : (b : Bitmap) (test : ℕ → Bool) → length b.words ≡ 8 → list_all (λ n. not (has_attr b n) || test n) (range_with_len 0 ATTR_END) ≡ true → AllAsked b test
+pub each_tested : (b : Bitmap) (test : ℕ → Bool) → length b.words ≡ 8 → list_all (λ n. not (has_attr b n) || test n) (range_with_len 0 attr_end) ≡ true → AllAsked b test
 each_tested b test whole is = at 256 (omega arith) is
   where
     at : (end : ℕ) → 256 ≤ end → list_all (λ n. not (has_attr b n) || test n) (range_with_len 0 end) ≡ true → AllAsked b test

@@ -1,6 +1,5 @@
 //! Which attributes are answered, of those that are asked of nodes.
-ghost use Rattle.std.specs.Prelude.{◌≡◌, ◌==◌, ◌&&◌, ◌*◌, ◌<◌, ℕ, All, true, false, length};
-ghost use Rattle.std.specs.List.{list_any};
+ghost use Rattle.std.specs.Prelude.{◌≡◌, ◌&&◌, ◌*◌, ℕ, true, false, length};
 ghost use Rattle.lnfs_attrs.specs.declared.view.View.{View};
 ghost use Rattle.lnfs_attrs.specs.Attributes.{is_listed, list_text};
 ghost use Rattle.lnfs_attrs.specs.Bitmaps.{has_attr, BitmapFits};
@@ -9,8 +8,10 @@ ghost use Rattle.lnfs_operations.specs.Shown.{asks_inner};
 ghost use Rattle.lnfs_nodes.specs.Masks.{answered_mask, is_sized};
 
 use crate::units::units_of;
-use lnfs_attrs::numbers::{LISTED, SEC_LABEL};
 use lnfs_attrs::{Bitmap, answered, asks_inner};
+
+/// The words of the attributes of the table whose values have one size for all nodes: all but sec_label.
+const SIZED_WORDS: [u32; 3] = [0x00180fff, 0x00b0817a, 0x00000800];
 
 /// The attributes that are answered of a node.
 #[derive(Clone, Copy, Debug)]
@@ -61,7 +62,7 @@ impl<'a> Asking<'a> {
 }
 
 /// A bitmap has eight words of 32 bits.
-pub fn is_whole(_mask: Bitmap)
+pub fn law_whole(_mask: Bitmap)
     ensures { BitmapFits _mask }
 {}
 
@@ -70,37 +71,15 @@ fn mask_of(asked: &Bitmap, inner: bool) -> Bitmap
     ensures { result ≡ answered_mask asked.now inner }
 {
     let mask = answered(asked, inner);
-    is_whole(mask);
+    law_whole(mask);
     mask
 }
 
-/// Whether an attribute is in a set, and its value has one size for all nodes.
-fn is_sized(mask: &Bitmap, number: u32) -> bool
-    ensures { result ≡ is_sized mask.now number }
-{
-    number != SEC_LABEL && mask.has(number)
-}
-
-/// Those of some attributes that are in a set, without sec_label.
-fn sized_among(mask: &Bitmap, numbers: &[u32]) -> Bitmap
-    requires { All (λ n. n < 256) numbers.now }
-    ensures { (n : ℕ) → has_attr result n ≡ (list_any (λ m. m == n) numbers.now && is_sized mask.now n) }
-{
-    let mut sized = Bitmap::empty();
-    for number in numbers {
-        if is_sized(mask, *number) {
-            sized.insert(*number);
-        }
-    }
-    sized
-}
-
 /// Those attributes of a set whose values have one size for all nodes.
-#[tactic(auto, unfolding(lnfs_attrs::specs::Attributes::is_listed))]
 fn sized_of(mask: &Bitmap) -> Bitmap
     ensures { (n : ℕ) → has_attr result n ≡ (is_listed n && is_sized mask.now n) }
 {
-    sized_among(mask, &LISTED)
+    mask.both(&Bitmap::of_words(SIZED_WORDS))
 }
 
 /// What is answered of a node with the inner attributes or without them.

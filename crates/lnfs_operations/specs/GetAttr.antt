@@ -1,10 +1,10 @@
 -- GETATTR, VERIFY and NVERIFY (RFC 8881 sections 18.7, 18.31 and 18.15).
-use Rattle.std.specs.Prelude.{◌||◌, Bool, true, not, []}
+use Rattle.std.specs.Prelude.{◌||◌, ℕ, Bool, true, not, []}
 use Rattle.std.specs.List.{list_all, range_with_len}
 use Rattle.std.specs.Str.{bytes_eq}
 use Rattle.lnfs_attrs.specs.declared.bitmap.Bitmap.{Bitmap}
 use Rattle.lnfs_attrs.specs.declared.raw.RawAttrs.{RawAttrs}
-use Rattle.lnfs_attrs.specs.declared.numbers.TheConstants.{RDATTR_ERROR, ATTR_END}
+use Rattle.lnfs_attrs.specs.declared.numbers.TheConstants.{RDATTR_ERROR}
 use Rattle.lnfs_attrs.specs.Bitmaps.{has_attr}
 use Rattle.lnfs_attrs.specs.Attributes.{is_listed, list_text}
 use Rattle.lnfs_world.specs.World.{World}
@@ -25,9 +25,13 @@ get_attr site asked p w =
 
 -- ---- comparing
 
+-- a set of attributes has eight words of 32 bits, so none has this number or a greater one
+abbrev pub attr_end : ℕ
+attr_end = 256
+
 -- whether the server has each attribute of a set
 abbrev pub is_supported : Bitmap → Bool
-is_supported mask = list_all (λ n. not (has_attr mask n) || is_listed n) (range_with_len 0 ATTR_END)
+is_supported mask = list_all (λ n. not (has_attr mask n) || is_listed n) (range_with_len 0 attr_end)
 
 -- a list of values is compared by its bytes, as it was sent
 abbrev pub compared : Site → RawAttrs → Place → World → (same : Bool → Outcome (Answer (Unit {0}))) → Outcome (Answer (Unit {0}))

@@ -7,7 +7,6 @@ use Rattle.lnfs_attrs.specs.declared.bitmap.Bitmap.{Bitmap}
 use Rattle.lnfs_attrs.specs.declared.raw.RawAttrs.{RawAttrs}
 use Rattle.lnfs_attrs.specs.declared.view.LabelValue.{LabelValue}
 use Rattle.lnfs_attrs.specs.declared.settable.AttrSet.{AttrSet}
-use Rattle.lnfs_attrs.specs.declared.numbers.TheConstants.{ATTR_END}
 use Rattle.lnfs_attrs.specs.Bitmaps.{has_attr}
 use Rattle.lnfs_attrs.specs.Attributes.{is_settable}
 use Rattle.lnfs_attrs.specs.Settable.{list_values}
@@ -17,14 +16,14 @@ use Rattle.lnfs_arguments.specs.declared.statuses.TheConstants.{NFS4ERR_INVAL, N
 use Rattle.lnfs_operations.specs.declared.Gate.TheVariants.{Argument}
 use Rattle.lnfs_operations.specs.declared.numbers.TheConstants.{MOST_MODE}
 use Rattle.lnfs_operations.specs.Chain.{Answer, refuse, demand}
-use Rattle.lnfs_operations.specs.GetAttr.{is_supported}
+use Rattle.lnfs_operations.specs.GetAttr.{attr_end, is_supported}
 use Rattle.lnfs_operations.specs.Shown.{label_shown, bitmap_of}
 
 -- ---- values
 
 -- whether each attribute of a set can be set
 abbrev pub are_settable : Bitmap → Bool
-are_settable mask = list_all (λ n. not (has_attr mask n) || is_settable n) (range_with_len 0 ATTR_END)
+are_settable mask = list_all (λ n. not (has_attr mask n) || is_settable n) (range_with_len 0 attr_end)
 
 abbrev pub where_parsed : {R : Type 0} → Place → Result AttrSet (List ℕ) → (AttrSet → Outcome (Answer R)) → Outcome (Answer R)
 where_parsed p (Ok set) next = next set

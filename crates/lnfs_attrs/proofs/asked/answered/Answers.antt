@@ -1,8 +1,9 @@
-use Rattle.std.proofs.Common.{ℕ, ◌<◌, arith}
-use Rattle.std.proofs.lemmas.List.Elements.{All-from_recursion}
-use Rattle.lnfs_attrs.specs.Attributes.{table, numbers_in}
+use Rattle.std.proofs.Common.{◌∙◌}
+use Rattle.lnfs_attrs.proofs.Tables.{whole_mask, outer_mask}
 use Rattle.lnfs_attrs.proofs.asked.answered.Goals as goal
 
--- each number of the table is below the end
-pub mask_of-requires : goal.mask_of-requires
-mask_of-requires c = All-from_recursion (λ (n : ℕ). n < 256) (numbers_in table) (omega arith, (omega arith, (omega arith, (omega arith, (omega arith, (omega arith, (omega arith, (omega arith, (omega arith, (omega arith, (omega arith, (omega arith, (omega arith, (omega arith, (omega arith, (omega arith, (omega arith, (omega arith, (omega arith, (omega arith, (omega arith, (omega arith, (omega arith, (omega arith, (omega arith, (omega arith, tt))))))))))))))))))))))))))
+pub returns-then-inner : goal.returns-then-inner
+returns-then-inner c = λ n. rw c.if-inner.true (c.both.ensures n ∙ whole_mask c.args.asked.now c.of_words.result n c.of_words.ensures)
+
+pub returns-else-inner : goal.returns-else-inner
+returns-else-inner c = λ n. rw c.if-inner.false (c.both-else-inner.ensures n ∙ outer_mask c.args.asked.now c.of_words-else-inner.result n c.of_words-else-inner.ensures)

@@ -7,4 +7,4 @@ use Rattle.lnfs_nodes.proofs.masks.mask_of.Goals as goal
 pub returns : goal.returns
 returns c =
     let test : ℕ → Bool = λ n. is_listed n && is_answered c.args.asked.now c.args.inner n in
-    bitmap_told c.answered-mask.result c.is_whole.ensures test (λ n lt. c.answered-mask.ensures n)
+    bitmap_told c.answered-mask.result c.law_whole.ensures test (λ n lt. c.answered-mask.ensures n)

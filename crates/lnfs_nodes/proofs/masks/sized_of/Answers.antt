@@ -1,8 +1,6 @@
-use Rattle.std.proofs.Common.{ℕ, ◌<◌, rules}
-use Rattle.std.proofs.lemmas.List.Elements.{All-from_recursion}
-use Rattle.lnfs_attrs.specs.Attributes.{table, numbers_in}
+use Rattle.std.proofs.Common.{◌∙◌}
+use Rattle.lnfs_nodes.proofs.SizedTable.{sized_mask}
 use Rattle.lnfs_nodes.proofs.masks.sized_of.Goals as goal
 
--- each number of the table is below the end
-pub sized_among-requires : goal.sized_among-requires
-sized_among-requires c = All-from_recursion (λ (n : ℕ). n < 256) (numbers_in table) (search rules)
+pub returns : goal.returns
+returns c = λ n. c.both.ensures n ∙ sized_mask c.args.mask.now c.of_words.result n c.of_words.ensures
