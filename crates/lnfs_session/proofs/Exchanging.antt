@@ -16,10 +16,6 @@ use Rattle.lnfs_session.specs.Answers.{told_as}
 use Rattle.lnfs_session.specs.Records.{left_by}
 use Rattle.lnfs_session.specs.Standing.{Lists, standing, lists_of, clients_left, sessions_left}
 
-pub none_told : {X Y : Type 0} (f : X → Y) (o : Option X) → None ≡ option_map f o → o ≡ None
-none_told f None e = refl
-none_told f (Some c) e = cc
-
 module _ (args : Arguments) (level : ℕ) (moment : Moment) (rest : World) (lists : Lists) where
   pub again : has_flag args.flags EXCHGID4_FLAG_CONFIRMED_R ≡ false → has_flag args.flags EXCHGID4_FLAG_UPD_CONFIRMED_REC_A ≡ false → (c : Client) → find (is_confirmed_as level args.owner args.verifier) lists.clients ≡ Some c → exchange_id args (begins_at level moment) (standing rest lists) ≡ done (begins_at level moment) (told_as c) []
   again told update c found = rw (told, update, found) refl

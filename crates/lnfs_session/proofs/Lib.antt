@@ -15,3 +15,4 @@ pub mod Entered
 pub mod Replaced
 pub mod Confirming
 pub mod ClientRows
+mod Slots

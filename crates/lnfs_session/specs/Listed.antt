@@ -18,7 +18,7 @@ abbrev pub session_id_of : SessionRef → world.Id
 session_id_of i = record { level = i.level; number = i.number }
 
 abbrev pub kept_of : Kept → world.Kept
-kept_of k = record { arguments = k.arguments; reply = k.reply }
+kept_of k = record { arguments = k.arguments.items; reply = k.reply.items }
 
 abbrev pub client_of : ClientRef × Client → world.Client
 client_of e = record {

@@ -26,7 +26,8 @@ pub fn came<'a>(
     sequence: u32,
     arguments: &[u8],
 ) -> Arrival<'a>
-    ensures { arrival_of result ≡ arrival last next (option_map kept_of kept.now) sequence arguments.now }
+    ensures { arrival_of result ≡ arrival last next (option_map kept_of kept.now) sequence
+        arguments.now }
 {
     if sequence == last {
         if let Some(kept) = kept {

@@ -22,7 +22,10 @@ pub fn add_new(
     owner: &[u8],
     verifier: [u8; 8],
 ) -> Result<(), AllocError>
-    ensures added { OnOk result (map client_of rows.new.entries ≡ inserted client_order (new_client (id_of id) (record { verifier = verifier; owner = owner.now; flags = 0 })) (map client_of rows.old.entries)) }
+    ensures added { OnOk result (map client_of rows.new.entries
+        ≡ inserted client_order (new_client (id_of id)
+        (record { verifier = verifier; owner = owner.now; flags = 0 }))
+        (map client_of rows.old.entries)) }
     ensures kept { OnErr result (rows.new.entries ≡ rows.old.entries) }
 {
     let client = Client {
@@ -39,7 +42,8 @@ pub fn add_new(
 
 /// A record goes, if there is one to go.
 pub fn drop_any(rows: &mut BTreeMap<ClientRef, Client>, gone: Option<ClientRef>)
-    ensures { map client_of rows.new.entries ≡ clients_left (option_map id_of gone) (map client_of rows.old.entries) }
+    ensures { map client_of rows.new.entries ≡ clients_left (option_map id_of gone)
+        (map client_of rows.old.entries) }
 {
     if let Some(id) = gone {
         drop_client(rows, id);
@@ -48,7 +52,8 @@ pub fn drop_any(rows: &mut BTreeMap<ClientRef, Client>, gone: Option<ClientRef>)
 
 /// A CREATE_SESSION has confirmed a record.
 pub fn set_confirmed(rows: &mut BTreeMap<ClientRef, Client>, id: ClientRef)
-    ensures { map client_of rows.new.entries ≡ clients_set confirmed (client_at (map client_of rows.old.entries) (id_of id)) (map client_of rows.old.entries) }
+    ensures { map client_of rows.new.entries ≡ clients_set confirmed
+        (client_at (map client_of rows.old.entries) (id_of id)) (map client_of rows.old.entries) }
 {
     let Some(row) = rows.get_mut(&id) else {
         return;
@@ -69,7 +74,8 @@ pub fn next_sequence(sequence: u32) -> u32
 
 /// The sequence of a record moves, and the answer is kept in it.
 pub fn keep_answer(rows: &mut BTreeMap<ClientRef, Client>, id: ClientRef, kept: Kept)
-    ensures { map client_of rows.new.entries ≡ clients_set (answered (kept_of kept)) (client_at (map client_of rows.old.entries) (id_of id)) (map client_of rows.old.entries) }
+    ensures { map client_of rows.new.entries ≡ clients_set (answered (kept_of kept))
+        (client_at (map client_of rows.old.entries) (id_of id)) (map client_of rows.old.entries) }
 {
     let Some(row) = rows.get_mut(&id) else {
         return;
@@ -80,7 +86,8 @@ pub fn keep_answer(rows: &mut BTreeMap<ClientRef, Client>, id: ClientRef, kept: 
 
 /// A client has said that it reclaims no more.
 pub fn mark_reclaimed(rows: &mut BTreeMap<ClientRef, Client>, id: ClientRef)
-    ensures { map client_of rows.new.entries ≡ clients_set reclaimed (client_at (map client_of rows.old.entries) (id_of id)) (map client_of rows.old.entries) }
+    ensures { map client_of rows.new.entries ≡ clients_set reclaimed
+        (client_at (map client_of rows.old.entries) (id_of id)) (map client_of rows.old.entries) }
 {
     let Some(row) = rows.get_mut(&id) else {
         return;

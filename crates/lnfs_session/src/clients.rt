@@ -7,13 +7,16 @@ use crate::rows::{Session, SessionRef};
 use std::alloc::{AllocError, Global};
 use std::collections::BTreeMap;
 use std::marker::Model;
+use thiserror::Error;
 
 /// Why a call was refused.
-#[derive(Clone, Copy, Debug, PartialEq, Eq)]
+#[derive(Clone, Copy, Debug, PartialEq, Eq, Error)]
 pub enum SessionError {
     /// The status of a failed test, and whether an id of another level failed it.
+    #[error("the call is refused with status {code}")]
     Status { code: u32, foreign: bool },
     /// Memory was wanting.
+    #[error("out of memory")]
     Memory,
 }
 

@@ -95,7 +95,8 @@ fn fresh_slots(alloc: Global, count: u32) -> Result<Vec<Slot>, AllocError>
 impl Clients {
     /// The answer that is kept of a client's last CREATE_SESSION.
     pub fn kept_created(&self, client: ClientRef) -> Option<&[u8]>
-        ensures { option_map (λ r. r.now) result ≡ kept_reply (client_at self.now.clients (id_of client)) }
+        ensures { option_map (λ r. r.now) result ≡ kept_reply
+            (client_at self.now.clients (id_of client)) }
     {
         let kept = self.records.at(client)?.kept.as_ref()?;
         Some(kept.reply.as_slice())
@@ -104,10 +105,15 @@ impl Clients {
     /// Makes a session of a client that has a record: the owner's other confirmed record gives way with its
     /// sessions, and this one is confirmed.
     fn make_session(&mut self, id: ClientRef, args: &CreateSession) -> Result<Created, SessionError>
-        ensures answer { (moment : Moment) (rest : World) (c : world.Client) → client_at self.old.clients (id_of id) ≡ Some c →
-            Answers (created_of self.old args.now) result (made args.now (begins_at id.level moment) (standing rest self.old) c).answer }
-        ensures lists { UnlessMemory result ((moment : Moment) (rest : World) (c : world.Client) → client_at self.old.clients (id_of id) ≡ Some c →
-            self.new ≡ lists_of (done_to (standing rest self.old) (made args.now (begins_at id.level moment) (standing rest self.old) c))) }
+        ensures answer { (moment : Moment) (rest : World) (c : world.Client) →
+            client_at self.old.clients (id_of id) ≡ Some c →
+            Answers (created_of self.old args.now) result
+            (made args.now (begins_at id.level moment) (standing rest self.old) c).answer }
+        ensures lists { UnlessMemory result ((moment : Moment) (rest : World) (c : world.Client) →
+            client_at self.old.clients (id_of id) ≡ Some c →
+            self.new
+            ≡ lists_of (done_to (standing rest self.old)
+            (made args.now (begins_at id.level moment) (standing rest self.old) c))) }
         ensures refused { OnErr result (self.new ≡ self.old) }
         ensures plain { IsPlain result }
         ensures dropped { GivesWay (id_of id) self.old result }
@@ -159,9 +165,14 @@ impl Clients {
         bytes: &[u8],
     ) -> Result<Created, SessionError>
         ensures answer { (moment : Moment) (rest : World) →
-            Answers (created_of self.old args.now) result (create_session args.now bytes.now (begins_at level moment) (standing rest self.old)).answer }
+            Answers (created_of self.old args.now) result
+            (create_session args.now bytes.now (begins_at level moment)
+            (standing rest self.old)).answer }
         ensures lists { UnlessMemory result ((moment : Moment) (rest : World) →
-            self.new ≡ lists_of (done_to (standing rest self.old) (create_session args.now bytes.now (begins_at level moment) (standing rest self.old)))) }
+            self.new
+            ≡ lists_of (done_to (standing rest self.old)
+            (create_session args.now bytes.now (begins_at level moment)
+            (standing rest self.old)))) }
         // Neither a refusal nor want of memory changes anything.
         ensures refused { OnErr result (self.new ≡ self.old) }
         // What is granted has no padding of headers, and nothing for RDMA.

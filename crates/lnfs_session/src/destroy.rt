@@ -21,9 +21,12 @@ impl Clients {
     /// Serves a DESTROY_SESSION of a level.
     pub fn destroy_session(&mut self, level: u32, id: [u8; 16]) -> Result<(), SessionError>
         ensures answer { (moment : Moment) (rest : World) →
-            Answers nothing_of result (destroy_session id (begins_at level moment) (standing rest self.old)).answer }
+            Answers nothing_of result (destroy_session id (begins_at level moment)
+            (standing rest self.old)).answer }
         ensures lists { UnlessMemory result ((moment : Moment) (rest : World) →
-            self.new ≡ lists_of (done_to (standing rest self.old) (destroy_session id (begins_at level moment) (standing rest self.old)))) }
+            self.new
+            ≡ lists_of (done_to (standing rest self.old)
+            (destroy_session id (begins_at level moment) (standing rest self.old)))) }
         // A refusal changes nothing.
         ensures refused { IfRefused result (self.new ≡ self.old) }
         ensures memory { TakesNone result }
@@ -41,10 +44,15 @@ impl Clients {
 
     /// Serves a DESTROY_CLIENTID of a level, for a client of which it is told whether it has opens.
     pub fn destroy_clientid(&mut self, level: u32, id: u64, opens: bool) -> Result<(), SessionError>
-        ensures answer { (moment : Moment) (rest : World) → opens ≡ list_any (is_open_of (client_named id)) rest.opens →
-            Answers nothing_of result (destroy_clientid id (begins_at level moment) (standing rest self.old)).answer }
-        ensures lists { UnlessMemory result ((moment : Moment) (rest : World) → opens ≡ list_any (is_open_of (client_named id)) rest.opens →
-            self.new ≡ lists_of (done_to (standing rest self.old) (destroy_clientid id (begins_at level moment) (standing rest self.old)))) }
+        ensures answer { (moment : Moment) (rest : World) →
+            opens ≡ list_any (is_open_of (client_named id)) rest.opens →
+            Answers nothing_of result (destroy_clientid id (begins_at level moment)
+            (standing rest self.old)).answer }
+        ensures lists { UnlessMemory result ((moment : Moment) (rest : World) →
+            opens ≡ list_any (is_open_of (client_named id)) rest.opens →
+            self.new
+            ≡ lists_of (done_to (standing rest self.old)
+            (destroy_clientid id (begins_at level moment) (standing rest self.old)))) }
         // A refusal changes nothing.
         ensures refused { IfRefused result (self.new ≡ self.old) }
         ensures memory { TakesNone result }

@@ -41,9 +41,14 @@ impl Clients {
         flags: u32,
     ) -> Result<ClientInfo, SessionError>
         ensures answer { (moment : Moment) (rest : World) →
-            Answers told_of result (exchange_id (record { verifier = verifier; owner = owner.now; flags = flags }) (begins_at level moment) (standing rest self.old)).answer }
+            Answers told_of result (exchange_id (record
+            { verifier = verifier; owner = owner.now; flags = flags }) (begins_at level moment)
+            (standing rest self.old)).answer }
         ensures lists { UnlessMemory result ((moment : Moment) (rest : World) →
-            self.new ≡ lists_of (done_to (standing rest self.old) (exchange_id (record { verifier = verifier; owner = owner.now; flags = flags }) (begins_at level moment) (standing rest self.old)))) }
+            self.new
+            ≡ lists_of (done_to (standing rest self.old)
+            (exchange_id (record { verifier = verifier; owner = owner.now; flags = flags })
+            (begins_at level moment) (standing rest self.old)))) }
         // Neither a refusal nor want of memory changes anything.
         ensures refused { OnErr result (self.new ≡ self.old) }
         // It tells of a record of the level.
@@ -54,14 +59,15 @@ impl Clients {
         {
             return Err(refused(NFS4ERR_INVAL));
         }
-        if let Some((client, row)) = self.records.confirmed_as(level, owner, verifier) {
+        let (confirmed, others) = self.records.known(level, owner, verifier);
+        if let Some((client, row)) = confirmed {
             return Ok(ClientInfo {
                 client,
                 sequence: row.sequence,
                 confirmed: row.confirmed,
             });
         }
-        if self.records.others(level, owner) >= CLIENTS_OF_A_LEVEL {
+        if others >= CLIENTS_OF_A_LEVEL {
             return Err(refused(NFS4ERR_NOSPC));
         }
         if self.records.last(level) >= LAST_NUMBER {

@@ -1,7 +1,7 @@
 //! What is kept of each level beside its records: the last number that it was given, how many records it
 //! has, and under which numbers those of an owner are. With it neither a look-up by owner nor a count goes
 //! through records.
-ghost use Rattle.std.specs.Prelude.{◌≡◌, ◌<◌, ◌==◌, ◌&&◌, ℕ, List, OnOk, IsSome, Some, cond};
+ghost use Rattle.std.specs.Prelude.{◌≡◌, ◌<◌, ◌==◌, ◌&&◌, ℕ, List, OnOk, IfOk, IsSome, Some, cond};
 ghost use Rattle.std.specs.Ordering.{nat_cmp};
 ghost use Rattle.std.specs.Str.{bytes_eq};
 ghost use Rattle.std.specs.BTreeMap.{get};
@@ -60,17 +60,18 @@ impl LevelRecords {
         }
     }
 
-    /// Makes a place for an owner's numbers, where there is none.
-    fn make_place(&mut self, alloc: Global, owner: &[u8]) -> Result<(), AllocError>
+    /// Makes a place for an owner's numbers, where there is none, and tells them.
+    fn make_place(&mut self, alloc: Global, owner: &[u8]) -> Result<OwnerNumbers, AllocError>
         ensures same { TellSame self.old self.new }
         ensures place { OnOk result (IsSome (place_of self.new owner.now)) }
+        ensures numbers { IfOk result (λ numbers. numbers ≡ numbers_of self.old owner.now) }
     {
-        if self.owners.contains_key(owner) {
-            return Ok(());
+        if let Some(numbers) = self.owners.get(owner) {
+            return Ok(*numbers);
         }
         self.owners
             .insert(Vec::from_slice(alloc, owner)?, NO_NUMBERS)?;
-        Ok(())
+        Ok(NO_NUMBERS)
     }
 
     /// Sets an owner's numbers, for which there is a place, and the count of records.
@@ -78,7 +79,8 @@ impl LevelRecords {
         requires { IsSome (place_of self.old owner.now) }
         ensures last { self.new.last ≡ self.old.last }
         ensures records { self.new.records ≡ records }
-        ensures places { (o : List ℕ) → place_of self.new o ≡ cond (bytes_eq owner.now o) (Some numbers) (place_of self.old o) }
+        ensures places { (o : List ℕ) → place_of self.new o
+            ≡ cond (bytes_eq owner.now o) (Some numbers) (place_of self.old o) }
     {
         self.records = records;
         let Some(place) = self.owners.get_mut(owner) else {
@@ -143,19 +145,21 @@ fn make_level(
     Ok(())
 }
 
-/// Makes a place for an owner's numbers in a level, where there is none. It changes nothing that is told.
+/// Makes a place for an owner's numbers in a level, where there is none, and tells them. It changes nothing that is
+/// told.
 pub fn make_place(
     levels: &mut BTreeMap<u32, LevelRecords>,
     alloc: Global,
     level: u32,
     owner: &[u8],
-) -> Result<(), AllocError>
+) -> Result<OwnerNumbers, AllocError>
     ensures same { AllTellSame levels.old levels.new }
     ensures place { OnOk result (IsSome (place_at levels.new level owner.now)) }
+    ensures numbers { IfOk result (λ numbers. numbers ≡ numbers_at levels.old level owner.now) }
 {
     make_level(levels, alloc, level)?;
     let Some(found) = levels.get_mut(&level) else {
-        return Ok(());
+        return Ok(NO_NUMBERS);
     };
     found.make_place(alloc, owner)
 }
@@ -164,10 +168,12 @@ pub fn make_place(
 pub fn give(levels: &mut BTreeMap<u32, LevelRecords>, level: u32, number: u32)
     requires there { IsSome (get nat_cmp levels.old level) }
     requires positive { 0 < number }
-    ensures last { (l : ℕ) → last_at levels.new l ≡ cond (level == l) number (last_at levels.old l) }
+    ensures last { (l : ℕ) →
+        last_at levels.new l ≡ cond (level == l) number (last_at levels.old l) }
     ensures records { (l : ℕ) → records_at levels.new l ≡ records_at levels.old l }
     ensures places { (l : ℕ) (o : List ℕ) → place_at levels.new l o ≡ place_at levels.old l o }
-    ensures lasts { lasts_of levels.new.entries ≡ inserted level_order (record { level = level; number = number }) (lasts_of levels.old.entries) }
+    ensures lasts { lasts_of levels.new.entries ≡ inserted level_order
+        (record { level = level; number = number }) (lasts_of levels.old.entries) }
 {
     let Some(found) = levels.get_mut(&level) else {
         return;
@@ -185,8 +191,10 @@ pub fn put(
 )
     requires { IsSome (place_at levels.old level owner.now) }
     ensures last { (l : ℕ) → last_at levels.new l ≡ last_at levels.old l }
-    ensures records { (l : ℕ) → records_at levels.new l ≡ cond (level == l) records (records_at levels.old l) }
-    ensures numbers { (l : ℕ) (o : List ℕ) → numbers_at levels.new l o ≡ cond (level == l && bytes_eq owner.now o) numbers (numbers_at levels.old l o) }
+    ensures records { (l : ℕ) → records_at levels.new l
+        ≡ cond (level == l) records (records_at levels.old l) }
+    ensures numbers { (l : ℕ) (o : List ℕ) → numbers_at levels.new l o
+        ≡ cond (level == l && bytes_eq owner.now o) numbers (numbers_at levels.old l o) }
     ensures lasts { lasts_of levels.new.entries ≡ lasts_of levels.old.entries }
 {
     let Some(found) = levels.get_mut(&level) else {

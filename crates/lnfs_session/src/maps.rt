@@ -29,7 +29,10 @@ pub fn last_of(lasts: &BTreeMap<u32, u32>, level: u32) -> u32
 
 /// Takes back the last number that a level was given: it gets the one before, if there was one.
 fn take_back(lasts: &mut BTreeMap<u32, u32>, level: u32, before: Option<u32>)
-    ensures { (number : ℕ) (entries : List (ℕ × ℕ)) → IsStrictlySortedBy nat_cmp (keys_of entries) → before ≡ lookup (λ k. is_eq (nat_cmp level k)) entries → lasts.old.entries ≡ insert_entry nat_cmp entries level number → lasts.new.entries ≡ entries }
+    ensures { (number : ℕ) (entries : List (ℕ × ℕ)) → IsStrictlySortedBy nat_cmp (keys_of entries) →
+        before ≡ lookup (λ k. is_eq (nat_cmp level k)) entries →
+        lasts.old.entries ≡ insert_entry nat_cmp entries level number →
+        lasts.new.entries ≡ entries }
 {
     match before {
         Some(number) => {
@@ -52,9 +55,13 @@ fn add_numbered<K: Ord + Drop, V: Drop>(
     id: K,
     row: V,
 ) -> Result<(), AllocError>
-    ensures rows { OnOk result ((rows.new.entries ≡ insert_entry K.cmp rows.old.entries id row) × IsStrictlySortedBy K.cmp (keys_of rows.old.entries)) }
-    ensures lasts { OnOk result (map last_id lasts.new.entries ≡ inserted level_order (record { level = level; number = number }) (map last_id lasts.old.entries)) }
-    ensures err { OnErr result ((rows.new.entries ≡ rows.old.entries) × (lasts.new.entries ≡ lasts.old.entries)) }
+    ensures rows { OnOk result ((rows.new.entries ≡ insert_entry K.cmp rows.old.entries id row)
+        × IsStrictlySortedBy K.cmp (keys_of rows.old.entries)) }
+    ensures lasts { OnOk result (map last_id lasts.new.entries
+        ≡ inserted level_order (record { level = level; number = number })
+        (map last_id lasts.old.entries)) }
+    ensures err { OnErr result ((rows.new.entries ≡ rows.old.entries)
+        × (lasts.new.entries ≡ lasts.old.entries)) }
 {
     let before = lasts.insert(level, number)?;
     let Ok(_) = rows.insert(id, row) else {
@@ -72,11 +79,20 @@ pub fn add_session(
     number: u32,
     session: Session,
 ) -> Result<(), AllocError>
-    ensures sessions { OnOk result (map session_of sessions.new.entries ≡ inserted session_order (session_of (record { level = level; number = number }, session)) (map session_of sessions.old.entries)) }
+    ensures sessions { OnOk result (map session_of sessions.new.entries
+        ≡ inserted session_order (session_of (record { level = level; number = number }, session))
+        (map session_of sessions.old.entries)) }
     // Where rows go later, it is as if it were added last.
-    ensures added_last { OnOk result ((test : world.Session → Bool) → IsTrue (test (session_of (record { level = level; number = number }, session))) → filter test (map session_of sessions.new.entries) ≡ inserted session_order (session_of (record { level = level; number = number }, session)) (filter test (map session_of sessions.old.entries))) }
-    ensures lasts { OnOk result (map last_id lasts.new.entries ≡ inserted level_order (record { level = level; number = number }) (map last_id lasts.old.entries)) }
-    ensures err { OnErr result ((sessions.new.entries ≡ sessions.old.entries) × (lasts.new.entries ≡ lasts.old.entries)) }
+    ensures added_last { OnOk result ((test : world.Session → Bool) →
+        IsTrue (test (session_of (record { level = level; number = number }, session))) →
+        filter test (map session_of sessions.new.entries)
+        ≡ inserted session_order (session_of (record { level = level; number = number }, session))
+        (filter test (map session_of sessions.old.entries))) }
+    ensures lasts { OnOk result (map last_id lasts.new.entries
+        ≡ inserted level_order (record { level = level; number = number })
+        (map last_id lasts.old.entries)) }
+    ensures err { OnErr result ((sessions.new.entries ≡ sessions.old.entries)
+        × (lasts.new.entries ≡ lasts.old.entries)) }
 {
     let id = SessionRef {
         level,
@@ -87,14 +103,16 @@ pub fn add_session(
 
 /// A client's record goes.
 pub fn drop_client(clients: &mut BTreeMap<ClientRef, Client>, id: ClientRef)
-    ensures { map client_of clients.new.entries ≡ filter (λ c. not (same_id (id_of id) c.id)) (map client_of clients.old.entries) }
+    ensures { map client_of clients.new.entries ≡ filter (λ c. not (same_id (id_of id) c.id))
+        (map client_of clients.old.entries) }
 {
     clients.remove(&id);
 }
 
 /// The sessions of a client go.
 fn drop_sessions_of(sessions: &mut BTreeMap<SessionRef, Session>, client: ClientRef)
-    ensures { map session_of sessions.new.entries ≡ filter (λ x. not (is_session_of (id_of client) x)) (map session_of sessions.old.entries) }
+    ensures { map session_of sessions.new.entries ≡ filter (λ x.
+        not (is_session_of (id_of client) x)) (map session_of sessions.old.entries) }
 {
     while let Some(id) = find_session(sessions, client) {
         drop_session(sessions, id);
@@ -103,7 +121,8 @@ fn drop_sessions_of(sessions: &mut BTreeMap<SessionRef, Session>, client: Client
 
 /// The sessions of a client go, if there is one whose are to go.
 pub fn drop_any_sessions(sessions: &mut BTreeMap<SessionRef, Session>, gone: Option<ClientRef>)
-    ensures { map session_of sessions.new.entries ≡ sessions_left (option_map id_of gone) (map session_of sessions.old.entries) }
+    ensures { map session_of sessions.new.entries ≡ sessions_left (option_map id_of gone)
+        (map session_of sessions.old.entries) }
 {
     if let Some(client) = gone {
         drop_sessions_of(sessions, client);
@@ -112,16 +131,20 @@ pub fn drop_any_sessions(sessions: &mut BTreeMap<SessionRef, Session>, gone: Opt
 
 /// A session goes, if it is there.
 pub fn drop_session(sessions: &mut BTreeMap<SessionRef, Session>, id: SessionRef)
-    ensures { map session_of sessions.new.entries ≡ filter (λ x. not (same_id (session_id_of id) x.id)) (map session_of sessions.old.entries) }
+    ensures { map session_of sessions.new.entries ≡ filter (λ x.
+        not (same_id (session_id_of id) x.id)) (map session_of sessions.old.entries) }
 {
     sessions.remove(&id);
 }
 
 /// The first session of a client, if it has one. The sessions of a level lie beside each other.
 fn find_session(sessions: &BTreeMap<SessionRef, Session>, client: ClientRef) -> Option<SessionRef>
-    ensures found { option_map session_id_of result ≡ option_map (λ x. x.id) (find (is_session_of (id_of client)) (map session_of sessions.now.entries)) }
+    ensures found { option_map session_id_of result
+        ≡ option_map (λ x. x.id) (find (is_session_of (id_of client))
+        (map session_of sessions.now.entries)) }
     // No other session has its identifier.
-    ensures only { IfSome result (λ id. list_all (λ x. not (same_id (session_id_of id) x.id) || is_session_of (id_of client) x) (map session_of sessions.now.entries) ≡ true) }
+    ensures only { IfSome result (λ id. list_all (λ x. not (same_id (session_id_of id) x.id)
+        || is_session_of (id_of client) x) (map session_of sessions.now.entries) ≡ true) }
 {
     let first = SessionRef {
         level: client.level,
@@ -140,7 +163,8 @@ fn find_session(sessions: &BTreeMap<SessionRef, Session>, client: ClientRef) -> 
 
 /// Whether a client has a session.
 pub fn has_session(sessions: &BTreeMap<SessionRef, Session>, client: ClientRef) -> bool
-    ensures { result ≡ list_any (is_session_of (id_of client)) (map session_of sessions.now.entries) }
+    ensures { result ≡ list_any (is_session_of (id_of client))
+        (map session_of sessions.now.entries) }
 {
     find_session(sessions, client).is_some()
 }

@@ -34,7 +34,8 @@ pub fn session_under<'a>(
     sessions: &'a BTreeMap<SessionRef, Session>,
     id: &[u8; 16],
 ) -> Option<&'a Session>
-    ensures { option_map (λ x. session_of (session_key id.now, x.now)) result ≡ session_under id.now (map session_of sessions.now.entries) }
+    ensures { option_map (λ x. session_of (session_key id.now, x.now)) result
+        ≡ session_under id.now (map session_of sessions.now.entries) }
 {
     if !is_padded(id) {
         return None;
@@ -54,7 +55,8 @@ pub fn client_named(id: u64) -> ClientRef
 
 /// The record of an identifier.
 pub fn client_at(clients: &BTreeMap<ClientRef, Client>, id: ClientRef) -> Option<&Client>
-    ensures { option_map (λ x. client_of (id, x.now)) result ≡ client_at (map client_of clients.now.entries) (id_of id) }
+    ensures { option_map (λ x. client_of (id, x.now)) result
+        ≡ client_at (map client_of clients.now.entries) (id_of id) }
 {
     clients.get(&id)
 }

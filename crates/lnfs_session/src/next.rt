@@ -19,7 +19,9 @@ impl Clients {
     /// that it names, where it brings the next sequence of that record.
     pub fn next_created(&self, level: u32, args: &CreateSession) -> Option<ClientRef>
         ensures { (moment : Moment) (rest : World) →
-            option_map id_of result ≡ cond (is_next_created args.now (begins_at level moment) (standing rest self.now)) (Some (client_named args.now.client)) None }
+            option_map id_of result
+            ≡ cond (is_next_created args.now (begins_at level moment) (standing rest self.now))
+            (Some (client_named args.now.client)) None }
     {
         let client = client_named(args.client);
         if client.level != level {

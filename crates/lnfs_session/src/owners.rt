@@ -13,7 +13,8 @@ use std::collections::BTreeMap;
 
 /// The identifier of a number in a level.
 pub fn numbered(level: u32, number: Option<u32>) -> Option<ClientRef>
-    ensures { option_map id_of result ≡ option_map (λ n. record { level = level; number = n }) number }
+    ensures { option_map id_of result ≡ option_map (λ n. record { level = level; number = n })
+        number }
 {
     match number {
         Some(number) => Some(ClientRef { level, number }),
@@ -22,7 +23,7 @@ pub fn numbered(level: u32, number: Option<u32>) -> Option<ClientRef>
 }
 
 /// How many records there are without one that may be there.
-fn without(records: u32, number: Option<u32>) -> u32
+pub fn without(records: u32, number: Option<u32>) -> u32
     ensures { result ≡ without records number }
 {
     match number {
@@ -32,33 +33,34 @@ fn without(records: u32, number: Option<u32>) -> u32
     }
 }
 
-/// How many records of a level stay where an owner's pending one goes.
-pub fn others_in(levels: &BTreeMap<u32, LevelRecords>, level: u32, owner: &[u8]) -> u32
-    ensures { result ≡ others_in levels.now level owner.now }
-{
-    without(
-        count(levels, level),
-        numbers_at(levels, level, owner).pending,
-    )
-}
-
-/// Enters a new number as that of an owner's pending record. The one that it had is answered.
+/// Enters a new number as that of an owner's pending record, where the owner's numbers are known. The one that it had is
+/// answered.
 pub fn enter_number(
     levels: &mut BTreeMap<u32, LevelRecords>,
     id: ClientRef,
     owner: &[u8],
+    numbers: OwnerNumbers,
 ) -> Option<ClientRef>
+    requires known { numbers ≡ numbers_at levels.old id.level owner.now }
     requires place { IsSome (place_at levels.old id.level owner.now) }
     requires positive { 0 < id.number }
     requires few { records_at levels.old id.level < LAST_NUMBER }
-    ensures gone { option_map id_of result ≡ option_map (λ n. record { level = id.level; number = n }) (numbers_at levels.old id.level owner.now).pending }
-    ensures last { (l : ℕ) → last_at levels.new l ≡ cond (id.level == l) id.number (last_at levels.old l) }
-    ensures records { (l : ℕ) → records_at levels.new l ≡ cond (id.level == l) (others_in levels.old id.level owner.now + 1) (records_at levels.old l) }
-    ensures numbers { (l : ℕ) (o : List ℕ) → numbers_at levels.new l o ≡ cond (id.level == l && bytes_eq owner.now o) (record (numbers_at levels.old id.level owner.now) { pending = Some id.number }) (numbers_at levels.old l o) }
-    ensures lasts { lasts_of levels.new.entries ≡ inserted level_order (record { level = id.level; number = id.number }) (lasts_of levels.old.entries) }
+    ensures gone { option_map id_of result ≡ option_map (λ n.
+        record { level = id.level; number = n }) (numbers_at levels.old id.level
+        owner.now).pending }
+    ensures last { (l : ℕ) →
+        last_at levels.new l ≡ cond (id.level == l) id.number (last_at levels.old l) }
+    ensures records { (l : ℕ) → records_at levels.new l
+        ≡ cond (id.level == l) (others_in levels.old id.level owner.now + 1)
+        (records_at levels.old l) }
+    ensures numbers { (l : ℕ) (o : List ℕ) → numbers_at levels.new l o
+        ≡ cond (id.level == l && bytes_eq owner.now o)
+        (record (numbers_at levels.old id.level owner.now) { pending = Some id.number })
+        (numbers_at levels.old l o) }
+    ensures lasts { lasts_of levels.new.entries ≡ inserted level_order
+        (record { level = id.level; number = id.number }) (lasts_of levels.old.entries) }
 {
-    let numbers = numbers_at(levels, id.level, owner);
-    let others = others_in(levels, id.level, owner);
+    let others = without(count(levels, id.level), numbers.pending);
     let left = OwnerNumbers {
         pending: Some(id.number),
         confirmed: numbers.confirmed,
@@ -75,10 +77,16 @@ pub fn confirm_number(
     owner: &[u8],
 ) -> Option<ClientRef>
     requires { (numbers_at levels.old id.level owner.now).pending ≡ Some id.number }
-    ensures gone { option_map id_of result ≡ option_map (λ n. record { level = id.level; number = n }) (numbers_at levels.old id.level owner.now).confirmed }
+    ensures gone { option_map id_of result ≡ option_map (λ n.
+        record { level = id.level; number = n }) (numbers_at levels.old id.level
+        owner.now).confirmed }
     ensures last { (l : ℕ) → last_at levels.new l ≡ last_at levels.old l }
-    ensures records { (l : ℕ) → records_at levels.new l ≡ cond (id.level == l) (without (records_at levels.old id.level) (numbers_at levels.old id.level owner.now).confirmed) (records_at levels.old l) }
-    ensures numbers { (l : ℕ) (o : List ℕ) → numbers_at levels.new l o ≡ cond (id.level == l && bytes_eq owner.now o) (record { pending = None; confirmed = Some id.number }) (numbers_at levels.old l o) }
+    ensures records { (l : ℕ) → records_at levels.new l
+        ≡ cond (id.level == l) (without (records_at levels.old id.level)
+        (numbers_at levels.old id.level owner.now).confirmed) (records_at levels.old l) }
+    ensures numbers { (l : ℕ) (o : List ℕ) → numbers_at levels.new l o
+        ≡ cond (id.level == l && bytes_eq owner.now o)
+        (record { pending = None; confirmed = Some id.number }) (numbers_at levels.old l o) }
     ensures lasts { lasts_of levels.new.entries ≡ lasts_of levels.old.entries }
 {
     let replaced = numbers_at(levels, id.level, owner).confirmed;
@@ -100,8 +108,11 @@ pub fn clear_number(
 )
     requires { IsSome (number_by confirmed (numbers_at levels.old level owner.now)) }
     ensures last { (l : ℕ) → last_at levels.new l ≡ last_at levels.old l }
-    ensures records { (l : ℕ) → records_at levels.new l ≡ cond (level == l) (records_at levels.old level - 1) (records_at levels.old l) }
-    ensures numbers { (l : ℕ) (o : List ℕ) → numbers_at levels.new l o ≡ cond (level == l && bytes_eq owner.now o) (cleared confirmed (numbers_at levels.old level owner.now)) (numbers_at levels.old l o) }
+    ensures records { (l : ℕ) → records_at levels.new l
+        ≡ cond (level == l) (records_at levels.old level - 1) (records_at levels.old l) }
+    ensures numbers { (l : ℕ) (o : List ℕ) → numbers_at levels.new l o
+        ≡ cond (level == l && bytes_eq owner.now o)
+        (cleared confirmed (numbers_at levels.old level owner.now)) (numbers_at levels.old l o) }
     ensures lasts { lasts_of levels.new.entries ≡ lasts_of levels.old.entries }
 {
     let mut left = numbers_at(levels, level, owner);

@@ -9,10 +9,10 @@ ghost use Rattle.lnfs_session.specs.Standing.{answered, reclaimed, clients_set};
 ghost use Rattle.lnfs_session.specs.Records.{no_clients, next_id, renewed, replaced_by, with_confirmed};
 
 use crate::client_rows::{add_new, drop_any, keep_answer, mark_reclaimed, set_confirmed};
-use crate::levels::{LevelRecords, free_place, last_given, make_place, numbers_at};
+use crate::levels::{LevelRecords, count, free_place, last_given, make_place, numbers_at};
 use crate::maps::drop_client;
 use crate::named::client_at;
-use crate::owners::{clear_number, confirm_number, enter_number, numbered, others_in};
+use crate::owners::{clear_number, confirm_number, enter_number, numbered, without};
 use crate::rows::{Client, ClientRef, Kept};
 use lnfs_world::numbers::LAST_NUMBER;
 use std::alloc::{AllocError, Global};
@@ -59,7 +59,8 @@ impl Records {
 
     /// The record of an identifier.
     pub fn at(&self, id: ClientRef) -> Option<&Client>
-        ensures { option_map (λ x. client_of (id, x.now)) result ≡ client_at self.now.clients (id_of id) }
+        ensures { option_map (λ x. client_of (id, x.now)) result
+            ≡ client_at self.now.clients (id_of id) }
     {
         client_at(&self.rows, id)
     }
@@ -71,38 +72,37 @@ impl Records {
         last_given(&self.levels, level)
     }
 
-    /// The confirmed record of a level, an owner and its verifier, with its identifier.
-    pub fn confirmed_as(
+    /// The confirmed record of a level, an owner and its verifier, with its identifier; and how many records of the level
+    /// stay where the owner's pending one goes.
+    pub fn known(
         &self,
         level: u32,
         owner: &[u8],
         verifier: [u8; 8],
-    ) -> Option<(ClientRef, &Client)>
-        ensures { option_map (λ p. client_of (p.0, p.1.now)) result ≡ find (is_confirmed_as level owner.now verifier) self.now.clients }
+    ) -> (Option<(ClientRef, &Client)>, u32)
+        ensures confirmed { option_map (λ p. client_of (p.0, p.1.now)) result.0
+            ≡ find (is_confirmed_as level owner.now verifier) self.now.clients }
+        ensures others { result.1 ≡ others_of level owner.now self.now.clients }
     {
-        let Some(number) = numbers_at(&self.levels, level, owner).confirmed else {
-            return None;
+        let numbers = numbers_at(&self.levels, level, owner);
+        let others = without(count(&self.levels, level), numbers.pending);
+        let Some(number) = numbers.confirmed else {
+            return (None, others);
         };
         let id = ClientRef { level, number };
         let Some(client) = client_at(&self.rows, id) else {
-            return None;
+            return (None, others);
         };
         if client.verifier != verifier {
-            return None;
+            return (None, others);
         }
-        Some((id, client))
-    }
-
-    /// How many records of a level stay where the owner's pending one goes.
-    pub fn others(&self, level: u32, owner: &[u8]) -> u32
-        ensures { result ≡ others_of level owner.now self.now.clients }
-    {
-        others_in(&self.levels, level, owner)
+        (Some((id, client)), others)
     }
 
     /// The owner's record that no CREATE_SESSION has confirmed.
     pub fn pending(&self, level: u32, owner: &[u8]) -> Option<ClientRef>
-        ensures { option_map id_of result ≡ option_map (λ c. c.id) (find (is_pending level owner.now) self.now.clients) }
+        ensures { option_map id_of result ≡ option_map (λ c. c.id)
+            (find (is_pending level owner.now) self.now.clients) }
     {
         numbered(level, numbers_at(&self.levels, level, owner).pending)
     }
@@ -117,26 +117,29 @@ impl Records {
     ) -> Result<(ClientRef, Option<ClientRef>), AllocError>
         requires { last_of level self.old.lasts < LAST_NUMBER }
         ensures made { IfOk result (λ ids. id_of ids.0 ≡ next_id level self.old.lasts) }
-        ensures gone { IfOk result (λ ids. option_map id_of ids.1 ≡ option_map (λ c. c.id) (find (is_pending level owner.now) self.old.clients)) }
+        ensures gone { IfOk result (λ ids. option_map id_of ids.1
+            ≡ option_map (λ c. c.id) (find (is_pending level owner.now) self.old.clients)) }
         ensures lists { OnOk result (self.new ≡ renewed level owner.now verifier self.old) }
         ensures kept { OnErr result (self.new ≡ self.old) }
     {
         let number = last_given(&self.levels, level) + 1;
         let id = ClientRef { level, number };
-        make_place(&mut self.levels, self.alloc, level, owner)?;
+        let numbers = make_place(&mut self.levels, self.alloc, level, owner)?;
         if let Err(wanting) = add_new(&mut self.rows, self.alloc, id, owner, verifier) {
             free_place(&mut self.levels, level, owner);
             return Err(wanting);
         }
-        let pending = enter_number(&mut self.levels, id, owner);
+        let pending = enter_number(&mut self.levels, id, owner, numbers);
         drop_any(&mut self.rows, pending);
         Ok((id, pending))
     }
 
     /// Confirms a record. The other confirmed one of its owner, which is answered, goes.
     pub fn confirm(&mut self, id: ClientRef) -> Option<ClientRef>
-        ensures gone { option_map id_of result ≡ option_map (λ c. c.id) (replaced_by (client_at self.old.clients (id_of id)) self.old.clients) }
-        ensures lists { self.new ≡ record self.old { clients = with_confirmed (client_at self.old.clients (id_of id)) self.old.clients } }
+        ensures gone { option_map id_of result ≡ option_map (λ c. c.id)
+            (replaced_by (client_at self.old.clients (id_of id)) self.old.clients) }
+        ensures lists { self.new ≡ record self.old
+            { clients = with_confirmed (client_at self.old.clients (id_of id)) self.old.clients } }
     {
         let Some(row) = client_at(&self.rows, id) else {
             return None;
@@ -152,21 +155,24 @@ impl Records {
 
     /// Keeps the answer of a CREATE_SESSION in the record of its client, whose sequence moves.
     pub fn keep(&mut self, id: ClientRef, kept: Kept)
-        ensures { self.new ≡ record self.old { clients = clients_set (answered (kept_of kept)) (client_at self.old.clients (id_of id)) self.old.clients } }
+        ensures { self.new
+            ≡ record self.old { clients = clients_set (answered (kept_of kept)) (client_at self.old.clients (id_of id)) self.old.clients } }
     {
         keep_answer(&mut self.rows, id, kept);
     }
 
     /// A client has said that it reclaims no more (RFC 8881 section 18.51).
     pub fn mark_reclaimed(&mut self, id: ClientRef)
-        ensures { self.new ≡ record self.old { clients = clients_set reclaimed (client_at self.old.clients (id_of id)) self.old.clients } }
+        ensures { self.new
+            ≡ record self.old { clients = clients_set reclaimed (client_at self.old.clients (id_of id)) self.old.clients } }
     {
         mark_reclaimed(&mut self.rows, id);
     }
 
     /// A client's record goes.
     pub fn remove(&mut self, id: ClientRef)
-        ensures { self.new ≡ record self.old { clients = filter (λ c. not (same_id (id_of id) c.id)) self.old.clients } }
+        ensures { self.new
+            ≡ record self.old { clients = filter (λ c. not (same_id (id_of id) c.id)) self.old.clients } }
     {
         let Some(row) = client_at(&self.rows, id) else {
             return;

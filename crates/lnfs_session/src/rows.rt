@@ -21,8 +21,8 @@ pub struct SessionRef {
 /// The arguments of a request that was accepted, and the answer that it got.
 #[derive(Debug, Drop)]
 pub struct Kept {
-    pub arguments: Octets,
-    pub reply: Octets,
+    pub arguments: Vec<u8>,
+    pub reply: Vec<u8>,
 }
 
 /// A client's record (RFC 8881 section 18.35.4).

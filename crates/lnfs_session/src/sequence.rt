@@ -51,7 +51,8 @@ fn on_slot<'a>(
     bytes: &[u8],
 ) -> Result<Seq<'a>, SessionError>
     ensures answer { (p : Place) (sent : Sent) → sent.arguments ≡ bytes.now →
-        Answers arrival_of result (answered_as (arrived args.now) (on_slot args.now sent p (session_of (name, session.now)) (slot_of slot.now)).answer) }
+        Answers arrival_of result (answered_as (arrived args.now)
+        (on_slot args.now sent p (session_of (name, session.now)) (slot_of slot.now)).answer) }
     ensures memory { TakesNone result }
 {
     let next = next_sequence(slot.sequence);
@@ -91,7 +92,9 @@ impl Clients {
         count: u32,
     ) -> Result<Seq<'_>, SessionError>
         ensures answer { (moment : Moment) (rest : World) →
-            Answers arrival_of result (answered_as (arrived args.now) (sequence args.now (record { arguments = bytes.now; size = size; count = count }) (begins_at level moment) (standing rest self.now)).answer) }
+            Answers arrival_of result (answered_as (arrived args.now)
+            (sequence args.now (record { arguments = bytes.now; size = size; count = count })
+            (begins_at level moment) (standing rest self.now)).answer) }
         ensures memory { TakesNone result }
     {
         let name = session_named(&args.session);

@@ -11,7 +11,7 @@ use Rattle.lnfs_session.specs.Standing.{Lists, standing, lists_of, sessions_left
 use Rattle.lnfs_session.specs.Listed.{client_of, session_of, last_of as last_id}
 use Rattle.lnfs_session.specs.Records.{ClientLists}
 use Rattle.lnfs_session.proofs.Creating.{found_passes}
-use Rattle.lnfs_session.proofs.Exchanging.{none_told, made, renewed_as}
+use Rattle.lnfs_session.proofs.Exchanging.{made, renewed_as}
 use Rattle.lnfs_session.proofs.clients.Clients.exchange_id.Goals as goal
 
 pub returns-clause-lists : goal.returns-clause-lists
@@ -24,8 +24,8 @@ returns-clause-lists c =
     let lists : Lists = record { clients = records.clients; sessions = sessions; client_lasts = records.lasts; session_lasts = session_lasts } in
     let told : has_flag args.flags EXCHGID4_FLAG_CONFIRMED_R ≡ false = grind arith in
     let update : has_flag args.flags EXCHGID4_FLAG_UPD_CONFIRMED_REC_A ≡ false = grind arith in
-    let none : find (is_confirmed_as level args.owner args.verifier) records.clients ≡ None = none_told (λ d. d) _ (grind arith) in
-    let room : nat_lt (others_of level args.owner records.clients) CLIENTS_OF_A_LEVEL ≡ true = grind (arith, nat_tests, c.others.ensures) in
+    let none : find (is_confirmed_as level args.owner args.verifier) records.clients ≡ None = sym (rw c.in_default.is at c.known-others.ensures.confirmed) in
+    let room : nat_lt (others_of level args.owner records.clients) CLIENTS_OF_A_LEVEL ≡ true = grind (arith, nat_tests, c.known-others.ensures.others) in
     let number : nat_lt (last_of level records.lasts) LAST_NUMBER ≡ true = grind (arith, nat_tests, c.last.ensures) in
     let pending = find (is_pending level args.owner) records.clients in
     let row = new_client (record { level = level; number = last_of level records.lasts + 1 }) args in
@@ -43,5 +43,5 @@ returns-clause-lists c =
 pub returns-in-Some-clause-level : goal.returns-in-Some-clause-level
 returns-in-Some-clause-level c =
     let row = client_of (c.in-Some.client, c.in-Some.row.now) in
-    let passes : is_confirmed_as c.args.level c.args.owner.now c.args.verifier row ≡ true = found_passes (is_confirmed_as c.args.level c.args.owner.now c.args.verifier) row c.self.inside.records.clients (sym c.in-Some.ensures) in
+    let passes : is_confirmed_as c.args.level c.args.owner.now c.args.verifier row ≡ true = found_passes (is_confirmed_as c.args.level c.args.owner.now c.args.verifier) row c.self.inside.records.clients (sym (rw c.in-Some.is at c.known-others.ensures.confirmed)) in
     grind (arith, nat_tests, passes)

@@ -16,7 +16,7 @@ returns c =
     let kept : Kept = record { arguments = c.args.bytes.items; reply = c.args.reply.items } in
     let lists : Lists = record { clients = c.self.inside.records.clients; sessions = map session_of c.self.inside.sessions.entries; client_lasts = c.self.inside.records.lasts; session_lasts = map last_of c.self.inside.session_lasts.entries } in
     let at = client_at lists.clients (id_of c.args.client) in
-    let records : c.keep.new.self ≡ record c.self.inside.records { clients = clients_set (answered kept) at lists.clients } = c.keep.ensures ∙ (λ i. record c.self.inside.records { clients = clients_set (answered (record { arguments = c.new.ensures i; reply = c.new-2.ensures i })) at lists.clients }) in
+    let records : c.keep.new.self ≡ record c.self.inside.records { clients = clients_set (answered kept) at lists.clients } = c.keep.ensures in
     let new : Lists = record lists { clients = c.keep.new.self.clients; client_lasts = c.keep.new.self.lasts } in
     let step : (p : Place) (rest : World) → new ≡ lists_of (done_to (standing rest lists) (keep_created c.args.client.number kept (record p { subject = c.args.client.level }) (standing rest lists))) = λ p rest. (λ i. record lists { clients = (records i).clients; client_lasts = (records i).lasts }) ∙ kept_in kept at rest lists in
     subst (λ (k : Lists). (p : Place) (rest : World) → new ≡ lists_of (done_to (standing rest k) (keep_created c.args.client.number kept (record p { subject = c.args.client.level }) (standing rest k)))) c.self.view_is step

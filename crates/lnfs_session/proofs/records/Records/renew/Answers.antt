@@ -20,7 +20,7 @@ invariant_of-self-2 c =
     let rows = map client_of c.self.inside.rows.entries in
     let old = c.self.inside.levels in
     let levels = c.make_place.new.levels in
-    let told = c.in_ok-make_place.ensures.same in
+    let told = c.in_ok-numbers.ensures.same in
     let row : world.Client = new_client (record { level = level; number = c.last_given-number.result + 1 }) (record { verifier = c.args.verifier; owner = c.args.owner.now; flags = 0 }) in
     let placed = same rows (lasts_of old.entries) (last_at old) (records_at old) (numbers_at old) c.self.invariant rows (lasts_of levels.entries) (last_at levels) (records_at levels) (numbers_at levels) refl told.lasts told.last told.records told.numbers in
     let next : c.last_given-number.result + 1 ≡ last_at levels level + 1 = ap (λ (n : ℕ). n + 1) (c.last_given-number.ensures ∙ sym (told.last level)) in
@@ -33,7 +33,7 @@ returns-clause-gone c =
     let level = c.args.level in
     let old = c.self.inside.levels in
     c.enter_number-pending.ensures.gone
-    ∙ ap (λ (n : OwnerNumbers). ids_at level n.pending) (c.in_ok-make_place.ensures.same.numbers level c.args.owner.now)
+    ∙ ap (λ (n : OwnerNumbers). ids_at level n.pending) (c.in_ok-numbers.ensures.same.numbers level c.args.owner.now)
     ∙ sym (pending_id (map client_of c.self.inside.rows.entries) (lasts_of old.entries) (last_at old) (records_at old) (numbers_at old) c.self.invariant level c.args.owner.now)
     ∙ ap (λ (lists : ClientLists). option_map (λ (r : world.Client). r.id) (find (is_pending level c.args.owner.now) lists.clients)) c.self.view_is
 
@@ -43,7 +43,7 @@ returns-clause-lists c =
     let rows = map client_of c.self.inside.rows.entries in
     let old = c.self.inside.levels in
     let lasts = lasts_of old.entries in
-    let told = c.in_ok-make_place.ensures.same in
+    let told = c.in_ok-numbers.ensures.same in
     let id : Id = record { level = level; number = c.last_given-number.result + 1 } in
     let row : world.Client = new_client id (record { verifier = c.args.verifier; owner = c.args.owner.now; flags = 0 }) in
     let next : c.last_given-number.result + 1 ≡ last_at old level + 1 = ap (λ (n : ℕ). n + 1) c.last_given-number.ensures in
