@@ -71,6 +71,8 @@ pub const OP_ILLEGAL: u32 = 10044;
 pub const MINOR: u32 = 2;
 /// The most operations of a COMPOUND.
 pub const OP_LIMIT: u32 = 32;
+/// The least bytes of an operation, which are its number.
+pub const OP_LEAST: usize = 4;
 /// The most bytes of a tag.
 pub const TAG_LIMIT: u32 = 1024;
 /// The most bytes of a name, and of the values of an `fattr4`.

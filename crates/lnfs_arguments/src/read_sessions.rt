@@ -16,7 +16,8 @@ use lnfs_xdr::{AUTH_NONE, AUTH_SYS, GROUP_LIMIT, MACHINE_LIMIT, RPCSEC_GSS, XdrE
 use std::alloc::Global;
 
 fn words_of(alloc: Global, reader: &mut XdrReader<'_>, count: u32) -> Result<Vec<u32>, Halt>
-    ensures { ParsesInMemory (λ v. v.items) result reader.old reader.new (read (times count Word) reader.old.rest) }
+    ensures { ParsesInMemory (λ v. v.items) result reader.old reader.new
+        (read (times count Word) reader.old.rest) }
 {
     let mut words = Vec::new(alloc);
     for _ in 0..count {
@@ -27,7 +28,8 @@ fn words_of(alloc: Global, reader: &mut XdrReader<'_>, count: u32) -> Result<Vec
 
 #[tactic(auto, unfolding(crate::specs::Grammar::implementation))]
 fn implementation_of(alloc: Global, reader: &mut XdrReader<'_>) -> Result<Implementation, Halt>
-    ensures { ParsesInMemory (λ x. x) result reader.old reader.new (read implementation reader.old.rest) }
+    ensures { ParsesInMemory (λ x. x) result reader.old reader.new
+        (read implementation reader.old.rest) }
 {
     let domain = opaque_of(alloc, reader, OWNER_LIMIT)?;
     let name = opaque_of(alloc, reader, OWNER_LIMIT)?;
@@ -55,7 +57,8 @@ fn who_made_of(alloc: Global, reader: &mut XdrReader<'_>) -> Result<Option<Imple
 /// `Outside` where a state protection is asked for.
 #[tactic(auto, unfolding(crate::specs::Grammar::exchange_id))]
 pub fn exchange_id_of<'a>(alloc: Global, reader: &mut XdrReader<'a>) -> Result<Op<'a>, Halt>
-    ensures { ParsesInMemory (λ x. x) result reader.old reader.new (read exchange_id reader.old.rest) }
+    ensures { ParsesInMemory (λ x. x) result reader.old reader.new
+        (read exchange_id reader.old.rest) }
 {
     let mut verifier = [0; 8];
     verifier.copy_from_slice(reader.fixed(8)?);
@@ -119,7 +122,8 @@ fn callbacks_of(
     reader: &mut XdrReader<'_>,
     count: u32,
 ) -> Result<Vec<Callback>, Halt>
-    ensures { ParsesInMemory (λ v. v.items) result reader.old reader.new (read (times count callback) reader.old.rest) }
+    ensures { ParsesInMemory (λ v. v.items) result reader.old reader.new
+        (read (times count callback) reader.old.rest) }
 {
     let mut callbacks = Vec::new(alloc);
     for _ in 0..count {
@@ -130,7 +134,8 @@ fn callbacks_of(
 
 #[tactic(auto, unfolding(crate::specs::Grammar::create_session))]
 fn create_session_args_of(alloc: Global, reader: &mut XdrReader<'_>) -> Result<CreateSession, Halt>
-    ensures { ParsesInMemory (λ x. x) result reader.old reader.new (read create_session reader.old.rest) }
+    ensures { ParsesInMemory (λ x. x) result reader.old reader.new
+        (read create_session reader.old.rest) }
 {
     let client = reader.u64()?;
     let sequence = reader.u32()?;
@@ -155,7 +160,8 @@ fn create_session_args_of(alloc: Global, reader: &mut XdrReader<'_>) -> Result<C
 /// `Outside` where a way to call back isn't one of `Callback`.
 #[tactic(auto, unfolding(crate::specs::Grammar::making_session))]
 pub fn create_session_of<'a>(alloc: Global, reader: &mut XdrReader<'a>) -> Result<Op<'a>, Halt>
-    ensures { ParsesInMemory (λ x. x) result reader.old reader.new (read making_session reader.old.rest) }
+    ensures { ParsesInMemory (λ x. x) result reader.old reader.new
+        (read making_session reader.old.rest) }
 {
     let args = create_session_args_of(alloc, reader)?;
     Ok(Op::CreateSession(args))

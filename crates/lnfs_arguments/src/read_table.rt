@@ -32,7 +32,8 @@ pub fn arguments_of<'a>(
     reader: &mut XdrReader<'a>,
     number: u32,
 ) -> Result<Op<'a>, Halt>
-    ensures { ParsesInMemory (λ x. x) result reader.old reader.new (read (arguments number) reader.old.rest) }
+    ensures { ParsesInMemory (λ x. x) result reader.old reader.new
+        (read (arguments number) reader.old.rest) }
 {
     match number {
         OP_ACCESS => Ok(access_of(reader)?),

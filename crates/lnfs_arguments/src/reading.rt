@@ -6,7 +6,7 @@ ghost use Rattle.lnfs_arguments.specs.declared.types.Compound.{Compound};
 
 use crate::further::ExtraGrammar;
 use crate::halt::{CompoundError, Halt};
-use crate::numbers::{MINOR, OP_LIMIT, TAG_LIMIT};
+use crate::numbers::{MINOR, OP_LEAST, OP_LIMIT, TAG_LIMIT};
 use crate::opaque::opaque_of;
 use crate::read_table::arguments_of;
 use crate::types::{Compound, Op};
@@ -58,6 +58,11 @@ fn served_of(minor: u32, count: u32) -> u32
     }
 }
 
+/// How many operations there can be at most: each of those that are read has a word at least.
+fn room_of(served: u32, bytes: usize) -> usize {
+    (served as usize).min(bytes / OP_LEAST)
+}
+
 /// Whether what follows them is unread.
 fn is_cut_of(minor: u32, count: u32) -> bool
     ensures { result ≡ is_cut minor count }
@@ -76,7 +81,7 @@ fn compound_in<'a, E: ExtraGrammar>(
     let (tag, minor, count) = header_of(alloc, reader)?;
     let is_cut = is_cut_of(minor, count);
     let served = served_of(minor, count);
-    let mut ops = Vec::new(alloc);
+    let mut ops = Vec::with_capacity(alloc, room_of(served, reader.rest().len()))?;
     for _ in 0..served {
         match operation_of(alloc, reader, extra) {
             Ok(op) => ops.push(op)?,
@@ -139,11 +144,13 @@ pub fn read_compound<'a, E: ExtraGrammar>(
     // What is read is what the bytes are.
     ensures found { IfOk result (λ c. Tells (compound E.grammar) c bytes.now) }
     // What the bytes are is read, unless memory runs out.
-    ensures only { (c : Compound) → Tells (compound E.grammar) c bytes.now → Answers result bytes.now (Ok c) }
+    ensures only { (c : Compound) → Tells (compound E.grammar) c bytes.now →
+        Answers result bytes.now (Ok c) }
     // What is refused is no COMPOUND: the items before the offset are there, and none is there.
     ensures garbage { IfGarbage result (λ at. RefusesAt (compound E.grammar) bytes.now at) }
     // Where no item is, that is refused, unless memory runs out.
-    ensures refused { (stuck : List ℕ) → Refuses (compound E.grammar) bytes.now stuck → Answers result bytes.now (Err stuck) }
+    ensures refused { (stuck : List ℕ) → Refuses (compound E.grammar) bytes.now stuck →
+        Answers result bytes.now (Err stuck) }
 {
     compound_of(alloc, bytes, extra)
 }

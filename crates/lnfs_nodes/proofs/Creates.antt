@@ -23,7 +23,7 @@ use Rattle.lnfs_nodes.specs.Trees.{with_tree, held_in, Holds, IsHeld, refusal_of
 use Rattle.lnfs_nodes.specs.declared.held.Held.{Held}
 use Rattle.lnfs_nodes.specs.Refusals.{name_refusal}
 use Rattle.lnfs_nodes.specs.GivenValues.{Asked, followed, and_then, tested, with_status, values_in, label_in, text_refusal, asked_in}
-use Rattle.lnfs_nodes.specs.Creating.{namespace, first, new_refusal}
+use Rattle.lnfs_nodes.specs.Creating.{namespace, first, child_refusal}
 use Rattle.lnfs_nodes.proofs.Found.{about_held}
 use Rattle.lnfs_nodes.proofs.Refusing.{refused_as, on_held}
 use Rattle.lnfs_nodes.proofs.Stages.{named, values, labelled, texted, status_stage, test_stage, value_stage}
@@ -85,49 +85,44 @@ module _ (site : Site) (what : What) (name : List ℕ) (given : RawAttrs) (p : P
   pub taken : (x : Asked) → Ok x ≡ asked_in site what name given → create site what name given p w ≡ behind x
   taken x e = told ∙ ap (λ (r : Result Asked chain.Refusal). followed p r behind) (sym e)
 
--- ---- the tests of the name
+-- ---- the tests of the directory
 
 module _ (p : Place) (change child : chain.Refusal) where
-  abbrev refusals : (directory may_change may_put : Bool) → Option Entry → Option chain.Refusal
-  refusals a b c e =
+  abbrev refusals : (directory may_change may_put : Bool) → Option chain.Refusal
+  refusals a b c =
       if a
-      then first (if b then None else Some change) (first (if c then None else Some child) (if is_some e then Some (namespace NFS4ERR_EXIST) else None))
+      then first (if b then None else Some change) (if c then None else Some child)
       else Some (namespace NFS4ERR_NOTDIR)
 
-  abbrev tests : (directory may_change may_put : Bool) → Option Entry → Outcome (Answer Made) → Outcome (Answer Made)
-  tests a b c e next =
+  abbrev tests : (directory may_change may_put : Bool) → Outcome (Answer Made) → Outcome (Answer Made)
+  tests a b c next =
       demand a (refuse p Namespace NFS4ERR_NOTDIR) (
       demand b (refuse p change.gate change.status) (
-      demand c (refuse p child.gate child.status) (
-      where_there e (λ _. refuse p Namespace NFS4ERR_EXIST) next)))
+      demand c (refuse p child.gate child.status) next))
 
-  record Passed (a b c : Bool) (e : Option Entry) (next : Outcome (Answer Made)) : Type 0 where
+  record Passed (a b c : Bool) (next : Outcome (Answer Made)) : Type 0 where
     pub directory : a ≡ true
     pub may_change : b ≡ true
-    pub absent : is_some e ≡ false
-    pub goes : tests a b c e next ≡ next
+    pub goes : tests a b c next ≡ next
 
-  all_pass : (a b c : Bool) (e : Option Entry) (next : Outcome (Answer Made)) → None ≡ refusals a b c e → Passed a b c e next
-  all_pass true true true None next none = record { directory = refl; may_change = refl; absent = refl; goes = refl }
-  all_pass true true true (Some x) next none = cc
-  all_pass true true false e next none = cc
-  all_pass true false c e next none = cc
-  all_pass false b c e next none = cc
+  all_pass : (a b c : Bool) (next : Outcome (Answer Made)) → None ≡ refusals a b c → Passed a b c next
+  all_pass true true true next none = record { directory = refl; may_change = refl; goes = refl }
+  all_pass true true false next none = cc
+  all_pass true false c next none = cc
+  all_pass false b c next none = cc
 
-  one_fails : (a b c : Bool) (e : Option Entry) (next : Outcome (Answer Made)) (why : Refusal) → Some (refusal_of why) ≡ refusals a b c e → tests a b c e next ≡ refuse p why.gate why.status
-  one_fails true true true None next why some = cc
-  one_fails true true true (Some x) next why some = refused_as p why (namespace NFS4ERR_EXIST) cc
-  one_fails true true false e next why some = refused_as p why child cc
-  one_fails true false c e next why some = refused_as p why change cc
-  one_fails false b c e next why some = refused_as p why (namespace NFS4ERR_NOTDIR) cc
+  one_fails : (a b c : Bool) (next : Outcome (Answer Made)) (why : Refusal) → Some (refusal_of why) ≡ refusals a b c → tests a b c next ≡ refuse p why.gate why.status
+  one_fails true true true next why some = cc
+  one_fails true true false next why some = refused_as p why child cc
+  one_fails true false c next why some = refused_as p why change cc
+  one_fails false b c next why some = refused_as p why (namespace NFS4ERR_NOTDIR) cc
 
-module _ (site : Site) (p : Place) (w : World) (d : Node) (child : ℕ) (name : List ℕ) (next : Outcome (Answer Made)) where
-  abbrev pub named_in : Outcome (Answer Made)
-  named_in =
+module _ (site : Site) (p : Place) (d : Node) (child : ℕ) (next : Outcome (Answer Made)) where
+  abbrev pub behind_tests : Outcome (Answer Made)
+  behind_tests =
       where_directory p d (
       where_allowed site p (ChangeNames d.label) (
-      where_allowed site p (Child d.label child) (
-      where_new p w d name next)))
+      where_allowed site p (Child d.label child) next))
 
   abbrev denied : chain.Refusal
   denied = record { gate = Monitor (rule_of (ChangeNames d.label)); status = denied_with (rule_of (ChangeNames d.label)) }
@@ -135,15 +130,14 @@ module _ (site : Site) (p : Place) (w : World) (d : Node) (child : ℕ) (name : 
   abbrev unfit : chain.Refusal
   unfit = record { gate = Monitor (rule_of (Child d.label child)); status = denied_with (rule_of (Child d.label child)) }
 
-  pub name_passes : None ≡ new_refusal site p.subject w.entries d child name
-      → (is_directory d.kind ≡ true) × ((p.subject == d.label) ≡ true) × (is_some (entry_at w.entries d.id name) ≡ false) × (named_in ≡ next)
-  name_passes e =
-      let all : Passed p denied unfit (is_directory d.kind) (allows site.dom p.subject (ChangeNames d.label)) (allows site.dom p.subject (Child d.label child)) (entry_at w.entries d.id name) next =
-      all_pass p denied unfit (is_directory d.kind) (allows site.dom p.subject (ChangeNames d.label)) (allows site.dom p.subject (Child d.label child)) (entry_at w.entries d.id name) next e in
-      (all.directory, all.may_change, all.absent, all.goes)
+  pub child_passes : None ≡ child_refusal site p.subject d child → (is_directory d.kind ≡ true) × ((p.subject == d.label) ≡ true) × (behind_tests ≡ next)
+  child_passes e =
+      let all : Passed p denied unfit (is_directory d.kind) (allows site.dom p.subject (ChangeNames d.label)) (allows site.dom p.subject (Child d.label child)) next =
+      all_pass p denied unfit (is_directory d.kind) (allows site.dom p.subject (ChangeNames d.label)) (allows site.dom p.subject (Child d.label child)) next e in
+      (all.directory, all.may_change, all.goes)
 
-  pub name_fails : (why : Refusal) → Some (refusal_of why) ≡ new_refusal site p.subject w.entries d child name → named_in ≡ refuse p why.gate why.status
-  name_fails why e = one_fails p denied unfit (is_directory d.kind) (allows site.dom p.subject (ChangeNames d.label)) (allows site.dom p.subject (Child d.label child)) (entry_at w.entries d.id name) next why e
+  pub child_fails : (why : Refusal) → Some (refusal_of why) ≡ child_refusal site p.subject d child → behind_tests ≡ refuse p why.gate why.status
+  child_fails why e = one_fails p denied unfit (is_directory d.kind) (allows site.dom p.subject (ChangeNames d.label)) (allows site.dom p.subject (Child d.label child)) next why e
 
 -- ---- the directory that is held
 
@@ -151,23 +145,32 @@ module _ (site : Site) (what : What) (name : List ℕ) (given : RawAttrs) (p : P
   child_of : (d : Node) → Holds t d h → child ≡ level_or d.label x.label
   child_of d holds = same ∙ ap (λ (l : ℕ). level_or l x.label) holds.tells.label
 
-  pub name_refused : (why : Refusal) → ((d : Node) → Holds t d h → Some (refusal_of why) ≡ new_refusal site p.subject t.entries d child name) → create site what name given p (with_tree rest t) ≡ refuse p why.gate why.status
-  name_refused why e =
+  -- what is made where the name is not there
+  abbrev new_in : Node → Outcome (Answer Made)
+  new_in d = where_new p (with_tree rest t) d name (makes site what name given p (with_tree rest t) x d)
+
+  pub child_refused : (why : Refusal) → ((d : Node) → Holds t d h → Some (refusal_of why) ≡ child_refusal site p.subject d child) → create site what name given p (with_tree rest t) ≡ refuse p why.gate why.status
+  child_refused why e =
       taken site what name given p (with_tree rest t) x is
       ∙ on_held p rest t (in_directory site what name given p (with_tree rest t) x) h (refuse p why.gate why.status) held (λ d holds.
-      name_fails site p (with_tree rest t) d (level_or d.label x.label) name (makes site what name given p (with_tree rest t) x d) why
-      (e d holds ∙ ap (λ (l : ℕ). new_refusal site p.subject t.entries d l name) (child_of d holds)))
+      child_fails site p d (level_or d.label x.label) (new_in d) why
+      (e d holds ∙ ap (λ (l : ℕ). child_refusal site p.subject d l) (child_of d holds)))
 
-  pub name_taken : (P : Outcome (Answer Made) → Type 0) → ((d : Node) → Holds t d h → None ≡ new_refusal site p.subject t.entries d child name)
+  pub child_taken : (P : Outcome (Answer Made) → Type 0) → ((d : Node) → Holds t d h → None ≡ child_refusal site p.subject d child)
       → ((d : Node) → Holds t d h → is_directory d.kind ≡ true → (p.subject == d.label) ≡ true → is_some (entry_at t.entries d.id name) ≡ false → P (makes site what name given p (with_tree rest t) x d))
+      → ((d : Node) → Holds t d h → is_directory d.kind ≡ true → is_some (entry_at t.entries d.id name) ≡ true → P (refuse p Namespace NFS4ERR_EXIST))
       → P (create site what name given p (with_tree rest t))
-  name_taken P e next =
+  child_taken P e absent present =
       subst P (sym (taken site what name given p (with_tree rest t) x is)) (
       about_held P p rest t (in_directory site what name given p (with_tree rest t) x) h held (λ d holds.
-      let passes : (is_directory d.kind ≡ true) × ((p.subject == d.label) ≡ true) × (is_some (entry_at t.entries d.id name) ≡ false) × (in_directory site what name given p (with_tree rest t) x d ≡ makes site what name given p (with_tree rest t) x d) =
-      name_passes site p (with_tree rest t) d (level_or d.label x.label) name (makes site what name given p (with_tree rest t) x d)
-      (e d holds ∙ ap (λ (l : ℕ). new_refusal site p.subject t.entries d l name) (child_of d holds)) in
-      subst P (sym passes.3) (next d holds passes.0 passes.1 passes.2)))
+      let passes : (is_directory d.kind ≡ true) × ((p.subject == d.label) ≡ true) × (in_directory site what name given p (with_tree rest t) x d ≡ new_in d) =
+      child_passes site p d (level_or d.label x.label) (new_in d)
+      (e d holds ∙ ap (λ (l : ℕ). child_refusal site p.subject d l) (child_of d holds)) in
+      subst P (sym passes.2) (by (entry_at t.entries d.id name) (makes site what name given p (with_tree rest t) x d) (absent d holds passes.0 passes.1) (present d holds passes.0))))
+    where
+      by : (e : Option Entry) (next : Outcome (Answer Made)) → (is_some e ≡ false → P next) → (is_some e ≡ true → P (refuse p Namespace NFS4ERR_EXIST)) → P (where_there e (λ _. refuse p Namespace NFS4ERR_EXIST) next)
+      by None next absent present = absent refl
+      by (Some e) next absent present = present refl
 
   -- no room
   pub no_space : (w : World) (d : Node) (why : Refusal) → has_room site w d ≡ false → refusal_of why ≡ record { gate = Quota; status = NFS4ERR_NOSPC } → makes site what name given p w x d ≡ refuse p why.gate why.status

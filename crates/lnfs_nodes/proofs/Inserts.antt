@@ -78,6 +78,22 @@ module _ (t u : Rows) (dir : Id) (d : Node) (name : List ℕ) (fresh : Fresh) (m
       by true does = done e not_memory does
       by false does = refused e not_spent not_memory does
 
+module _ (t u : Rows) (dir : Id) (d : Node) (name : List ℕ) (fresh : Fresh) (moment : Moment) (at : node_at t.nodes dir ≡ Some d) (directory : is_directory d.kind ≡ true) (present : is_some (entry_at t.entries d.id name) ≡ true) where
+  -- a name that is there is told
+  pub exists : (r : Result (NodeId × Info) TreeError) → answers t u (insert_of t dir name fresh moment) r → answers t u (Err Exist) r
+  exists r does =
+      let next = test (has_number t.lasts fresh.home.0 && has_cookie d) Spent (Ok (tree.made moment name fresh d (next_id t.lasts fresh.home.0))) in
+      let there = subst (λ (x : Option Node). answers t u (in_directory x (λ d. test (not (is_some (entry_at t.entries d.id name))) Exist (test (has_number t.lasts fresh.home.0 && has_cookie d) Spent (Ok (tree.made moment name fresh d (next_id t.lasts fresh.home.0)))))) r) at does in
+      let of_directory = subst (λ (b : Bool). answers t u (test b NotDir (test (not (is_some (entry_at t.entries d.id name))) Exist next)) r) directory there in
+      subst (λ (b : Bool). answers t u (test (not b) Exist next) r) present of_directory
+
+  pub only_exist : (e : TreeError) → (e ≡ Exist → ⊥) → (e ≡ Memory → ⊥) → answers t u (insert_of t dir name fresh moment) (Err e) → ⊥
+  only_exist e not_exist not_memory does = refused e not_exist not_memory (exists (Err e) does)
+    where
+      refused : (e : TreeError) → (e ≡ Exist → ⊥) → (e ≡ Memory → ⊥) → answers t u (Err Exist) (Err e) → ⊥
+      refused Memory not_exist not_memory does = not_memory refl
+      refused e not_exist not_memory does = not_exist does.0
+
 -- ---- room
 
 no_room : (a : Bool) → (a && false) ≡ false

@@ -4,6 +4,7 @@ mod ReadLinks
 mod Views
 mod AttributeSizes
 mod AnsweredLists
+mod SizedTable
 mod Supported
 pub mod Written
 pub mod Refusing

@@ -1,11 +1,11 @@
 -- CREATE behind its arguments: a new name in a directory, and what is made there.
 use Rattle.std.specs.Prelude.{ℕ, if◌then◌else◌, List, Option, Some, None, is_some}
-use Rattle.lnfs_arguments.specs.declared.statuses.TheConstants.{NFS4ERR_NOTDIR, NFS4ERR_EXIST}
+use Rattle.lnfs_arguments.specs.declared.statuses.TheConstants.{NFS4ERR_NOTDIR, NFS4ERR_EXIST, NFS4ERR_NOSPC}
 use Rattle.lnfs_world.specs.World.{Node, Entry, is_directory}
 use Rattle.lnfs_world.specs.Names.{entry_at}
 use Rattle.lnfs_world.specs.Outcome.{Site}
 use Rattle.lnfs_monitor.specs.Rules.{Change, Child}
-use Rattle.lnfs_operations.specs.declared.Gate.TheVariants.{Namespace}
+use Rattle.lnfs_operations.specs.declared.Gate.TheVariants.{Namespace, Quota}
 use Rattle.lnfs_operations.specs.Chain as chain
 use Rattle.lnfs_operations.specs.Create.{Made}
 use Rattle.lnfs_nodes.specs.Trees.{denial}
@@ -20,14 +20,17 @@ abbrev pub first : Option chain.Refusal → Option chain.Refusal → Option chai
 first None second = second
 first (Some why) second = Some why
 
--- what refuses a new name in a directory, of a node with a label
-abbrev pub new_refusal : Site → (subject : ℕ) → List Entry → (directory : Node) → (child : ℕ) → (name : List ℕ) → Option chain.Refusal
-new_refusal site s entries d child name =
+-- what refuses a new name in a directory before its names are looked at, of a node with a label
+abbrev pub child_refusal : Site → (subject : ℕ) → (directory : Node) → (child : ℕ) → Option chain.Refusal
+child_refusal site s d child =
     if is_directory d.kind
-    then first (denial site s (Change d.label)) (
-    first (denial site s (Child d.label child)) (
-    if is_some (entry_at entries d.id name) then Some (namespace NFS4ERR_EXIST) else None))
+    then first (denial site s (Change d.label)) (denial site s (Child d.label child))
     else Some (namespace NFS4ERR_NOTDIR)
+
+-- what refuses a new name in a directory where its level has no room
+abbrev pub full_refusal : List Entry → (directory : Node) → (name : List ℕ) → chain.Refusal
+full_refusal entries d name =
+    if is_some (entry_at entries d.id name) then namespace NFS4ERR_EXIST else record { gate = Quota; status = NFS4ERR_NOSPC }
 
 -- what is told of a new node
 abbrev pub created_of : Created → Made

@@ -15,9 +15,12 @@ use lnfs_types::Moment;
 /// no trace.
 pub fn set_accessed(tree: &mut Tree, subject: Level, moment: Moment, held: &Held)
     ensures { (n : Node) (p : Place) (rest : World) → Holds tree.old n held.now →
-        with_tree rest tree.new ≡ apply_all (accessed (record p { subject = subject.0; moment = moment }) n) (with_tree rest tree.old) }
+        with_tree rest tree.new
+        ≡ apply_all (accessed (record p { subject = subject.0; moment = moment }) n)
+        (with_tree rest tree.old) }
 {
     if subject == held.facts.label {
-        let _stands = tree.touch(held.id, moment);
+        // The node is there, so that there is no error.
+        let _done = tree.touch(held.id, moment);
     }
 }

@@ -69,7 +69,8 @@ pub fn put_list(
     out: &mut XdrWriter,
 ) -> Result<(), AllocError>
     requires { NodeViewFits node.now }
-    ensures ok { OnOk result (out.new ≡ out.old ++ list_text answered.now.mask (view_of node.now) true) }
+    ensures ok { OnOk result (out.new ≡ out.old ++ list_text answered.now.mask (view_of node.now)
+        true) }
     ensures err { OnErr result (Extends out.old out.new) }
 {
     write_attrs(&answered.sized, &node.view, true, out)?;
@@ -84,7 +85,8 @@ pub fn put_answer(
     out: &mut XdrWriter,
 ) -> Result<(), AllocError>
     requires { NodeViewFits node.now }
-    ensures ok { OnOk result (out.new ≡ out.old ++ attrs_text (record { mask = answered.now.mask; list = list_text answered.now.mask (view_of node.now) true })) }
+    ensures ok { OnOk result (out.new ≡ out.old ++ attrs_text
+        (record { mask = answered.now.mask; list = list_text answered.now.mask (view_of node.now) true })) }
     ensures err { OnErr result (Extends out.old out.new) }
 {
     write_bitmap(&answered.mask, out)?;

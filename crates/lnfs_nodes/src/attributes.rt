@@ -35,7 +35,8 @@ pub(crate) fn inner_denied(
     label: Level,
     asked: &Bitmap,
 ) -> Option<Refusal>
-    ensures { option_map refusal_of result ≡ cond (asks_inner asked.now) (denial (site_of site.now) subject.0 (Read label.0)) None }
+    ensures { option_map refusal_of result ≡ cond (asks_inner asked.now)
+        (denial (site_of site.now) subject.0 (Read label.0)) None }
 {
     if asks_inner(asked) {
         denied(site, subject, &Question::Read { label })
@@ -62,7 +63,8 @@ pub fn get_attr(
     ensures { IfOk result (λ answer. (p : Place) (rest : World) →
         let at = record p { subject = viewer.subject.0; current = option_map id_of current } in
         let w = with_tree rest tree.now in
-        Writes out.old out.new results.GetAttr at w w (get_attr (site_of site.now) asked.now at w) answer) }
+        Writes out.old out.new results.GetAttr at w w (get_attr (site_of site.now) asked.now at w)
+        answer) }
 {
     let held = match node_held(tree, current) {
         Ok(held) => held,

@@ -72,7 +72,8 @@ pub fn check_allowed(
 
 /// The node of a name in a directory.
 pub(crate) fn node_named(tree: &Tree, dir: &Held, name: &[u8]) -> Result<Held, Refusal>
-    ensures { (d : Node) → Holds tree.now d dir.now → is_directory d.kind ≡ true → IsHeld tree.now (named tree.now d.id name.now) result }
+    ensures { (d : Node) → Holds tree.now d dir.now → is_directory d.kind ≡ true →
+        IsHeld tree.now (named tree.now d.id name.now) result }
 {
     let Ok(id) = tree.lookup(dir.id, name) else {
         return Err(namespace(NFS4ERR_NOENT));

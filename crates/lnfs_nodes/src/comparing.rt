@@ -14,7 +14,7 @@ ghost use Rattle.lnfs_nodes.specs.Comparing.{given_refusal, where_compared};
 use crate::answers::put_list;
 use crate::attributes::inner_denied;
 use crate::held::{namespace, node_held};
-use crate::masks::{answered_to, is_whole};
+use crate::masks::{answered_to, law_whole};
 use crate::showing::{Viewer, shown};
 use lnfs_arguments::statuses::{
     NFS4_OK, NFS4ERR_ATTRNOTSUPP, NFS4ERR_INVAL, NFS4ERR_NOT_SAME, NFS4ERR_SAME,
@@ -31,7 +31,7 @@ use std::alloc::{AllocError, Global};
 fn is_supported(mask: &Bitmap) -> bool
     ensures { result ≡ is_supported mask.now }
 {
-    is_whole(*mask);
+    law_whole(*mask);
     supported(mask)
 }
 
@@ -65,9 +65,11 @@ fn is_same(
     given: &RawAttrs,
 ) -> Result<Result<bool, Refusal>, AllocError>
     requires used { viewer.used ≡ bytes_used tree.now.nodes viewer.subject.0 }
-    ensures { IfOk result (λ answer. (p : Place) (rest : World) (same : Bool → Outcome (Answer (Unit {0}))) →
+    ensures { IfOk result (λ answer. (p : Place) (rest : World) (same : Bool →
+        Outcome (Answer (Unit {0}))) →
         let at = record p { subject = viewer.subject.0; current = option_map id_of current } in
-        compared (site_of site.now) given.now at (with_tree rest tree.now) same ≡ where_compared at same answer) }
+        compared (site_of site.now) given.now at (with_tree rest tree.now) same
+        ≡ where_compared at same answer) }
 {
     if let Some(why) = given_refused(given) {
         return Ok(Err(why));
@@ -102,7 +104,8 @@ pub fn verify(
     requires used { viewer.used ≡ bytes_used tree.now.nodes viewer.subject.0 }
     ensures { IfOk result (λ answer. (p : Place) (rest : World) →
         let at = record p { subject = viewer.subject.0; current = option_map id_of current } in
-        verify (site_of site.now) given.now at (with_tree rest tree.now) ≡ stays at (answered (λ it. it) answer)) }
+        verify (site_of site.now) given.now at (with_tree rest tree.now)
+        ≡ stays at (answered (λ it. it) answer)) }
 {
     let same = match is_same(alloc, site, tree, viewer, current, given)? {
         Ok(same) => same,
@@ -130,7 +133,8 @@ pub fn nverify(
     requires used { viewer.used ≡ bytes_used tree.now.nodes viewer.subject.0 }
     ensures { IfOk result (λ answer. (p : Place) (rest : World) →
         let at = record p { subject = viewer.subject.0; current = option_map id_of current } in
-        nverify (site_of site.now) given.now at (with_tree rest tree.now) ≡ stays at (answered (λ it. it) answer)) }
+        nverify (site_of site.now) given.now at (with_tree rest tree.now)
+        ≡ stays at (answered (λ it. it) answer)) }
 {
     let same = match is_same(alloc, site, tree, viewer, current, given)? {
         Ok(same) => same,

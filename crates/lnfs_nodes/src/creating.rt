@@ -1,7 +1,7 @@
 //! CREATE (RFC 8881 section 18.4).
-ghost use Rattle.std.specs.Prelude.{◌≡◌, None, Some, IfOk, OnErr, nat_lt};
+ghost use Rattle.std.specs.Prelude.{◌≡◌, true, None, Some, IfOk, OnErr, nat_lt};
 ghost use Rattle.std.specs.Option.{option_map};
-ghost use Rattle.lnfs_world.specs.World.{Node, World};
+ghost use Rattle.lnfs_world.specs.World.{Node, World, is_directory};
 ghost use Rattle.lnfs_world.specs.Facts.{NodeFacts};
 ghost use Rattle.lnfs_world.specs.Usage.{nodes_used};
 ghost use Rattle.lnfs_world.specs.Effects.{next_id};
@@ -12,13 +12,13 @@ ghost use Rattle.lnfs_operations.specs.declared.Gate.TheVariants.{Quota};
 ghost use Rattle.lnfs_operations.specs.Given.{level_or, kept_label};
 ghost use Rattle.lnfs_operations.specs.Shown.{label_shown};
 ghost use Rattle.lnfs_operations.specs.Create as operation;
-ghost use Rattle.lnfs_tree.specs.Rows.{id_of, kind_of};
+ghost use Rattle.lnfs_tree.specs.Rows.{Rows, id_of, kind_of};
 ghost use Rattle.lnfs_world.specs.Given.{stored_of};
 ghost use Rattle.lnfs_tree.specs.Changed as tree_changed;
 ghost use Rattle.lnfs_nodes.specs.Trees.{with_tree, Holds, refusal_of};
 ghost use Rattle.lnfs_nodes.specs.Acts.{ActsTo, placed};
 ghost use Rattle.lnfs_nodes.specs.GivenValues.{given_of};
-ghost use Rattle.lnfs_nodes.specs.Creating.{new_refusal, created_of};
+ghost use Rattle.lnfs_nodes.specs.Creating.{child_refusal, full_refusal, created_of};
 
 use crate::calls::Caller;
 use crate::given::{Asked, GivenLabel, read_asked, set_of};
@@ -104,7 +104,8 @@ pub fn kept_label(
     given: Option<GivenLabel>,
 ) -> Result<Option<Stored>, AllocError>
     ensures { IfOk result (λ kept. (d : Node) (p : Place) → Holds tree.now d dir.now →
-        option_map stored_of kept ≡ kept_label (site_of site.now) (record p { subject = subject.0 }) d (option_map given_of given)) }
+        option_map stored_of kept ≡ kept_label (site_of site.now) (record p { subject = subject.0 })
+        d (option_map given_of given)) }
 {
     if !site.is_limited() {
         return Ok(None);
@@ -143,17 +144,10 @@ fn text_of(alloc: Global, what: &What) -> Result<Octets, AllocError>
     }
 }
 
-/// What refuses a new name in a directory, of a node with a label.
-pub(crate) fn name_refused(
-    site: &Site<'_>,
-    tree: &Tree,
-    subject: Level,
-    dir: &Held,
-    child: Level,
-    name: &[u8],
-) -> Option<Refusal>
-    ensures { (d : Node) → Holds tree.now d dir.now →
-        option_map refusal_of result ≡ new_refusal (site_of site.now) subject.0 tree.now.entries d child.0 name.now }
+/// What refuses a new name in a directory before the directory's names are looked at, of a node with a label.
+fn child_refused(site: &Site<'_>, subject: Level, dir: &Held, child: Level) -> Option<Refusal>
+    ensures { (t : Rows) (d : Node) → Holds t d dir.now →
+        option_map refusal_of result ≡ child_refusal (site_of site.now) subject.0 d child.0 }
 {
     if !dir.facts.kind.is_dir() {
         return Some(namespace(NFS4ERR_NOTDIR));
@@ -162,12 +156,17 @@ pub(crate) fn name_refused(
     if let Some(why) = denied(site, subject, &Question::Change { dir: label }) {
         return Some(why);
     }
-    if let Some(why) = denied(site, subject, &Question::Child { dir: label, child }) {
-        return Some(why);
-    }
+    denied(site, subject, &Question::Child { dir: label, child })
+}
+
+/// What refuses a new name in a directory where its level has no room.
+fn full(tree: &Tree, dir: &Held, name: &[u8]) -> Refusal
+    ensures { (d : Node) → Holds tree.now d dir.now → is_directory d.kind ≡ true →
+        refusal_of result ≡ full_refusal tree.now.entries d name.now }
+{
     match tree.lookup(dir.id, name) {
-        Ok(_) => Some(namespace(NFS4ERR_EXIST)),
-        Err(_) => None,
+        Ok(_) => namespace(NFS4ERR_EXIST),
+        Err(_) => no_space(),
     }
 }
 
@@ -182,9 +181,11 @@ fn fresh(
     asked: Asked,
 ) -> Result<Fresh, AllocError>
     ensures home { IfOk result (λ fresh. fresh.home ≡ dir.now.facts.label) }
-    ensures node { IfOk result (λ fresh. (d : Node) (p : Place) (w : World) → Holds tree.now d dir.now →
+    ensures node { IfOk result (λ fresh. (d : Node) (p : Place) (w : World) →
+        Holds tree.now d dir.now →
         tree_changed.new_node p.moment fresh (next_id w.lasts.nodes d.label)
-        ≡ operation.new_node (site_of site.now) (record p { subject = subject.0 }) w what.now asked.mode (option_map given_of asked.label) d) }
+        ≡ operation.new_node (site_of site.now) (record p { subject = subject.0 }) w what.now
+        asked.mode (option_map given_of asked.label) d) }
 {
     let Asked { mode, label: given } = asked;
     let home = dir.facts.label;
@@ -224,11 +225,15 @@ pub fn create(
     name: &[u8],
     given: &RawAttrs,
 ) -> Result<Result<Created, Refusal>, AllocError>
-    requires facts { NodeFacts (site_of site.now).dom tree.old.nodes tree.old.entries tree.old.lasts }
-    requires room { room ≡ nat_lt (nodes_used tree.old.nodes caller.now.subject.0) ((site_of site.now).nodes caller.now.subject.0) }
+    requires facts { NodeFacts (site_of site.now).dom tree.old.nodes tree.old.entries
+        tree.old.lasts }
+    requires room { room ≡ nat_lt (nodes_used tree.old.nodes caller.now.subject.0)
+        ((site_of site.now).nodes caller.now.subject.0) }
     ensures acts { IfOk result (λ told. (p : Place) (rest : World) →
-        ActsTo created_of (λ c. record (placed p caller.now) { current = Some (id_of c.node) }) (placed p caller.now) rest tree.old tree.new
-        (operation.create (site_of site.now) what.now name.now given.now (placed p caller.now) (with_tree rest tree.old)) told) }
+        ActsTo created_of (λ c. record (placed p caller.now) { current = Some (id_of c.node) })
+        (placed p caller.now) rest tree.old tree.new
+        (operation.create (site_of site.now) what.now name.now given.now (placed p caller.now)
+        (with_tree rest tree.old)) told) }
     ensures kept { OnErr result (tree.new ≡ tree.old) }
 {
     let asked = match read_asked(alloc, site, what, name, given)? {
@@ -240,11 +245,11 @@ pub fn create(
         Err(why) => return Ok(Err(why)),
     };
     let child = level_or(dir.facts.label, &asked.label);
-    if let Some(why) = name_refused(site, tree, caller.subject, &dir, child, name) {
+    if let Some(why) = child_refused(site, caller.subject, &dir, child) {
         return Ok(Err(why));
     }
     if !room {
-        return Ok(Err(no_space()));
+        return Ok(Err(full(tree, &dir, name)));
     }
     let fresh = fresh(alloc, site, tree, caller.subject, &dir, what, asked)?;
     match tree.insert(alloc, dir.id, name, fresh, caller.moment) {
@@ -254,9 +259,10 @@ pub fn create(
             set: set_of(given),
         })),
         Err(error) => match error {
+            TreeError::Exist => Ok(Err(namespace(NFS4ERR_EXIST))),
             TreeError::Spent => Ok(Err(no_space())),
             TreeError::Memory => Err(AllocError),
-            // The directory is there and hasn't the name.
+            // The directory is there.
             _ => unreachable!(),
         },
     }

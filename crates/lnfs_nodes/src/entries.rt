@@ -98,8 +98,11 @@ fn node_seen<'a>(
 ) -> Result<Option<Seen<'a>>, AllocError>
     requires used { lister.now.viewer.used ≡ bytes_used tree.now.nodes lister.now.viewer.subject.0 }
     ensures shown { IfOk result (λ seen. (p : Place) (rest : World) (e : world.Entry) →
-        shown_entry (site_of lister.now.site.now) (record p { subject = lister.now.viewer.subject.0 }) (with_tree rest tree.now) lister.now.asking.asked.now e (node_at tree.now.nodes (id_of node))
-        ≡ option_map (λ s. entry_as lister.now.asking.asked.now e.cookie e.name s.inner (view_of s.view)) seen) }
+        shown_entry (site_of lister.now.site.now) (record p
+        { subject = lister.now.viewer.subject.0 }) (with_tree rest tree.now)
+        lister.now.asking.asked.now e (node_at tree.now.nodes (id_of node))
+        ≡ option_map (λ s. entry_as lister.now.asking.asked.now e.cookie e.name s.inner
+        (view_of s.view)) seen) }
     ensures fits { IfOk result (λ seen. IfSome seen (λ s. NodeViewFits s.view)) }
 {
     let Some(facts) = tree.node(node) else {
@@ -124,7 +127,9 @@ fn put_seen(
     out: &mut XdrWriter,
 ) -> Result<(), AllocError>
     requires { NodeViewFits seen.now.view }
-    ensures { OnOk result (out.new ≡ out.old ++ entry_written (entry_as lister.now.asking.asked.now entry.now.cookie entry.now.name seen.now.inner (view_of seen.now.view))) }
+    ensures { OnOk result (out.new ≡ out.old ++ entry_written
+        (entry_as lister.now.asking.asked.now entry.now.cookie entry.now.name seen.now.inner
+        (view_of seen.now.view))) }
 {
     // A name whose length no word holds doesn't stand in memory either.
     if u32::try_from(entry.name.len()).is_err() {
@@ -147,7 +152,9 @@ fn put_entry(
     requires used { lister.now.viewer.used ≡ bytes_used tree.now.nodes lister.now.viewer.subject.0 }
     ensures entered { IfOk result (λ entered. (p : Place) (rest : World) (directory : Id) →
         let e = row_of_entry directory entry.now in
-        Enters out.old out.new room (shown_entry (site_of lister.now.site.now) (record p { subject = lister.now.viewer.subject.0 }) (with_tree rest tree.now) lister.now.asking.asked.now e (node_at tree.now.nodes e.node)) entered) }
+        Enters out.old out.new room (shown_entry (site_of lister.now.site.now)
+        (record p { subject = lister.now.viewer.subject.0 }) (with_tree rest tree.now)
+        lister.now.asking.asked.now e (node_at tree.now.nodes e.node)) entered) }
     ensures grows { IfOk result (λ entered. Grows out.old out.new room entered) }
     ensures extends { IfOk result (λ entered. Extends out.old out.new) }
 {
@@ -166,8 +173,12 @@ fn put_entry(
 
 /// The first entry of a directory behind a cookie.
 fn entry_above(tree: &Tree, dir: NodeId, cookie: u64) -> Option<&Entry>
-    ensures entry { IsListable tree.now (id_of dir) → option_map (λ e. row_of_entry (id_of dir) e.now) result ≡ entry_above tree.now.entries (id_of dir) cookie }
-    ensures fewer { IfSome result (λ e. length (entries_above tree.now.entries (id_of dir) e.now.cookie) < length (entries_above tree.now.entries (id_of dir) cookie)) }
+    ensures entry { IsListable tree.now (id_of dir) →
+        option_map (λ e. row_of_entry (id_of dir) e.now) result
+        ≡ entry_above tree.now.entries (id_of dir) cookie }
+    ensures fewer { IfSome result (λ e.
+        length (entries_above tree.now.entries (id_of dir) e.now.cookie)
+        < length (entries_above tree.now.entries (id_of dir) cookie)) }
 {
     match tree.next_entry(dir, cookie) {
         Ok(entry) => entry,
@@ -189,8 +200,11 @@ pub fn put_entries(
     out: &mut XdrWriter,
 ) -> Result<Walked, AllocError>
     requires used { lister.now.viewer.used ≡ bytes_used tree.now.nodes lister.now.viewer.subject.0 }
-    ensures walked { IfOk result (λ walked. (p : Place) (rest : World) → IsListable tree.now (id_of dir) →
-        Walks out.old out.new (listed_in (site_of lister.now.site.now) (record p { subject = lister.now.viewer.subject.0 }) (with_tree rest tree.now) lister.now.asking.asked.now (id_of dir) cookie room) walked) }
+    ensures walked { IfOk result (λ walked. (p : Place) (rest : World) →
+        IsListable tree.now (id_of dir) →
+        Walks out.old out.new (listed_in (site_of lister.now.site.now)
+        (record p { subject = lister.now.viewer.subject.0 }) (with_tree rest tree.now)
+        lister.now.asking.asked.now (id_of dir) cookie room) walked) }
     ensures extends { IfOk result (λ walked. Extends out.old out.new) }
 {
     let begin = out.mark();

@@ -9,7 +9,7 @@ ghost use Rattle.lnfs_operations.specs.Given.{is_mode, set_of};
 ghost use Rattle.lnfs_nodes.specs.Trees.{refusal_of};
 ghost use Rattle.lnfs_nodes.specs.GivenValues.{values_in, label_in, given_of, wanted_in, wanted_of, text_refusal, asked_in, asked_of};
 
-use crate::masks::is_whole;
+use crate::masks::law_whole;
 use crate::naming::name_refusal;
 use lnfs_arguments::What;
 use lnfs_arguments::statuses::{
@@ -60,12 +60,12 @@ pub fn argument(status: u32) -> Refusal
 pub fn set_of(given: &RawAttrs) -> Bitmap
     ensures { result ≡ set_of given.now }
 {
-    is_whole(given.mask);
+    law_whole(given.mask);
     given.mask
 }
 
 /// A byte is below 256.
-fn are_bytes(_bytes: &[u8])
+fn law_bytes(_bytes: &[u8])
     ensures { (i : ℕ) → get_or _bytes.now i 0 < 256 }
 {}
 
@@ -76,10 +76,11 @@ fn are_bytes(_bytes: &[u8])
 ///
 /// `AllocError` where there is no memory.
 pub fn values_of(alloc: Global, given: &RawAttrs) -> Result<Result<AttrSet, Refusal>, AllocError>
-    ensures { IfOk result (λ told. result_map_both (λ values. values) refusal_of told ≡ values_in given.now) }
+    ensures { IfOk result (λ told. result_map_both (λ values. values) refusal_of told
+        ≡ values_in given.now) }
 {
-    is_whole(given.mask);
-    are_bytes(given.list.as_slice());
+    law_whole(given.mask);
+    law_bytes(given.list.as_slice());
     match read_settable(alloc, given) {
         Ok(values) => Ok(Ok(values)),
         Err(AttrError::AttrNotSupp) => Ok(Err(argument(NFS4ERR_ATTRNOTSUPP))),
@@ -105,7 +106,8 @@ pub fn is_mode(mode: Option<u32>) -> bool
 ///
 /// NFS4ERR_WRONG_LFS where there is no such format, and NFS4ERR_BADLABEL where it is the label of no level.
 pub fn label_of(site: &Site<'_>, label: Option<LabelValue>) -> Result<Option<GivenLabel>, Refusal>
-    ensures { result_map_both (option_map given_of) refusal_of result ≡ label_in (site_of site.now) label }
+    ensures { result_map_both (option_map given_of) refusal_of result
+        ≡ label_in (site_of site.now) label }
 {
     let Some(value) = label else {
         return Ok(None);
@@ -135,7 +137,8 @@ pub fn read_wanted(
     site: &Site<'_>,
     given: &RawAttrs,
 ) -> Result<Result<Wanted, Refusal>, AllocError>
-    ensures { IfOk result (λ told. result_map_both wanted_of refusal_of told ≡ wanted_in (site_of site.now) given.now) }
+    ensures { IfOk result (λ told. result_map_both wanted_of refusal_of told
+        ≡ wanted_in (site_of site.now) given.now) }
 {
     let values = match values_of(alloc, given)? {
         Ok(values) => values,
@@ -186,7 +189,8 @@ pub fn read_asked(
     name: &[u8],
     given: &RawAttrs,
 ) -> Result<Result<Asked, Refusal>, AllocError>
-    ensures { IfOk result (λ told. result_map_both asked_of refusal_of told ≡ asked_in (site_of site.now) what.now name.now given.now) }
+    ensures { IfOk result (λ told. result_map_both asked_of refusal_of told
+        ≡ asked_in (site_of site.now) what.now name.now given.now) }
 {
     if let Some(status) = name_refusal(name) {
         return Ok(Err(argument(status)));

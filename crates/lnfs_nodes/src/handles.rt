@@ -33,7 +33,9 @@ pub fn handle_of(id: NodeId) -> [u8; HANDLE_SIZE]
 /// The node that a file handle names; None where it is no handle: twelve bytes of which the home is one of the site's
 /// levels, and the number one that a level can give.
 fn named(site: &Site<'_>, handle: &[u8]) -> Option<NodeId>
-    ensures { option_map id_of result ≡ (if is_handle (site_of site.now) handle.now then Some (handle_named handle.now) else None) }
+    ensures { option_map id_of result
+        ≡ (if is_handle (site_of site.now) handle.now then Some (handle_named handle.now) else
+        None) }
 {
     let bytes = <&[u8; HANDLE_SIZE]>::try_from(handle).ok()?;
     let home = u32::from_be_bytes([bytes[0], bytes[1], bytes[2], bytes[3]]);

@@ -57,7 +57,8 @@ fn denied_with(rule: Rule) -> u32
 
 /// What the rules of labels refuse of a question.
 pub fn denied(site: &Site<'_>, subject: Level, question: &Question<'_>) -> Option<Refusal>
-    ensures { option_map refusal_of result ≡ denial (site_of site.now) subject.0 (asked question.now) }
+    ensures { option_map refusal_of result ≡ denial (site_of site.now) subject.0
+        (asked question.now) }
 {
     match site.judge(subject, question) {
         Verdict::Allow => None,

@@ -37,7 +37,7 @@ pub use linking::link;
 pub use links::read_link;
 pub use listing::{Listing, read_dir};
 pub use lookups::{lookup, lookup_parent};
-pub use masks::is_whole;
+pub use masks::law_whole;
 pub use removing::{gone_bytes, remove};
 pub use renaming::rename;
 pub use rights::{AccessBits, access};

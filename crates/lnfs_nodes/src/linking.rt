@@ -31,7 +31,9 @@ struct Ends {
 fn check_link(site: &Site<'_>, tree: &Tree, caller: &Caller, name: &[u8]) -> Result<Ends, Refusal>
     ensures { (p : Place) (rest : World) →
         let at = placed p caller.now in
-        operation.link (site_of site.now) name.now at (with_tree rest tree.now) ≡ checked at result (λ ends. follows (λ a. cinfo_of a) at (link_of tree.now (id_of ends.node) (id_of ends.dir) name.now caller.now.moment)) }
+        operation.link (site_of site.now) name.now at (with_tree rest tree.now)
+        ≡ checked at result (λ ends. follows (λ a. cinfo_of a) at
+        (link_of tree.now (id_of ends.node) (id_of ends.dir) name.now caller.now.moment)) }
 {
     check_name(name)?;
     let node = node_held(tree, caller.saved)?;
@@ -69,10 +71,12 @@ pub fn link(
     caller: &Caller,
     name: &[u8],
 ) -> Result<Result<Info, Refusal>, AllocError>
-    requires facts { NodeFacts (site_of site.now).dom tree.old.nodes tree.old.entries tree.old.lasts }
+    requires facts { NodeFacts (site_of site.now).dom tree.old.nodes tree.old.entries
+        tree.old.lasts }
     ensures acts { IfOk result (λ answer. (p : Place) (rest : World) →
         let at = placed p caller.now in
-        Acts (λ r. cinfo_of r) at rest tree.old tree.new (operation.link (site_of site.now) name.now at (with_tree rest tree.old)) answer) }
+        Acts (λ r. cinfo_of r) at rest tree.old tree.new
+        (operation.link (site_of site.now) name.now at (with_tree rest tree.old)) answer) }
     ensures memory { OnErr result (tree.new ≡ tree.old) }
 {
     let ends = match check_link(site, tree, caller, name) {

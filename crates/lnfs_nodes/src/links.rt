@@ -56,7 +56,9 @@ pub fn read_link(
 ) -> Result<Result<(), Refusal>, AllocError>
     ensures writes { IfOk result (λ answer. (p : Place) (rest : World) →
         let at = record p { subject = subject.0; moment = moment; current = option_map id_of current } in
-        Writes out.old out.new (λ text. results.ReadLink text) at (with_tree rest tree.old) (with_tree rest tree.new) (operation.read_link (site_of site.now) at (with_tree rest tree.old)) answer) }
+        Writes out.old out.new (λ text. results.ReadLink text) at (with_tree rest tree.old)
+        (with_tree rest tree.new) (operation.read_link (site_of site.now) at
+        (with_tree rest tree.old)) answer) }
     ensures kept { OnErr result (tree.new ≡ tree.old) }
 {
     let link = match node_held(tree, current) {

@@ -89,10 +89,13 @@ fn put_listing(
     out: &mut XdrWriter,
 ) -> Result<Result<(), Refusal>, AllocError>
     requires used { lister.now.viewer.used ≡ bytes_used tree.now.nodes lister.now.viewer.subject.0 }
-    ensures lists { IfOk result (λ answer. (p : Place) (rest : World) (d : Node) → IsListable tree.now (id_of dir) →
+    ensures lists { IfOk result (λ answer. (p : Place) (rest : World) (d : Node) →
+        IsListable tree.now (id_of dir) →
         let at = record p { subject = lister.now.viewer.subject.0 } in
-        let found = listed_in (site_of lister.now.site.now) at (with_tree rest tree.now) lister.now.asking.asked.now (id_of dir) cookie (size - EMPTY_LISTING) in
-        Lists out.old out.new (finished (site_of lister.now.site.now) at d size found).answer answer) }
+        let found = listed_in (site_of lister.now.site.now) at (with_tree rest tree.now)
+        lister.now.asking.asked.now (id_of dir) cookie (size - EMPTY_LISTING) in
+        Lists out.old out.new (finished (site_of lister.now.site.now) at d size found).answer
+        answer) }
     ensures extends { IfOk result (λ answer. Extends out.old out.new) }
 {
     put_head(out)?;
@@ -129,10 +132,13 @@ pub fn read_dir(
     out: &mut XdrWriter,
 ) -> Result<Result<(), Refusal>, AllocError>
     requires used { viewer.used ≡ bytes_used tree.old.nodes viewer.subject.0 }
-    ensures writes { IfOk result (λ answer. (p : Place) (rest : World) → Rising entry_order tree.old.entries →
+    ensures writes { IfOk result (λ answer. (p : Place) (rest : World) →
+        Rising entry_order tree.old.entries →
         let at = record p { subject = viewer.subject.0; moment = moment; current = option_map id_of current } in
-        let arguments : operation.Arguments = record { cookie = args.now.cookie; maxcount = args.now.maxcount; asked = args.now.asked.now } in
-        Writes out.old out.new listing_result at (with_tree rest tree.old) (with_tree rest tree.new) (operation.read_dir (site_of site.now) arguments at (with_tree rest tree.old)) answer) }
+        let arguments : operation.Arguments = record
+        { cookie = args.now.cookie; maxcount = args.now.maxcount; asked = args.now.asked.now } in
+        Writes out.old out.new listing_result at (with_tree rest tree.old) (with_tree rest tree.new)
+        (operation.read_dir (site_of site.now) arguments at (with_tree rest tree.old)) answer) }
     ensures kept { OnErr result (tree.new ≡ tree.old) }
 {
     let dir = match node_held(tree, current) {

@@ -28,7 +28,9 @@ fn check_remove(
 ) -> Result<NodeId, Refusal>
     ensures checked { (p : Place) (rest : World) →
         let at = placed p caller.now in
-        operation.remove (site_of site.now) name.now at (with_tree rest tree.now) ≡ checked at result (λ dir. follows (λ a. cinfo_of a.0) at (remove_of tree.now (id_of dir) name.now caller.now.moment)) }
+        operation.remove (site_of site.now) name.now at (with_tree rest tree.now)
+        ≡ checked at result (λ dir. follows (λ a. cinfo_of a.0) at
+        (remove_of tree.now (id_of dir) name.now caller.now.moment)) }
     ensures dir { IfOk result (λ dir. option_map id_of caller.now.current ≡ Some (id_of dir)) }
 {
     check_name(name)?;
@@ -57,11 +59,15 @@ pub fn remove(
     caller: &Caller,
     name: &[u8],
 ) -> Result<(Info, Option<Dropped>), Refusal>
-    requires facts { NodeFacts (site_of site.now).dom tree.old.nodes tree.old.entries tree.old.lasts }
+    requires facts { NodeFacts (site_of site.now).dom tree.old.nodes tree.old.entries
+        tree.old.lasts }
     ensures acts { (p : Place) (rest : World) →
         let at = placed p caller.now in
-        ActsLeaving (λ r. cinfo_of r.0) (λ r. at) (λ r. without_opens (option_map gone_of r.1)) at rest tree.old tree.new (operation.remove (site_of site.now) name.now at (with_tree rest tree.old)) result }
-    ensures gone { IfOk result (λ r. option_map gone_of r.1 ≡ gone_from tree.old (option_map id_of caller.now.current) name.now) }
+        ActsLeaving (λ r. cinfo_of r.0) (λ r. at) (λ r. without_opens (option_map gone_of r.1)) at
+        rest tree.old tree.new (operation.remove (site_of site.now) name.now at
+        (with_tree rest tree.old)) result }
+    ensures gone { IfOk result (λ r. option_map gone_of r.1
+        ≡ gone_from tree.old (option_map id_of caller.now.current) name.now) }
 {
     let dir = check_remove(site, tree, caller, name)?;
     match tree.remove(dir, name, caller.moment) {

@@ -34,10 +34,14 @@ struct Ends {
 
 /// Both directories, where the subject may change the names of each.
 fn check_ends(site: &Site<'_>, tree: &Tree, caller: &Caller) -> Result<Ends, Refusal>
-    ensures refused { IfErr result (λ why. (p : Place) (rest : World) (next : Node → Node → Outcome (Answer operation.Renamed)) →
+    ensures refused { IfErr result (λ why. (p : Place) (rest : World) (next : Node → Node →
+        Outcome (Answer operation.Renamed)) →
         let at = placed p caller.now in
-        with_ends (site_of site.now) at (with_tree rest tree.now) next ≡ refuse at why.gate why.status) }
-    ensures ends { IfOk result (λ ends. AreEnds (site_of site.now) caller.now.subject.0 tree.now (option_map id_of caller.now.saved) (option_map id_of caller.now.current) ends.from ends.to) }
+        with_ends (site_of site.now) at (with_tree rest tree.now) next
+        ≡ refuse at why.gate why.status) }
+    ensures ends { IfOk result (λ ends. AreEnds (site_of site.now) caller.now.subject.0 tree.now
+        (option_map id_of caller.now.saved) (option_map id_of caller.now.current) ends.from
+        ends.to) }
 {
     let from = node_held(tree, caller.saved)?;
     let to = node_held(tree, caller.current)?;
@@ -60,7 +64,8 @@ fn check_other(
     new: &[u8],
 ) -> Result<(), Refusal>
     ensures { (d : Node) → Holds tree.now d to.now → is_directory d.kind ≡ true →
-        failed result ≡ giving_way (site_of site.now) subject.0 tree.now.nodes (id_of mover) (entry_at tree.now.entries d.id new.now) }
+        failed result ≡ giving_way (site_of site.now) subject.0 tree.now.nodes (id_of mover)
+        (entry_at tree.now.entries d.id new.now) }
 {
     let Ok(other) = tree.lookup(to.id, new) else {
         return Ok(());
@@ -83,14 +88,20 @@ fn check_rename(
     old: &[u8],
     new: &[u8],
 ) -> Result<Ends, Refusal>
-    requires facts { NodeFacts (site_of site.now).dom tree.now.nodes tree.now.entries tree.now.lasts }
+    requires facts { NodeFacts (site_of site.now).dom tree.now.nodes tree.now.entries
+        tree.now.lasts }
     ensures checked { (p : Place) (rest : World) →
         let at = placed p caller.now in
-        operation.rename (site_of site.now) old.now new.now at (with_tree rest tree.now) ≡ checked at result (λ ends. follows (λ a. renamed_of a.0 a.1) at (rename_of tree.now (id_of ends.from.id) old.now (id_of ends.to.id) new.now caller.now.moment)) }
-    ensures from { IfOk result (λ ends. option_map id_of caller.now.saved ≡ Some (id_of ends.from.id)) }
-    ensures to { IfOk result (λ ends. option_map id_of caller.now.current ≡ Some (id_of ends.to.id)) }
+        operation.rename (site_of site.now) old.now new.now at (with_tree rest tree.now)
+        ≡ checked at result (λ ends. follows (λ a. renamed_of a.0 a.1) at
+        (rename_of tree.now (id_of ends.from.id) old.now (id_of ends.to.id) new.now
+        caller.now.moment)) }
+    ensures from { IfOk result (λ ends. option_map id_of caller.now.saved
+        ≡ Some (id_of ends.from.id)) }
+    ensures to { IfOk result (λ ends. option_map id_of caller.now.current
+        ≡ Some (id_of ends.to.id)) }
 {
-    site.policy().is_preordered();
+    site.policy().law_preorder();
     check_name(old)?;
     check_name(new)?;
     let ends = check_ends(site, tree, caller)?;
@@ -120,11 +131,17 @@ pub fn rename(
     old: &[u8],
     new: &[u8],
 ) -> Result<Result<(Info, Info, Option<Dropped>), Refusal>, AllocError>
-    requires facts { NodeFacts (site_of site.now).dom tree.old.nodes tree.old.entries tree.old.lasts }
+    requires facts { NodeFacts (site_of site.now).dom tree.old.nodes tree.old.entries
+        tree.old.lasts }
     ensures acts { IfOk result (λ answer. (p : Place) (rest : World) →
         let at = placed p caller.now in
-        ActsLeaving (λ r. renamed_of r.0 r.1) (λ r. at) (λ r. without_opens (option_map gone_of r.2)) at rest tree.old tree.new (operation.rename (site_of site.now) old.now new.now at (with_tree rest tree.old)) answer) }
-    ensures gone { IfOk result (λ answer. IfOk answer (λ r. option_map gone_of r.2 ≡ gone_past tree.old (option_map id_of caller.now.saved) old.now (option_map id_of caller.now.current) new.now)) }
+        ActsLeaving (λ r. renamed_of r.0 r.1) (λ r. at) (λ r.
+        without_opens (option_map gone_of r.2)) at rest tree.old tree.new
+        (operation.rename (site_of site.now) old.now new.now at (with_tree rest tree.old))
+        answer) }
+    ensures gone { IfOk result (λ answer. IfOk answer (λ r. option_map gone_of r.2
+        ≡ gone_past tree.old (option_map id_of caller.now.saved) old.now
+        (option_map id_of caller.now.current) new.now)) }
     ensures memory { OnErr result (tree.new ≡ tree.old) }
 {
     let ends = match check_rename(site, tree, caller, old, new) {

@@ -50,7 +50,8 @@ pub fn access(
 ) -> Result<AccessBits, Refusal>
     ensures { (p : Place) (rest : World) →
         let at = record p { subject = subject.0; current = option_map id_of current } in
-        operation.access (site_of site.now) bits at (with_tree rest tree.now) ≡ stays at (answered granted_of result) }
+        operation.access (site_of site.now) bits at (with_tree rest tree.now)
+        ≡ stays at (answered granted_of result) }
 {
     let held = node_held(tree, current)?;
     let label = held.facts.label;

@@ -116,8 +116,10 @@ pub fn shown<'a>(
     error: u32,
 ) -> Result<NodeView<'a>, AllocError>
     requires used { viewer.used ≡ bytes_used tree.now.nodes viewer.subject.0 }
-    ensures view { IfOk result (λ view. (n : Node) (p : Place) (rest : World) → Holds tree.now n held.now →
-        view_of view ≡ shown (site_of site.now) (record p { subject = viewer.subject.0 }) (with_tree rest tree.now) n error) }
+    ensures view { IfOk result (λ view. (n : Node) (p : Place) (rest : World) →
+        Holds tree.now n held.now →
+        view_of view ≡ shown (site_of site.now) (record p { subject = viewer.subject.0 })
+        (with_tree rest tree.now) n error) }
     ensures fits { IfOk result NodeViewFits }
 {
     let Viewer { subject, used } = viewer;

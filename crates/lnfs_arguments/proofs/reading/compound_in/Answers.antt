@@ -25,6 +25,6 @@ returns g c =
     rw c.new-2.ensures (e ∙ elim c.else-not-is_cut.branch [
       | else-not-is_cut-via-then-not-is_cut+else-not-is_empty w ↦
           let empty = sym w.is_empty.ensures ∙ w.if-not-is_empty.false in
-          is_whole _ _ _ (rw w.rest.ensures at empty)
+          is_whole _ _ _ (rw w.rest-then-not-is_cut.ensures at empty)
       | else-not-is_cut-via-else-not-is_cut w ↦ is_cut_short _ _ _ w.if-not-is_cut.false
     ])

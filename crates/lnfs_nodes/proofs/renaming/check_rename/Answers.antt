@@ -37,7 +37,7 @@ returns c = record {
   checked = λ p rest.
       rename_checked (site_of c.args.site.now) (placed p c.args.caller.now) rest c.args.tree.now c.args.old.now c.args.new.now c.in_ok-check_name.ensures c.in_ok-check_name-2.ensures
       c.in_ok-ends.ends.from c.in_ok-ends.ends.to c.in_ok-ends.ensures.ends c.in_ok-mover.mover (λ d holds dir. c.in_ok-mover.ensures d holds dir)
-      (subst (λ (k : Policy). IsPreorderWithBottom (dominance k)) c.policy.ensures c.is_preordered.ensures) c.requires.facts
+      (subst (λ (k : Policy). IsPreorderWithBottom (dominance k)) c.policy.ensures c.law_preorder.ensures) c.requires.facts
       (λ d holds dir. c.in_ok-check_other.ensures d holds dir);
   from = held_is c.args.tree.now _ c.in_ok-ends.ends.from c.in_ok-ends.ensures.ends.source;
   to = held_is c.args.tree.now _ c.in_ok-ends.ends.to c.in_ok-ends.ensures.ends.target;
