@@ -13,3 +13,4 @@ pub mod OnNames
 pub mod FirstBounds
 pub mod Counting
 pub mod NamesCounts
+mod Items

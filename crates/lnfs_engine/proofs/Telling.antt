@@ -18,7 +18,8 @@ use Rattle.lnfs_operations.specs.declared.Refusal.{Refusal}
 use Rattle.lnfs_engine.specs.declared.place.Keeper as code
 use Rattle.lnfs_engine.specs.declared.reply.Came.{Came}
 use Rattle.lnfs_engine.specs.Places.{Starts}
-use Rattle.lnfs_engine.specs.Replies.{Acts, Says, own_of}
+use Rattle.lnfs_engine.specs.Replies.{Acts, IsBare, Says, own_of}
+use Rattle.lnfs_engine.specs.Nodes.{told_as, SaysBare}
 use Rattle.lnfs_engine.specs.Performs.{turn, Performs}
 use Rattle.lnfs_engine.specs.Stores.{stored}
 use Rattle.lnfs_engine.proofs.Acting.{performs_at, performs_first}
@@ -72,3 +73,9 @@ module _ (begin : ℕ) (old new : List ℕ) (site : Site) (sent : Sent) (op same
   pub told_on : (tree : Rows) → ((rest : World) → Acts (row site sent same p (with_tree rest tree)) (own_of same Nowhere answer) q (with_tree rest tree) (with_tree rest tree)) →
       IfOk result (λ came. (keeper : code.Keeper) (rest : World) → Performs begin old new keeper keeper q (with_tree rest tree) (turn site sent op p (with_tree rest tree)) came)
   told_on tree = told_from (λ (rest : World). with_tree rest tree) (λ (rest : World). with_tree rest tree)
+
+-- ---- a result that has nothing behind its status
+
+module _ (old new : List ℕ) (op same : Op) (told : OpResult) (ended : Result (Unit {0}) Refusal) (is : op ≡ same) {E : Type 0} (result : Result Came E) (said : IfOk result (SaysBare old new op ended)) where
+  pub bare_said : IsBare same told → IfOk result (Said old new op (told_as (λ it. told) ended))
+  bare_said bare = IfOk-weaker result (SaysBare old new op ended) (Said old new op (told_as (λ it. told) ended)) (λ came says. says told (subst (λ o. IsBare o told) (sym is) bare)) said

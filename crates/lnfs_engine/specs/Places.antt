@@ -67,6 +67,17 @@ HasToBeFirst (ops.Sequence args) = Unit {0}
 HasToBeFirst (ops.DestroyClientId client) = Unit {0}
 HasToBeFirst _ = ⊥
 
+-- an operation on clients and sessions, or one that is refused by its number
+abbrev pub IsOnClients : Op → Type 0
+IsOnClients (ops.ExchangeId verifier owner flags implementation) = Unit {0}
+IsOnClients (ops.CreateSession args) = Unit {0}
+IsOnClients (ops.DestroySession session) = Unit {0}
+IsOnClients (ops.DestroyClientId client) = Unit {0}
+IsOnClients (ops.ReclaimComplete one_fs) = Unit {0}
+IsOnClients (ops.Outside number status) = Unit {0}
+IsOnClients (ops.Extra number arguments) = Unit {0}
+IsOnClients _ = ⊥
+
 -- an operation that makes, names, moves or takes out
 abbrev pub IsOnNames : Op → Type 0
 IsOnNames (ops.Create what name given) = Unit {0}

@@ -1,7 +1,9 @@
 -- What the code's answers of an operation stand for.
 use Rattle.std.specs.Prelude.{◌≡◌, ℕ, List, ◌++◌, take, Option, Some, None, Result, Ok, Err}
 use Rattle.lnfs_arguments.specs.declared.types.Op.{Op}
+use Rattle.lnfs_arguments.specs.Numbered.{result_number}
 use Rattle.lnfs_results.specs.declared.types.OpResult.{OpResult}
+use Rattle.lnfs_results.specs.declared.types.OpResult.TheVariants as results
 use Rattle.lnfs_results.specs.Numbered.{status_of}
 use Rattle.lnfs_results.specs.Fits.{ResultSized}
 use Rattle.lnfs_results.specs.Texts.{result_text}
@@ -36,6 +38,10 @@ own_of op keeper answer = Own (answered_of op answer) keeper
 abbrev pub IsPlain : Result OpResult Refusal → Type 0
 IsPlain (Ok result) = ResultSized result × (status_of result ≡ 0)
 IsPlain (Err why) = Unit {0}
+
+-- a result of success that has nothing behind its status
+abbrev pub IsBare : Op → OpResult → Type 0
+IsBare op told = (status_of told ≡ 0) × (result_text told ≡ result_text (results.Failed (result_number op) 0))
 
 -- what an operation of the table comes to: its reply, the place of the next one, and the world afterwards
 pub record Acts (o : Outcome Reply) (reply : Reply) (next : world.Place) (old new : World) : Type 0 where

@@ -35,7 +35,8 @@ fn unless(test: bool, status: u32) -> Option<Refusal>
 /// the first, those that make and end clients and sessions are the only one, and the others stand behind a
 /// SEQUENCE.
 fn place_refusal(compound: &Compound<'_>, done: usize, op: &Op<'_>) -> Option<Refusal>
-    ensures refusal { (so_far : List OpResult) → length so_far ≡ done → option_map refusal_of result ≡ place_refusal compound.now so_far op.now }
+    ensures refusal { (so_far : List OpResult) → length so_far ≡ done →
+        option_map refusal_of result ≡ place_refusal compound.now so_far op.now }
     ensures first { result ≡ None → HasToBeFirst op.now → done ≡ 0 }
 {
     let is_first = done == 0;
@@ -60,7 +61,8 @@ fn room_refusal<E: ExtraGrammar>(
     op: &Op<'_>,
     extra: &E,
 ) -> Option<Refusal>
-    ensures { (p : world.Place) (w : World) (so_far : List OpResult) (c : Compound) → Stands p w.sessions keeper.now → used c so_far ≡ written
+    ensures { (p : world.Place) (w : World) (so_far : List OpResult) (c : Compound) →
+        Stands p w.sessions keeper.now → used c so_far ≡ written
         → option_map refusal_of result ≡ room_refusal E.grammar c so_far op.now p w }
 {
     let Keeper::Session(session) = keeper else {
@@ -85,7 +87,8 @@ pub fn admission<E: ExtraGrammar>(
     written: usize,
     op: &Op<'_>,
 ) -> Option<Refusal>
-    ensures refusal { (p : world.Place) (w : World) (so_far : List OpResult) → Stands p w.sessions keeper.now → length so_far ≡ done → used compound.now so_far ≡ written
+    ensures refusal { (p : world.Place) (w : World) (so_far : List OpResult) →
+        Stands p w.sessions keeper.now → length so_far ≡ done → used compound.now so_far ≡ written
         → option_map refusal_of result ≡ admission E.grammar compound.now so_far op.now p w }
     ensures first { result ≡ None → HasToBeFirst op.now → done ≡ 0 }
 {

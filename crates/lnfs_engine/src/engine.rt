@@ -76,9 +76,11 @@ fn serve<X: Extra>(
     requires few { length request.now.compound.now.ops ≤ 32 }
     requires begin { request.now.begin ≡ length out }
     requires first { place_of first ≡ begins_at first.subject.0 first.moment }
-    requires facts { BothStand X.extra.Fact (site_in request.now).dom (place_of first) (both store.old (X.rows extra.old)) }
+    requires facts { BothStand X.extra.Fact (site_in request.now).dom (place_of first)
+        (both store.old (X.rows extra.old)) }
     ensures { IfOk result (λ ran. IsServed out (both store.new (X.rows extra.new))
-        (served X.extra (site_in request.now) (sent_of request.now) request.now.compound.now (place_of first) (both store.old (X.rows extra.old))) ran) }
+        (served X.extra (site_in request.now) (sent_of request.now) request.now.compound.now
+        (place_of first) (both store.old (X.rows extra.old))) ran) }
 {
     append_head(&mut out, NFS4_OK, request.compound.tag.as_slice(), 0)?;
     let end = out.mark();
@@ -135,16 +137,26 @@ impl<X: Extra> Engine<X> {
     ) -> Result<Ran, AllocError>
         requires tag { length compound.now.tag ≤ 1024 }
         requires few { length compound.now.ops ≤ 32 }
-        requires facts { BothStand X.extra.Fact (dominance site.now) (begins_at subject.0 moment) (both self.old.store (X.rows self.old.extra)) }
+        requires facts { BothStand X.extra.Fact (dominance site.now) (begins_at subject.0 moment)
+            (both self.old.store (X.rows self.old.extra)) }
         ensures reply { IfOk result (λ ran.
-            let sent : Sent = record { arguments = bytes.now; size = size; count = compound.now.count } in
-            ran.reply.items ≡ out ++ (served X.extra (site_of site.now) sent compound.now (begins_at subject.0 moment) (both self.old.store (X.rows self.old.extra))).answer.result) }
+            let sent : Sent = record
+            { arguments = bytes.now; size = size; count = compound.now.count } in
+            ran.reply.items ≡ out
+            ++ (served X.extra (site_of site.now) sent compound.now (begins_at subject.0 moment)
+            (both self.old.store (X.rows self.old.extra))).answer.result) }
         ensures denial { IfOk result (λ ran.
-            let sent : Sent = record { arguments = bytes.now; size = size; count = compound.now.count } in
-            option_map denial_of ran.denial ≡ (served X.extra (site_of site.now) sent compound.now (begins_at subject.0 moment) (both self.old.store (X.rows self.old.extra))).answer.denial) }
+            let sent : Sent = record
+            { arguments = bytes.now; size = size; count = compound.now.count } in
+            option_map denial_of ran.denial
+            ≡ (served X.extra (site_of site.now) sent compound.now (begins_at subject.0 moment)
+            (both self.old.store (X.rows self.old.extra))).answer.denial) }
         ensures state { IfOk result (λ ran.
-            let sent : Sent = record { arguments = bytes.now; size = size; count = compound.now.count } in
-            both self.new.store (X.rows self.new.extra) ≡ (served X.extra (site_of site.now) sent compound.now (begins_at subject.0 moment) (both self.old.store (X.rows self.old.extra))).state) }
+            let sent : Sent = record
+            { arguments = bytes.now; size = size; count = compound.now.count } in
+            both self.new.store (X.rows self.new.extra)
+            ≡ (served X.extra (site_of site.now) sent compound.now (begins_at subject.0 moment)
+            (both self.old.store (X.rows self.old.extra))).state) }
     {
         let request = Request {
             alloc: self.alloc,

@@ -64,9 +64,12 @@ pub trait Extra: ExtraRows + ExtraGrammar + Drop {
         number: u32,
         args: &[u8],
     ) -> Result<ExtraRan, AllocError>
-        requires stands { BothStand Self.extra.Fact (dominance at.old.site.now) (place_at (spot_of at.old)) (both store.old (Self.rows self.old)) }
-        ensures outcome { IfOk result (λ ran. after_of ran at.new (both store.new (Self.rows self.new))
-            ≡ Self.extra.outcome (site_of at.old.site.now) number args.now (spot_of at.old) (both store.old (Self.rows self.old))) };
+        requires stands { BothStand Self.extra.Fact (dominance at.old.site.now)
+            (place_at (spot_of at.old)) (both store.old (Self.rows self.old)) }
+        ensures outcome { IfOk result (λ ran. after_of ran at.new
+            (both store.new (Self.rows self.new))
+            ≡ Self.extra.outcome (site_of at.old.site.now) number args.now (spot_of at.old)
+            (both store.old (Self.rows self.old))) };
 
     /// The grammar by which they are read is the one of their definition.
     ghost same_grammar: { Self.grammar ≡ Self.extra.grammar };

@@ -49,7 +49,8 @@ const NO_VERIFIER: [u8; 8] = [0; 8];
 fn take_opened(place: &mut Place, told: Result<Opened, Refusal>) -> Answer
     ensures answer { result ≡ told_as (λ o. results.Open o.id o.info 0 o.set 0) told }
     ensures plain { IsPlain result }
-    ensures place { place_of place.new ≡ landed (λ o. record (place_of place.old) { current = Some (id_of o.node) }) (place_of place.old) told }
+    ensures place { place_of place.new ≡ landed (λ o.
+        record (place_of place.old) { current = Some (id_of o.node) }) (place_of place.old) told }
 {
     match told {
         Ok(
@@ -82,11 +83,16 @@ fn on_open(
     place: &mut Place,
     args: &Opening<'_>,
 ) -> Result<Answer, AllocError>
-    requires facts { NodeFacts (site_in request.now).dom tree.old.nodes tree.old.entries tree.old.lasts }
-    requires opens { AllByRecursion (λ o. is_good_open (site_in request.now).dom (label_at tree.old.nodes) o ≡ true) opens.old.opens }
+    requires facts { NodeFacts (site_in request.now).dom tree.old.nodes tree.old.entries
+        tree.old.lasts }
+    requires opens { AllByRecursion (λ o. is_good_open (site_in request.now).dom
+        (label_at tree.old.nodes) o ≡ true) opens.old.opens }
     requires counts { AreTotals quota.old tree.old.nodes }
     ensures serves { IfOk result (λ answer. (rest : World) →
-        Serves (λ o. results.Open o.id o.info 0 o.set 0) (opening.open_file (site_in request.now) (args_of args.now) (place_of place.old) (with_files rest tree.old opens.old)) answer (place_of place.new) (with_files rest tree.old opens.old) (with_files rest tree.new opens.new)) }
+        Serves (λ o. results.Open o.id o.info 0 o.set 0)
+        (opening.open_file (site_in request.now) (args_of args.now) (place_of place.old)
+        (with_files rest tree.old opens.old)) answer (place_of place.new)
+        (with_files rest tree.old opens.old) (with_files rest tree.new opens.new)) }
     ensures plain { IfOk result IsPlain }
     ensures moved { IfOk result (λ answer. IsMoved (place_of place.old) (place_of place.new)) }
     ensures counts { AreTotals quota.new tree.new.nodes }
@@ -118,7 +124,10 @@ fn closed() -> StateId
 /// Answers a CLOSE.
 fn on_close(tree: &Tree, opens: &mut Opens, place: &Place, id: &StateId) -> Answer
     ensures serves { (rest : World) →
-        Serves (λ it. results.Close closing.closed) (closing.close id.now (place_of place.now) (with_files rest tree.now opens.old)) result (place_of place.now) (with_files rest tree.now opens.old) (with_files rest tree.now opens.new) }
+        Serves (λ it. results.Close closing.closed)
+        (closing.close id.now (place_of place.now) (with_files rest tree.now opens.old)) result
+        (place_of place.now) (with_files rest tree.now opens.old)
+        (with_files rest tree.now opens.new) }
     ensures plain { IsPlain result }
 {
     let caller = caller_of(place);
@@ -128,7 +137,8 @@ fn on_close(tree: &Tree, opens: &mut Opens, place: &Place, id: &StateId) -> Answ
 
 /// What WRITE tells: how many bytes were written, all of which stand.
 fn tell_written(told: Result<u32, Refusal>) -> Answer
-    ensures answer { result ≡ told_as (λ many. results.Write many numbers.FILE_SYNC4 (zeros 8)) told }
+    ensures answer { result ≡ told_as (λ many. results.Write many numbers.FILE_SYNC4 (zeros 8))
+        told }
     ensures plain { IsPlain result }
 {
     match told {
@@ -161,8 +171,12 @@ fn on_write(
 ) -> Result<Answer, AllocError>
     requires counts { AreTotals quota.old tree.old.nodes }
     ensures serves { IfOk result (λ answer. (rest : World) →
-        let written : writing.Arguments = record { id = args.now.id.now; offset = args.now.offset; stable = args.now.stable; content = args.now.content.now } in
-        Serves (λ many. results.Write many numbers.FILE_SYNC4 (zeros 8)) (writing.write (site_in request.now) written (place_of place.now) (with_files rest tree.old opens.now)) answer (place_of place.now) (with_files rest tree.old opens.now) (with_files rest tree.new opens.now)) }
+        let written : writing.Arguments = record
+        { id = args.now.id.now; offset = args.now.offset; stable = args.now.stable; content = args.now.content.now } in
+        Serves (λ many. results.Write many numbers.FILE_SYNC4 (zeros 8))
+        (writing.write (site_in request.now) written (place_of place.now)
+        (with_files rest tree.old opens.now)) answer (place_of place.now)
+        (with_files rest tree.old opens.now) (with_files rest tree.new opens.now)) }
     ensures plain { IfOk result IsPlain }
     ensures counts { AreTotals quota.new tree.new.nodes }
 {
@@ -186,7 +200,9 @@ fn on_write(
 /// Answers a COMMIT.
 fn on_commit(request: &Request<'_>, tree: &Tree, place: &Place) -> Answer
     ensures serves { (rest : World) →
-        Serves (λ it. results.Commit (zeros 8)) (writing.commit (site_in request.now) (place_of place.now) (with_tree rest tree.now)) result (place_of place.now) (with_tree rest tree.now) (with_tree rest tree.now) }
+        Serves (λ it. results.Commit (zeros 8)) (writing.commit (site_in request.now)
+        (place_of place.now) (with_tree rest tree.now)) result (place_of place.now)
+        (with_tree rest tree.now) (with_tree rest tree.now) }
     ensures plain { IsPlain result }
 {
     let caller = caller_of(place);
@@ -220,10 +236,13 @@ fn on_set_attr(
     id: &StateId,
     given: &RawAttrs,
 ) -> Result<Answer, AllocError>
-    requires facts { NodeFacts (site_in request.now).dom tree.old.nodes tree.old.entries tree.old.lasts }
+    requires facts { NodeFacts (site_in request.now).dom tree.old.nodes tree.old.entries
+        tree.old.lasts }
     requires counts { AreTotals quota.old tree.old.nodes }
     ensures serves { IfOk result (λ answer. (rest : World) →
-        Serves (results.SetAttr 0) (setting.set_attr (site_in request.now) id.now given.now (place_of place.now) (with_files rest tree.old opens.now)) answer (place_of place.now) (with_files rest tree.old opens.now) (with_files rest tree.new opens.now)) }
+        Serves (results.SetAttr 0) (setting.set_attr (site_in request.now) id.now given.now
+        (place_of place.now) (with_files rest tree.old opens.now)) answer (place_of place.now)
+        (with_files rest tree.old opens.now) (with_files rest tree.new opens.now)) }
     ensures plain { IfOk result IsPlain }
     ensures counts { AreTotals quota.new tree.new.nodes }
 {
@@ -261,10 +280,14 @@ fn on_read(
     out: &mut XdrWriter,
 ) -> Result<Came, AllocError>
     requires op { op.now ≡ ops.Read args.now.id.now args.now.offset args.now.count }
-    requires facts { NodeFacts (site_in request.now).dom tree.old.nodes tree.old.entries tree.old.lasts }
+    requires facts { NodeFacts (site_in request.now).dom tree.old.nodes tree.old.entries
+        tree.old.lasts }
     ensures performs { IfOk result (λ came. (keeper : code.Keeper) (rest : World) →
-        Performs request.now.begin out.old out.new keeper keeper (place_of place.now) (with_files rest tree.new opens.now) (turn (site_in request.now) (sent_of request.now) op.now (place_of place.now) (with_files rest tree.old opens.now)) came) }
-    ensures counts { (rows : List Row) → AreTotals rows tree.old.nodes → AreTotals rows tree.new.nodes }
+        Performs request.now.begin out.old out.new keeper keeper (place_of place.now)
+        (with_files rest tree.new opens.now) (turn (site_in request.now) (sent_of request.now)
+        op.now (place_of place.now) (with_files rest tree.old opens.now)) came) }
+    ensures counts { (rows : List Row) → AreTotals rows tree.old.nodes →
+        AreTotals rows tree.new.nodes }
 {
     let caller = caller_of(place);
     let site = request.site;
@@ -286,11 +309,15 @@ pub fn on_files(
     out: &mut XdrWriter,
 ) -> Result<Came, AllocError>
     requires own { IsOnFiles op.now }
-    requires facts { NodeFacts (site_in request.now).dom tree.old.nodes tree.old.entries tree.old.lasts }
-    requires opens { AllByRecursion (λ o. is_good_open (site_in request.now).dom (label_at tree.old.nodes) o ≡ true) opens.old.opens }
+    requires facts { NodeFacts (site_in request.now).dom tree.old.nodes tree.old.entries
+        tree.old.lasts }
+    requires opens { AllByRecursion (λ o. is_good_open (site_in request.now).dom
+        (label_at tree.old.nodes) o ≡ true) opens.old.opens }
     requires counts { AreTotals quota.old tree.old.nodes }
     ensures performs { IfOk result (λ came. (keeper : code.Keeper) (rest : World) →
-        Performs request.now.begin out.old out.new keeper keeper (place_of place.new) (with_files rest tree.new opens.new) (turn (site_in request.now) (sent_of request.now) op.now (place_of place.old) (with_files rest tree.old opens.old)) came) }
+        Performs request.now.begin out.old out.new keeper keeper (place_of place.new)
+        (with_files rest tree.new opens.new) (turn (site_in request.now) (sent_of request.now)
+        op.now (place_of place.old) (with_files rest tree.old opens.old)) came) }
     ensures moved { IfOk result (λ came. IsMoved (place_of place.old) (place_of place.new)) }
     ensures counts { AreTotals quota.new tree.new.nodes }
 {

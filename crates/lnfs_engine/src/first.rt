@@ -30,7 +30,7 @@ pub fn first_tree(alloc: Global, site: &Site<'_>) -> Result<Tree, AllocError>
 {
     // The calls say that the levels of the directories are among those of the policy, and that these are few.
     let policy = site.policy();
-    policy.is_policy();
+    policy.law_policy();
     let _levels = policy.lattice().len();
     first_directories(alloc, site)
 }

@@ -13,11 +13,11 @@ ghost use Rattle.lnfs_engine.specs.Further.{said_of, spot_of, asked_of};
 
 use crate::extra::{Extra, ExtraRan, Spot};
 use crate::place::{Place, Request};
-use crate::reply::{Came, append};
+use crate::reply::Came;
 use crate::store::Store;
 use lnfs_arguments::statuses::NFS4_OK;
 use lnfs_arguments::{ExtraGrammar, Op};
-use lnfs_results::OpResult;
+use lnfs_results::{OpResult, append_result};
 use lnfs_site::Site;
 use lnfs_xdr::XdrWriter;
 use std::alloc::AllocError;
@@ -44,21 +44,20 @@ pub fn further_in<'a, E: ExtraGrammar>(op: &'a Op<'_>, extra: &E) -> Option<Furt
 
 /// Appends the result of a further operation.
 fn tell(out: &mut XdrWriter, number: u32, ran: ExtraRan) -> Result<Came, AllocError>
-    ensures { IfOk result (λ came. (begin : ℕ) → Says begin out.old out.new (said_reply number (said_of ran)) came) }
+    ensures { IfOk result (λ came. (begin : ℕ) →
+        Says begin out.old out.new (said_reply number (said_of ran)) came) }
 {
     let refusal = ran.refusal;
     let status = match refusal {
         Some(why) => why.status,
         None => NFS4_OK,
     };
-    append(
-        out,
-        OpResult::Extra {
-            number,
-            status,
-            bytes: ran.bytes,
-        },
-    )?;
+    let told = OpResult::Extra {
+        number,
+        status,
+        bytes: ran.bytes,
+    };
+    append_result(out, &told)?;
     match refusal {
         Some(why) => Ok(Came::Refused(why)),
         None => Ok(Came::Done),
@@ -89,14 +88,19 @@ pub fn further<X: Extra>(
     asked: &FurtherOp<'_>,
     out: &mut XdrWriter,
 ) -> Result<Came, AllocError>
-    requires facts { BothStand X.extra.Fact (site_in request.now).dom (place_of place.old) (both store.old (X.rows extra.old)) }
+    requires facts { BothStand X.extra.Fact (site_in request.now).dom (place_of place.old)
+        (both store.old (X.rows extra.old)) }
     ensures performs { IfOk result (λ came. (keeper : Keeper) →
-        Performs request.now.begin out.old out.new keeper keeper (place_of place.new) (both store.new (X.rows extra.new))
-        (further_reply asked.now.number (further_deed X.extra (site_in request.now) asked.now.number asked.now.args.now) (place_of place.old) (both store.old (X.rows extra.old))) came) }
+        Performs request.now.begin out.old out.new keeper keeper (place_of place.new)
+        (both store.new (X.rows extra.new))
+        (further_reply asked.now.number (further_deed X.extra (site_in request.now) asked.now.number
+        asked.now.args.now) (place_of place.old) (both store.old (X.rows extra.old))) came) }
     // It leaves the sessions, and the place in them.
-    ensures stands { IfOk result (λ came. (keeper : Keeper) → Stands (place_of place.old) store.old.sessions keeper → Stands (place_of place.new) store.new.sessions keeper) }
+    ensures stands { IfOk result (λ came. (keeper : Keeper) →
+        Stands (place_of place.old) store.old.sessions keeper →
+        Stands (place_of place.new) store.new.sessions keeper) }
 {
-    request.site.policy().is_preordered();
+    request.site.policy().law_preorder();
     let mut at = spot_at(request.site, place);
     let ran = extra.run(request.alloc, store, &mut at, asked.number, asked.args)?;
     place.current = at.current;

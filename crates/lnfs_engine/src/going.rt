@@ -29,7 +29,8 @@ fn key_of(node: NodeId) -> NodeKey
 pub fn take_gone(opens: &mut Opens, quota: &mut Quota, gone: Option<Dropped>)
     requires held { IsHeld quota.old (option_map gone_of gone) }
     ensures opens { opens.new ≡ opens_without (option_map gone_of gone) opens.old }
-    ensures counts { (before after : List Node) → AreTotals quota.old before → WentFrom (option_map gone_of gone) before after → AreTotals quota.new after }
+    ensures counts { (before after : List Node) → AreTotals quota.old before →
+        WentFrom (option_map gone_of gone) before after → AreTotals quota.new after }
 {
     let Some(dropped) = gone else {
         return;

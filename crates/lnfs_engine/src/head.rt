@@ -28,7 +28,8 @@ fn set_word(bytes: &mut [u8], at: usize, value: u32)
 fn complete_head(bytes: &mut [u8], begin: usize, end: usize, status: u32, count: u32)
     requires head { begin + 8 ≤ end }
     requires within { end ≤ length bytes.old }
-    ensures { (before tag results : List ℕ) → bytes.old ≡ before ++ head_text 0 tag 0 ++ results → length before ≡ begin → length (before ++ head_text 0 tag 0) ≡ end
+    ensures { (before tag results : List ℕ) → bytes.old ≡ before ++ head_text 0 tag 0 ++ results →
+        length before ≡ begin → length (before ++ head_text 0 tag 0) ≡ end
         → bytes.new ≡ before ++ head_text status tag count ++ results }
 {
     set_word(bytes, begin, status);
@@ -40,8 +41,11 @@ fn complete_head(bytes: &mut [u8], begin: usize, end: usize, status: u32, count:
 pub fn finished(out: XdrWriter, begin: usize, end: usize, ended: &Ended) -> Vec<u8>
     requires head { begin + 8 ≤ end }
     requires within { Reaches end out ended.now }
-    ensures { (before : List ℕ) (c : Compound) (results : List OpResult) (refused : Option Denial) (again : Option (List ℕ)) → length before ≡ begin → length (before ++ head_text 0 c.tag 0) ≡ end →
-        EndsBy begin (before ++ head_text 0 c.tag 0) out (status_due c results) results refused again ended.now →
+    ensures { (before : List ℕ) (c : Compound) (results : List OpResult) (refused : Option Denial)
+        (again : Option (List ℕ)) → length before ≡ begin →
+        length (before ++ head_text 0 c.tag 0) ≡ end →
+        EndsBy begin (before ++ head_text 0 c.tag 0) out (status_due c results) results refused
+        again ended.now →
         result.items ≡ before ++ result_of c results again }
 {
     let mut reply = out.into_bytes();

@@ -18,8 +18,11 @@ pub fn keep(
     bytes: &[u8],
     reply: &[u8],
 ) -> Result<(), AllocError>
-    ensures { IfOk result (λ _. (p : Place) (rest : World) → Stands p clients.old.sessions keeper.now →
-        standing rest clients.new ≡ done_to (standing rest clients.old) (keep_in (keeper_of keeper.now) (record { arguments = bytes.now; reply = reply.now }) p (standing rest clients.old))) }
+    ensures { IfOk result (λ _. (p : Place) (rest : World) →
+        Stands p clients.old.sessions keeper.now →
+        standing rest clients.new ≡ done_to (standing rest clients.old)
+        (keep_in (keeper_of keeper.now) (record { arguments = bytes.now; reply = reply.now }) p
+        (standing rest clients.old))) }
 {
     match keeper {
         Keeper::Nowhere => Ok(()),
@@ -30,9 +33,7 @@ pub fn keep(
             Ok(())
         }
         Keeper::Session(session) => {
-            let bytes = Vec::from_slice(alloc, bytes)?;
-            let reply = Vec::from_slice(alloc, reply)?;
-            clients.settle(session.at, session.sequence, bytes, reply);
+            clients.resettle(alloc, session.at, session.sequence, bytes, reply)?;
             Ok(())
         }
     }

@@ -30,7 +30,7 @@ use crate::place::{Place, Request, caller_of};
 use crate::reply::{Answer, Came, say};
 use lnfs_arguments::{Op, What};
 use lnfs_attrs::RawAttrs;
-use lnfs_files::{are_listed, room_for};
+use lnfs_files::{law_listed, room_for};
 use lnfs_nodes::{Created, cinfo, create, link, remove, rename};
 use lnfs_open::Opens;
 use lnfs_operations::Refusal;
@@ -58,11 +58,15 @@ fn on_link(
     place: &Place,
     name: &[u8],
 ) -> Result<Answer, AllocError>
-    requires facts { NodeFacts (site_in request.now).dom tree.old.nodes tree.old.entries tree.old.lasts }
+    requires facts { NodeFacts (site_in request.now).dom tree.old.nodes tree.old.entries
+        tree.old.lasts }
     ensures serves { IfOk result (λ answer. (rest : World) →
-        Serves results.Link (linking.link (site_in request.now) name.now (place_of place.now) (with_tree rest tree.old)) answer (place_of place.now) (with_tree rest tree.old) (with_tree rest tree.new)) }
+        Serves results.Link (linking.link (site_in request.now) name.now (place_of place.now)
+        (with_tree rest tree.old)) answer (place_of place.now) (with_tree rest tree.old)
+        (with_tree rest tree.new)) }
     ensures plain { IfOk result IsPlain }
-    ensures counts { (rows : List Row) → AreTotals rows tree.old.nodes → AreTotals rows tree.new.nodes }
+    ensures counts { (rows : List Row) → AreTotals rows tree.old.nodes →
+        AreTotals rows tree.new.nodes }
 {
     let caller = caller_of(place);
     let told = link(request.alloc, request.site, tree, &caller, name)?;
@@ -79,7 +83,8 @@ fn take_removed(
     ensures answer { result ≡ told_as (λ r. results.Remove (cinfo_of r.0)) told }
     ensures plain { IsPlain result }
     ensures opens { opens.new ≡ opens_past (λ r. option_map gone_of r.1) told opens.old }
-    ensures counts { (before after : List Node) → AreTotals quota.old before → TakenFrom (λ r. option_map gone_of r.1) told before after → AreTotals quota.new after }
+    ensures counts { (before after : List Node) → AreTotals quota.old before →
+        TakenFrom (λ r. option_map gone_of r.1) told before after → AreTotals quota.new after }
 {
     match told {
         Ok((info, gone)) => {
@@ -99,10 +104,13 @@ fn on_remove(
     place: &Place,
     name: &[u8],
 ) -> Answer
-    requires facts { NodeFacts (site_in request.now).dom tree.old.nodes tree.old.entries tree.old.lasts }
+    requires facts { NodeFacts (site_in request.now).dom tree.old.nodes tree.old.entries
+        tree.old.lasts }
     requires counts { AreTotals quota.old tree.old.nodes }
     ensures serves { (rest : World) →
-        Serves results.Remove (removing.remove (site_in request.now) name.now (place_of place.now) (with_files rest tree.old opens.old)) result (place_of place.now) (with_files rest tree.old opens.old) (with_files rest tree.new opens.new) }
+        Serves results.Remove (removing.remove (site_in request.now) name.now (place_of place.now)
+        (with_files rest tree.old opens.old)) result (place_of place.now)
+        (with_files rest tree.old opens.old) (with_files rest tree.new opens.new) }
     ensures plain { IsPlain result }
     ensures counts { AreTotals quota.new tree.new.nodes }
 {
@@ -121,7 +129,8 @@ fn take_renamed(
     ensures answer { result ≡ told_as (λ r. results.Rename (cinfo_of r.0) (cinfo_of r.1)) told }
     ensures plain { IsPlain result }
     ensures opens { opens.new ≡ opens_past (λ r. option_map gone_of r.2) told opens.old }
-    ensures counts { (before after : List Node) → AreTotals quota.old before → TakenFrom (λ r. option_map gone_of r.2) told before after → AreTotals quota.new after }
+    ensures counts { (before after : List Node) → AreTotals quota.old before →
+        TakenFrom (λ r. option_map gone_of r.2) told before after → AreTotals quota.new after }
 {
     match told {
         Ok((from, to, gone)) => {
@@ -145,10 +154,14 @@ fn on_rename(
     old: &[u8],
     new: &[u8],
 ) -> Result<Answer, AllocError>
-    requires facts { NodeFacts (site_in request.now).dom tree.old.nodes tree.old.entries tree.old.lasts }
+    requires facts { NodeFacts (site_in request.now).dom tree.old.nodes tree.old.entries
+        tree.old.lasts }
     requires counts { AreTotals quota.old tree.old.nodes }
     ensures serves { IfOk result (λ answer. (rest : World) →
-        Serves (λ r. results.Rename r.source r.target) (renaming.rename (site_in request.now) old.now new.now (place_of place.now) (with_files rest tree.old opens.old)) answer (place_of place.now) (with_files rest tree.old opens.old) (with_files rest tree.new opens.new)) }
+        Serves (λ r. results.Rename r.source r.target)
+        (renaming.rename (site_in request.now) old.now new.now (place_of place.now)
+        (with_files rest tree.old opens.old)) answer (place_of place.now)
+        (with_files rest tree.old opens.old) (with_files rest tree.new opens.new)) }
     ensures plain { IfOk result IsPlain }
     ensures counts { AreTotals quota.new tree.new.nodes }
 {
@@ -163,7 +176,8 @@ fn take_made(quota: &mut Quota, place: &mut Place, told: Result<Created, Refusal
     requires rises { IfOk told (λ c. MayRise quota.old place.old.subject.0) }
     ensures answer { result ≡ told_as (λ c. results.Create (cinfo_of c.info) c.set) told }
     ensures plain { IsPlain result }
-    ensures place { place_of place.new ≡ landed (λ c. record (place_of place.old) { current = Some (id_of c.node) }) (place_of place.old) told }
+    ensures place { place_of place.new ≡ landed (λ c.
+        record (place_of place.old) { current = Some (id_of c.node) }) (place_of place.old) told }
     ensures quota { quota.new ≡ charged quota.old place.old.subject.0 told }
 {
     match told {
@@ -187,17 +201,21 @@ fn on_create(
     name: &[u8],
     given: &RawAttrs,
 ) -> Result<Answer, AllocError>
-    requires facts { NodeFacts (site_in request.now).dom tree.old.nodes tree.old.entries tree.old.lasts }
+    requires facts { NodeFacts (site_in request.now).dom tree.old.nodes tree.old.entries
+        tree.old.lasts }
     requires counts { AreTotals quota.old tree.old.nodes }
     ensures serves { IfOk result (λ answer. (rest : World) →
-        Serves (λ made. results.Create made.info made.set) (creating.create (site_in request.now) what.now name.now given.now (place_of place.old) (with_tree rest tree.old)) answer (place_of place.new) (with_tree rest tree.old) (with_tree rest tree.new)) }
+        Serves (λ made. results.Create made.info made.set)
+        (creating.create (site_in request.now) what.now name.now given.now (place_of place.old)
+        (with_tree rest tree.old)) answer (place_of place.new) (with_tree rest tree.old)
+        (with_tree rest tree.new)) }
     ensures plain { IfOk result IsPlain }
     ensures moved { IfOk result (λ answer. IsMoved (place_of place.old) (place_of place.new)) }
     ensures counts { AreTotals quota.new tree.new.nodes }
 {
     let caller = caller_of(place);
     // The call says that a label that is given is one of those that a policy may list.
-    are_listed(request.site);
+    law_listed(request.site);
     let room = room_for(request.site, quota, place.subject);
     let told = create(
         request.alloc,
@@ -223,10 +241,13 @@ pub fn on_names(
     out: &mut XdrWriter,
 ) -> Result<Came, AllocError>
     requires own { IsOnNames op.now }
-    requires facts { NodeFacts (site_in request.now).dom tree.old.nodes tree.old.entries tree.old.lasts }
+    requires facts { NodeFacts (site_in request.now).dom tree.old.nodes tree.old.entries
+        tree.old.lasts }
     requires counts { AreTotals quota.old tree.old.nodes }
     ensures performs { IfOk result (λ came. (keeper : code.Keeper) (rest : World) →
-        Performs request.now.begin out.old out.new keeper keeper (place_of place.new) (with_files rest tree.new opens.new) (turn (site_in request.now) (sent_of request.now) op.now (place_of place.old) (with_files rest tree.old opens.old)) came) }
+        Performs request.now.begin out.old out.new keeper keeper (place_of place.new)
+        (with_files rest tree.new opens.new) (turn (site_in request.now) (sent_of request.now)
+        op.now (place_of place.old) (with_files rest tree.old opens.old)) came) }
     ensures moved { IfOk result (λ came. IsMoved (place_of place.old) (place_of place.new)) }
     ensures counts { AreTotals quota.new tree.new.nodes }
 {

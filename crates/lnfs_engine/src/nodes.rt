@@ -11,11 +11,11 @@ ghost use Rattle.lnfs_quota.specs.Totals.{AreTotals};
 ghost use Rattle.lnfs_engine.specs.declared.place.Keeper as code;
 ghost use Rattle.lnfs_engine.specs.Places.{place_of, IsOnNodes, IsMoved};
 ghost use Rattle.lnfs_engine.specs.Replies.{IsPlain, SaysWritten};
-ghost use Rattle.lnfs_engine.specs.Nodes.{told_as, goes_to, saves_as};
+ghost use Rattle.lnfs_engine.specs.Nodes.{told_as, bare_of, goes_to, saves_as};
 ghost use Rattle.lnfs_engine.specs.Performs.{site_in, sent_of, turn, Performs};
 
 use crate::place::{Place, Request};
-use crate::reply::{Answer, Came, say};
+use crate::reply::{Answer, Came, refuse, say, say_bare};
 use lnfs_arguments::Op;
 use lnfs_calipso::Level;
 use lnfs_nodes::{
@@ -31,32 +31,28 @@ use lnfs_xdr::XdrWriter;
 use std::alloc::{AllocError, Global};
 
 /// What was found becomes the current file handle.
-fn go(place: &mut Place, found: Result<NodeId, Refusal>, done: OpResult) -> Answer
-    requires sized { ResultSized done }
-    requires success { status_of done ≡ 0 }
-    ensures answer { result ≡ told_as (λ i. done) found }
+fn go(place: &mut Place, found: Result<NodeId, Refusal>) -> Result<(), Refusal>
+    ensures ended { result ≡ bare_of found }
     ensures place { place.new ≡ goes_to place.old found }
-    ensures plain { IsPlain result }
 {
     match found {
         Ok(id) => {
             place.current = Some(id);
-            Ok(done)
+            Ok(())
         }
         Err(why) => Err(why),
     }
 }
 
 /// What was found becomes the saved file handle.
-fn save(place: &mut Place, found: Result<NodeId, Refusal>) -> Answer
-    ensures answer { result ≡ told_as (λ i. results.SaveFh) found }
+fn save(place: &mut Place, found: Result<NodeId, Refusal>) -> Result<(), Refusal>
+    ensures ended { result ≡ bare_of found }
     ensures place { place.new ≡ saves_as place.old found }
-    ensures plain { IsPlain result }
 {
     match found {
         Ok(id) => {
             place.saved = Some(id);
-            Ok(OpResult::SaveFh)
+            Ok(())
         }
         Err(why) => Err(why),
     }
@@ -64,7 +60,8 @@ fn save(place: &mut Place, found: Result<NodeId, Refusal>) -> Answer
 
 /// The bytes of a file handle.
 fn tell_handle(alloc: Global, handle: Result<[u8; 12], Refusal>) -> Result<Answer, AllocError>
-    ensures answer { IfOk result (λ answer. answer ≡ told_as (λ bytes. results.GetFh bytes) handle) }
+    ensures answer { IfOk result (λ answer. answer
+        ≡ told_as (λ bytes. results.GetFh bytes) handle) }
     ensures plain { IfOk result IsPlain }
 {
     match handle {
@@ -117,7 +114,7 @@ pub fn wrote(
 {
     match answer {
         Ok(()) => Ok(Came::Done),
-        Err(why) => say(out, op, Err(why)),
+        Err(why) => refuse(out, op, why),
     }
 }
 
@@ -131,10 +128,13 @@ pub fn on_nodes(
     out: &mut XdrWriter,
 ) -> Result<Came, AllocError>
     requires own { IsOnNodes op.now }
-    requires facts { NodeFacts (site_in request.now).dom tree.old.nodes tree.old.entries tree.old.lasts }
+    requires facts { NodeFacts (site_in request.now).dom tree.old.nodes tree.old.entries
+        tree.old.lasts }
     requires counts { AreTotals quota.now tree.old.nodes }
     ensures performs { IfOk result (λ came. (keeper : code.Keeper) (rest : World) →
-        Performs request.now.begin out.old out.new keeper keeper (place_of place.new) (with_tree rest tree.new) (turn (site_in request.now) (sent_of request.now) op.now (place_of place.old) (with_tree rest tree.old)) came) }
+        Performs request.now.begin out.old out.new keeper keeper (place_of place.new)
+        (with_tree rest tree.new) (turn (site_in request.now) (sent_of request.now) op.now
+        (place_of place.old) (with_tree rest tree.old)) came) }
     ensures moved { IfOk result (λ came. IsMoved (place_of place.old) (place_of place.new)) }
     ensures counts { AreTotals quota.now tree.new.nodes }
 {
@@ -144,11 +144,11 @@ pub fn on_nodes(
     match op {
         Op::PutFh { handle } => {
             let found = put_fh(site, tree, subject, handle.as_slice());
-            say(out, op, go(place, found, OpResult::PutFh))
+            say_bare(out, op, go(place, found))
         }
         Op::PutRootFh => {
             let root = put_root_fh(tree);
-            say(out, op, go(place, Ok(root), OpResult::PutRootFh))
+            say_bare(out, op, go(place, Ok(root)))
         }
         Op::GetFh => {
             let answer = tell_handle(request.alloc, get_fh(tree, current))?;
@@ -156,19 +156,19 @@ pub fn on_nodes(
         }
         Op::SaveFh => {
             let found = save_fh(tree, current);
-            say(out, op, save(place, found))
+            say_bare(out, op, save(place, found))
         }
         Op::RestoreFh => {
             let found = restore_fh(place.saved);
-            say(out, op, go(place, found, OpResult::RestoreFh))
+            say_bare(out, op, go(place, found))
         }
         Op::Lookup { name } => {
             let found = lookup(site, tree, subject, current, name.as_slice());
-            say(out, op, go(place, found, OpResult::Lookup))
+            say_bare(out, op, go(place, found))
         }
         Op::LookupP => {
             let found = lookup_parent(site, tree, subject, current);
-            say(out, op, go(place, found, OpResult::LookupP))
+            say_bare(out, op, go(place, found))
         }
         Op::Access { bits } => {
             let told = access(site, tree, subject, current, *bits);
@@ -206,13 +206,13 @@ pub fn on_nodes(
             let used = used_by(quota, subject);
             let viewer = Viewer { subject, used };
             let answer = verify(request.alloc, site, tree, viewer, current, attrs)?;
-            say(out, op, plain(answer, OpResult::Verify))
+            say_bare(out, op, answer)
         }
         Op::NVerify { attrs } => {
             let used = used_by(quota, subject);
             let viewer = Viewer { subject, used };
             let answer = nverify(request.alloc, site, tree, viewer, current, attrs)?;
-            say(out, op, plain(answer, OpResult::NVerify))
+            say_bare(out, op, answer)
         }
         _ => unreachable!(),
     }

@@ -29,7 +29,8 @@ fn bounds_of<E: ExtraGrammar>(ops: &[Op<'_>], extra: &E) -> usize
 pub fn room_of<E: ExtraGrammar>(compound: &Compound<'_>, extra: &E) -> usize
     requires tag { length compound.now.tag ≤ 1024 }
     requires few { length compound.now.ops ≤ 32 }
-    ensures { result ≡ length (head_text 0 compound.now.tag 0) + sum_by (op_bound E.grammar) compound.now.ops }
+    ensures { result ≡ length (head_text 0 compound.now.tag 0)
+        + sum_by (op_bound E.grammar) compound.now.ops }
 {
     let head = WORDS + compound.tag.len().next_multiple_of(WORD);
     head + bounds_of(compound.ops.as_slice(), extra)

@@ -54,14 +54,20 @@ fn run_operations<X: Extra>(
 ) -> Result<Ended, AllocError>
     requires few { length request.now.compound.now.ops ≤ 32 }
     requires first { Starts (place_of place.old) keeper.old }
-    requires facts { BothStand X.extra.Fact (site_in request.now).dom (place_of place.old) (both store.old (X.rows extra.old)) }
-    requires head { length out.old ≡ request.now.begin + length (head_text 0 request.now.compound.now.tag 0) }
+    requires facts { BothStand X.extra.Fact (site_in request.now).dom (place_of place.old)
+        (both store.old (X.rows extra.old)) }
+    requires head { length out.old ≡ request.now.begin
+        + length (head_text 0 request.now.compound.now.tag 0) }
     ensures ends { IfOk result (λ ended.
-        let ran = run_behind (operation X.extra (site_in request.now) (sent_of request.now) request.now.compound.now) [] request.now.compound.now.ops (place_of place.old) (both store.old (X.rows extra.old)) in
-        Ends request.now.begin out.old out.new keeper.new (place_of place.new) (both store.new (X.rows extra.new)) (status_of_all ran.results) ran ended) }
-    ensures stands { IfOk result (λ ended. Stands (place_of place.new) store.new.sessions keeper.new) }
+        let ran = run_behind (operation X.extra (site_in request.now) (sent_of request.now)
+        request.now.compound.now) [] request.now.compound.now.ops (place_of place.old)
+        (both store.old (X.rows extra.old)) in
+        Ends request.now.begin out.old out.new keeper.new (place_of place.new)
+        (both store.new (X.rows extra.new)) (status_of_all ran.results) ran ended) }
+    ensures stands { IfOk result (λ ended. Stands (place_of place.new) store.new.sessions
+        keeper.new) }
 {
-    request.site.policy().is_preordered();
+    request.site.policy().law_preorder();
     let ops = request.compound.ops.as_slice();
     let mut done = 0;
     while done < ops.len() {
@@ -102,12 +108,19 @@ pub fn run_all<X: Extra>(
 ) -> Result<Ended, AllocError>
     requires few { length request.now.compound.now.ops ≤ 32 }
     requires first { Starts (place_of place.old) keeper.old }
-    requires facts { BothStand X.extra.Fact (site_in request.now).dom (place_of place.old) (both store.old (X.rows extra.old)) }
-    requires head { length out.old ≡ request.now.begin + length (head_text 0 request.now.compound.now.tag 0) }
+    requires facts { BothStand X.extra.Fact (site_in request.now).dom (place_of place.old)
+        (both store.old (X.rows extra.old)) }
+    requires head { length out.old ≡ request.now.begin
+        + length (head_text 0 request.now.compound.now.tag 0) }
     ensures ends { IfOk result (λ ended.
-        let ran = run_all (operation X.extra (site_in request.now) (sent_of request.now) request.now.compound.now) request.now.compound.now (place_of place.old) (both store.old (X.rows extra.old)) in
-        Ends request.now.begin out.old out.new keeper.new (place_of place.new) (both store.new (X.rows extra.new)) (status_due request.now.compound.now ran.results) ran ended) }
-    ensures stands { IfOk result (λ ended. Stands (place_of place.new) store.new.sessions keeper.new) }
+        let ran = run_all (operation X.extra (site_in request.now) (sent_of request.now)
+        request.now.compound.now) request.now.compound.now (place_of place.old)
+        (both store.old (X.rows extra.old)) in
+        Ends request.now.begin out.old out.new keeper.new (place_of place.new)
+        (both store.new (X.rows extra.new)) (status_due request.now.compound.now ran.results)
+        ran ended) }
+    ensures stands { IfOk result (λ ended. Stands (place_of place.new) store.new.sessions
+        keeper.new) }
 {
     if request.compound.minor != MINOR {
         return Ok(Ended::New {

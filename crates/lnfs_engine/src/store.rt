@@ -132,7 +132,8 @@ impl Store {
         number: u64,
     ) -> Result<(), ContextError>
         ensures answer { result ≡ ended (has_context self.old.contexts level.0 parent number) }
-        ensures world { self.new ≡ without_context (has_context self.old.contexts level.0 parent number) level.0 number self.old }
+        ensures world { self.new ≡ without_context
+            (has_context self.old.contexts level.0 parent number) level.0 number self.old }
     {
         self.contexts.destroy(level, parent, number)
     }

@@ -17,8 +17,8 @@ use Rattle.lnfs_engine.proofs.clients.destroy_clientid.Goals as goal
 abbrev told : Unit {0} → Reply
 told _ = success results.DestroyClientId Nowhere
 
-pub returns-in-Ok-clause-acts : goal.returns-in-Ok-clause-acts
-returns-in-Ok-clause-acts c = λ site sent moment rest same.
+pub returns-in-Ok : goal.returns-in-Ok
+returns-in-Ok c = λ site sent moment rest same.
     let p = begins_at c.args.level moment in
     let w = standing rest c.args.clients.now in
     let named = c.key_of.ensures ∙ c.client_named.ensures in
@@ -27,8 +27,8 @@ returns-in-Ok-clause-acts c = λ site sent moment rest same.
     (ap (reply_of (ops.DestroyClientId c.args.client) told) (sym (c.in-Ok.ensures.answer moment rest known)))
     (c.in-Ok.ensures.lists moment rest known)
 
-pub returns-in_ok-refused_by-in-Err-clause-acts : goal.returns-in_ok-refused_by-in-Err-clause-acts
-returns-in_ok-refused_by-in-Err-clause-acts c = λ site sent moment rest same.
+pub returns-in_ok-refused_by-in-Err : goal.returns-in_ok-refused_by-in-Err
+returns-in_ok-refused_by-in-Err c = λ site sent moment rest same.
     let p = begins_at c.args.level moment in
     let w = standing rest c.args.clients.now in
     let why = c.in_ok-refused_by-in-Err.field-0 in

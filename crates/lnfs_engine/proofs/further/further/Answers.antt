@@ -71,7 +71,7 @@ returns-clause-stands g c =
     c.in_ok-ran.ensures.outcome
     ∙ ap (λ q. X.outcome (site_of q) asked.number asked.args.now (spot_of at) b) c.spot_at-at.ensures.site
     ∙ ap (λ s. X.outcome (site_in r) asked.number asked.args.now s b) c.spot_at-at.ensures.spot in
-    let tame = owed.tame (site_in r) (subst (λ q. IsPreorderWithBottom (dominance q)) c.policy.ensures c.is_preordered.ensures) asked.number asked.args.now p b c.requires.facts in
+    let tame = owed.tame (site_in r) (subst (λ q. IsPreorderWithBottom (dominance q)) c.policy.ensures c.law_preorder.ensures) asked.number asked.args.now p b c.requires.facts in
     let Goal : Came → Type 0 = λ came. (keeper : Keeper) → Stands p c.args.store.now.sessions keeper → Stands next c.run.new.store.sessions keeper in
     IfOk-weaker c.tell.result _ Goal
     (λ came says keeper stands.

@@ -49,7 +49,7 @@ take_made-requires c =
     let tells = on_tree created_of (lands at) at some_world t u act told.told (told.ensures.acts p some_world) in
     record {
       known = succeeded created_of (lands at) at (with_tree some_world t) (with_tree some_world u) act (p.subject < length rows) told.told tells
-          (λ made is. subst (λ (s : ℕ). s < length rows) subject (has_row rows t.nodes (done_to (with_tree some_world t) act).nodes c.requires.counts at.subject ((create_more site at some_world t c.requires.facts c.are_listed.ensures what name given made is).listed c.requires.counts.bounds)));
+          (λ made is. subst (λ (s : ℕ). s < length rows) subject (has_row rows t.nodes (done_to (with_tree some_world t) act).nodes c.requires.counts at.subject ((create_more site at some_world t c.requires.facts c.law_listed.ensures what name given made is).listed c.requires.counts.bounds)));
       rises = succeeded created_of (lands at) at (with_tree some_world t) (with_tree some_world u) act (MayRise rows p.subject) told.told tells
           (λ made is. c.room_for-room.ensures.rises (c.room_for-room.ensures.room t.nodes c.requires.counts
           ∙ subst (λ (s : ℕ). nat_lt (nodes_used t.nodes s) (site.nodes s) ≡ true) subject (create_room site at some_world t c.requires.facts what name given made is)));
@@ -87,4 +87,4 @@ returns-clause-counts c =
     subst (λ quota. AreTotals quota u.nodes) (sym c.take_made.ensures.quota)
     (subst (λ (s : ℕ). AreTotals (charged rows s told.told) u.nodes) subject
     (charged_counts created_of (lands at) at (with_tree some_world t) (with_tree some_world u) act rows at.subject told.told (on_tree created_of (lands at) at some_world t u act told.told (told.ensures.acts p some_world)) c.requires.counts
-    (create_more site at some_world t c.requires.facts c.are_listed.ensures what name given)))
+    (create_more site at some_world t c.requires.facts c.law_listed.ensures what name given)))

@@ -1,4 +1,4 @@
-use Rattle.std.proofs.Common.{◌≡◌, ℕ, Bool, true, List, refl, sym, ap, ◌∙◌, subst}
+use Rattle.std.proofs.Common.{◌≡◌, ℕ, Bool, true, List, refl, sym, ap, subst}
 use Rattle.std.proofs.lemmas.Result.{IfOk-weaker}
 use Rattle.lnfs_arguments.specs.declared.types.Op.{Op}
 use Rattle.lnfs_arguments.specs.declared.types.Op.TheVariants as ops
@@ -10,57 +10,17 @@ use Rattle.lnfs_arguments.specs.declared.stateid.StateId.{StateId}
 use Rattle.lnfs_arguments.specs.declared.types.What.{What}
 use Rattle.lnfs_arguments.specs.declared.types.Making.{Making}
 use Rattle.lnfs_arguments.specs.declared.types.Claim.{Claim}
-use Rattle.lnfs_arguments.specs.declared.statuses.TheConstants.{NFS4ERR_NOTSUPP}
 use Rattle.lnfs_attrs.specs.declared.raw.RawAttrs.{RawAttrs}
 use Rattle.std.specs.List.{AllByRecursion}
 use Rattle.lnfs_world.specs.World.{World, label_at}
 use Rattle.lnfs_world.specs.Facts.{is_good_open}
-use Rattle.lnfs_operations.specs.declared.Gate.TheVariants as gates
-use Rattle.lnfs_operations.specs.declared.Refusal.{Refusal}
 use Rattle.lnfs_engine.specs.declared.reply.Came.{Came}
-use Rattle.lnfs_engine.specs.Behind.{OpensBehind}
-use Rattle.lnfs_engine.specs.Places.{place_of, Stands, Starts, HasToBeFirst, IsOnNodes}
+use Rattle.lnfs_engine.specs.Places.{place_of, Stands, IsOnNodes}
 use Rattle.lnfs_engine.specs.Performs.{site_in, sent_of, turn, Performs}
 use Rattle.lnfs_files.specs.Worlds.{with_opens}
 use Rattle.lnfs_engine.specs.Stores.{beside, stored}
-use Rattle.lnfs_engine.proofs.Telling.{told, told_first, told_refused}
 use Rattle.lnfs_engine.proofs.Staying.{stays}
 use Rattle.lnfs_engine.proofs.perform.serve.Goals as goal
-
-pub returns-in_ok-answer-in-ExchangeId-clause-performs : goal.returns-in_ok-answer-in-ExchangeId-clause-performs
-returns-in_ok-answer-in-ExchangeId-clause-performs c =
-    let r = c.args.request.now in
-    let p = place_of c.args.place.now in
-    let x = c.in-ExchangeId in
-    let same = ops.ExchangeId x.verifier c.as_slice.result.now x.flags x.implementation in
-    let is : c.args.op.now ≡ same = x.is ∙ ap (λ owner. ops.ExchangeId x.verifier owner x.flags x.implementation) (sym c.as_slice.ensures) in
-    let answer = c.in_ok-answer-in-ExchangeId in
-    told_first r.begin c.args.out.now c.say.new.out c.args.keeper.now (site_in r) (sent_of r) c.args.op.now same p answer.answer is c.say.result c.say.ensures
-    c.args.store.now c.store.inside.clients c.exchange_id.new.clients c.store.inside.tree c.store.inside.opens c.store.inside.contexts c.store.view_is
-    (subst (λ o. HasToBeFirst o → Starts p c.args.keeper.now) x.is c.requires.first tt)
-    (answer.ensures.acts (site_in r) (sent_of r) x.implementation p.moment (with_opens (beside c.store.inside.tree c.store.inside.contexts) c.store.inside.opens) (subst (λ (w : World). OpensBehind w.clients w.opens) (sym c.store.view_is) c.requires.opens))
-
-pub returns-in-CreateSession-clause-performs : goal.returns-in-CreateSession-clause-performs
-returns-in-CreateSession-clause-performs c =
-    let r = c.args.request.now in
-    let p = place_of c.args.place.now in
-    let tree = c.store.inside.tree in
-    let after = stored c.create_session.new.clients tree c.create_session.new.opens c.store.inside.contexts in
-    let Goal : World → Came → Type 0 = λ w came. Performs r.begin c.args.out.now c.create_session.new.out c.args.keeper.now c.create_session.new.keeper p after (turn (site_in r) (sent_of r) c.args.op.now p w) came in
-    IfOk-weaker c.create_session.result _ (Goal c.args.store.now)
-    (λ came did. subst (λ w. Goal w came) c.store.view_is (did (beside tree c.store.inside.contexts)))
-    c.create_session.ensures.performs
-
-pub returns-in_ok-answer-in-DestroySession-clause-performs : goal.returns-in_ok-answer-in-DestroySession-clause-performs
-returns-in_ok-answer-in-DestroySession-clause-performs c =
-    let r = c.args.request.now in
-    let p = place_of c.args.place.now in
-    let x = c.in-DestroySession in
-    let answer = c.in_ok-answer-in-DestroySession in
-    told_first r.begin c.args.out.now c.say-in-DestroySession.new.out c.args.keeper.now (site_in r) (sent_of r) c.args.op.now (ops.DestroySession x.session) p answer.answer x.is c.say-in-DestroySession.result c.say-in-DestroySession.ensures
-    c.args.store.now c.store.inside.clients c.destroy_session.new.clients c.store.inside.tree c.store.inside.opens c.store.inside.contexts c.store.view_is
-    (subst (λ o. HasToBeFirst o → Starts p c.args.keeper.now) x.is c.requires.first tt)
-    (answer.ensures.acts (site_in r) (sent_of r) p.moment (with_opens (beside c.store.inside.tree c.store.inside.contexts) c.store.inside.opens))
 
 pub returns-in-Sequence-clause-performs : goal.returns-in-Sequence-clause-performs
 returns-in-Sequence-clause-performs c =
@@ -71,27 +31,6 @@ returns-in-Sequence-clause-performs c =
     IfOk-weaker c.sequence.result _ (Goal c.args.store.now)
     (λ came did. subst (λ w. Goal w came) c.store.view_is (did (with_opens (beside tree c.store.inside.contexts) c.store.inside.opens)))
     c.sequence.ensures.performs
-
-pub returns-in_ok-answer-in-DestroyClientId-clause-performs : goal.returns-in_ok-answer-in-DestroyClientId-clause-performs
-returns-in_ok-answer-in-DestroyClientId-clause-performs c =
-    let r = c.args.request.now in
-    let p = place_of c.args.place.now in
-    let x = c.in-DestroyClientId in
-    let answer = c.in_ok-answer-in-DestroyClientId in
-    told_first r.begin c.args.out.now c.say-in-DestroyClientId.new.out c.args.keeper.now (site_in r) (sent_of r) c.args.op.now (ops.DestroyClientId x.client) p answer.answer x.is c.say-in-DestroyClientId.result c.say-in-DestroyClientId.ensures
-    c.args.store.now c.store.inside.clients c.destroy_clientid.new.clients c.store.inside.tree c.store.inside.opens c.store.inside.contexts c.store.view_is
-    (subst (λ o. HasToBeFirst o → Starts p c.args.keeper.now) x.is c.requires.first tt)
-    (answer.ensures.acts (site_in r) (sent_of r) p.moment (with_opens (beside c.store.inside.tree c.store.inside.contexts) c.store.inside.opens) refl)
-
-pub returns-in_ok-answer-in-ReclaimComplete-clause-performs : goal.returns-in_ok-answer-in-ReclaimComplete-clause-performs
-returns-in_ok-answer-in-ReclaimComplete-clause-performs c =
-    let r = c.args.request.now in
-    let p = place_of c.args.place.now in
-    let x = c.in-ReclaimComplete in
-    let answer = c.in_ok-answer-in-ReclaimComplete in
-    told r.begin c.args.out.now c.say-in-ReclaimComplete.new.out c.args.keeper.now (site_in r) (sent_of r) c.args.op.now (ops.ReclaimComplete x.one_fs) p answer.answer x.is c.say-in-ReclaimComplete.result c.say-in-ReclaimComplete.ensures
-    c.args.store.now c.store.inside.clients c.reclaim_in.new.clients c.store.inside.tree c.store.inside.opens c.store.inside.contexts c.store.view_is
-    (answer.ensures.acts (site_in r) (sent_of r) (with_opens (beside c.store.inside.tree c.store.inside.contexts) c.store.inside.opens))
 
 -- the others are on nodes
 record IsOther (op : Op) : Type 0 where
@@ -134,21 +73,6 @@ on_nodes (ops.Write id offset stable content) n = n.write id offset stable conte
 on_nodes (ops.Commit offset count) n = n.commit offset count refl
 on_nodes (ops.SetAttr id given) n = n.set_attr id given refl
 on_nodes op n = tt
-
-pub returns-in-Outside-clause-performs : goal.returns-in-Outside-clause-performs
-returns-in-Outside-clause-performs c =
-    let r = c.args.request.now in
-    let x = c.in-Outside in
-    let why : Refusal = record { gate = gates.Outside; status = x.status } in
-    told_refused r.begin c.args.out.now c.say-in-Outside.new.out c.args.keeper.now (site_in r) (sent_of r) c.args.op.now (ops.Outside x.number x.status) (place_of c.args.place.now) why x.is c.say-in-Outside.result c.say-in-Outside.ensures c.args.store.now refl
-
--- one that no further operation serves
-pub returns-in-Extra-clause-performs : goal.returns-in-Extra-clause-performs
-returns-in-Extra-clause-performs c =
-    let r = c.args.request.now in
-    let x = c.in-Extra in
-    let why : Refusal = record { gate = gates.Outside; status = NFS4ERR_NOTSUPP } in
-    told_refused r.begin c.args.out.now c.say-in-Extra.new.out c.args.keeper.now (site_in r) (sent_of r) c.args.op.now (ops.Extra x.number x.args) (place_of c.args.place.now) why x.is c.say-in-Extra.result c.say-in-Extra.ensures c.args.store.now refl
 
 pub returns-in-Create-clause-performs : goal.returns-in-Create-clause-performs
 returns-in-Create-clause-performs c =

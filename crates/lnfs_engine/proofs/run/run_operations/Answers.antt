@@ -44,7 +44,7 @@ loop-done-preserved g c =
     let q = place_of c.perform.new.place in
     let v = both c.perform.new.store (rows c.perform.new.extra) in
     let on = did deeds k.ops r.begin c.args.out.now total c.loop-done.out done c.loop-done.keeper p b i.ahead k op e c.perform.new.out c.perform.new.keeper q v _ c.requires.head c.in_ok-perform.ensures.performs _ c.in-Done.is in
-    let law = (operation_lawful X owed (site_in r) (subst (λ q. IsPreorderWithBottom (dominance q)) c.policy.ensures c.is_preordered.ensures) (sent_of r) k i.ahead.so_far op).stands p b i.facts in
+    let law = (operation_lawful X owed (site_in r) (subst (λ q. IsPreorderWithBottom (dominance q)) c.policy.ensures c.law_preorder.ensures) (sent_of r) k i.ahead.so_far op).stands p b i.facts in
     record {
       within = omega (arith, ap length c.as_slice-ops.ensures);
       first = λ none. absurd (omega (arith, none));

@@ -13,8 +13,8 @@ use Rattle.lnfs_engine.proofs.sessions.destroy_session.Goals as goal
 abbrev told : Unit {0} → Reply
 told _ = success results.DestroySession Nowhere
 
-pub returns-in-Ok-clause-acts : goal.returns-in-Ok-clause-acts
-returns-in-Ok-clause-acts c = λ site sent moment rest.
+pub returns-in-Ok : goal.returns-in-Ok
+returns-in-Ok c = λ site sent moment rest.
     let op = ops.DestroySession c.args.session in
     let p = begins_at c.args.level moment in
     let w = standing rest c.args.clients.now in
@@ -22,8 +22,8 @@ returns-in-Ok-clause-acts c = λ site sent moment rest.
     (ap (reply_of op told) (sym (c.in-Ok.ensures.answer moment rest)))
     (c.in-Ok.ensures.lists moment rest)
 
-pub returns-in_ok-refused_by-in-Err-clause-acts : goal.returns-in_ok-refused_by-in-Err-clause-acts
-returns-in_ok-refused_by-in-Err-clause-acts c = λ site sent moment rest.
+pub returns-in_ok-refused_by-in-Err : goal.returns-in_ok-refused_by-in-Err
+returns-in_ok-refused_by-in-Err c = λ site sent moment rest.
     let op = ops.DestroySession c.args.session in
     let p = begins_at c.args.level moment in
     let w = standing rest c.args.clients.now in
