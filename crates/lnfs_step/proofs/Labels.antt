@@ -40,7 +40,7 @@ module _ (X : Extra) (owed : AreLawful X) (m : Signing) (p : Policy) (lattice : 
   of_labels event (Asked call task) b holds =
       chosen_any (λ (s : Step (Both X.Row)). LabelsRise (dominance p) b.world s.state.world) (is_there b.world.contexts call.level call.context) _ _ (task_labels event call task b holds) (labels_itself b.world)
 
-  step_labels : (event : Event) (b : Both X.Row) → Holds X p b → LabelsRise (dominance p) b.world (step_with X m p b event).state.world
+  pub step_labels : (event : Event) (b : Both X.Row) → Holds X p b → LabelsRise (dominance p) b.world (step_with X m p b event).state.world
   unfolding step_with
   step_labels event b holds = of_labels event (request_with X.grammar m p event.class event.message) b holds
 

@@ -78,7 +78,7 @@ module _ (X : Extra) (owed : AreLawful X) (m : Signing) (p : Policy) (lattice : 
   of_sizes event (Asked call task) b read holds sizes =
       chosen_any (λ (s : Step (Both X.Row)). Sizes s.state.world) (is_there b.world.contexts call.level call.context) _ _ (task_sizes event call task b read holds sizes) sizes
 
-  step_sizes : (event : Event) (b : Both X.Row) → Holds X p b → Sizes b.world → Sizes (step_with X m p b event).state.world
+  pub step_sizes : (event : Event) (b : Both X.Row) → Holds X p b → Sizes b.world → Sizes (step_with X m p b event).state.world
   unfolding step_with
   step_sizes event b holds sizes = of_sizes event (request_with X.grammar m p event.class event.message) b (request_reads X.grammar m p event.class event.message) holds sizes
 
@@ -114,6 +114,10 @@ module _ (X : Extra) (owed : AreLawful X) (m : Signing) (p : Policy) (lattice : 
     of_short event (Asked call task) b read holds sizes =
         chosen_any (λ (s : Step (Both X.Row)). IsShort s.reply) (is_there b.world.contexts call.level call.context) _ _ (task_short event call task b read holds sizes) (refusal_length m sized call.wrapping call.xid (caller RPCSEC_GSS_CTXPROBLEM))
 
+    pub step_short : (event : Event) (b : Both X.Row) → Holds X p b → Sizes b.world → IfSome (step_with X m p b event).reply (λ reply. length reply ≤ RECORD_LIMIT)
+    unfolding step_with
+    step_short event b holds sizes = of_short event (request_with X.grammar m p event.class event.message) b (request_reads X.grammar m p event.class event.message) holds sizes
+
     pub reply_short : (journal : List Event) (event : Event) → IfSome (reply_with X m p journal event) (λ reply. length reply ≤ RECORD_LIMIT)
-    unfolding reply_with step_with
-    reply_short journal event = of_short event (request_with X.grammar m p event.class event.message) (state_after X m p journal) (request_reads X.grammar m p event.class event.message) (holds_after X owed m p lattice journal) (sizes_after journal)
+    unfolding reply_with
+    reply_short journal event = step_short event (state_after X m p journal) (holds_after X owed m p lattice journal) (sizes_after journal)

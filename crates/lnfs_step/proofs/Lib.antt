@@ -10,6 +10,7 @@ pub mod Wrappings
 pub mod Lengths
 pub mod Accepted
 pub mod Labels
+pub mod SlotSteps
 pub mod Slots
 pub mod Keeping
 pub mod Origins

@@ -21,7 +21,8 @@ use Rattle.lnfs_step.specs.Step.{Step, line_of_cause, refused, answered, made, d
 use Rattle.lnfs_step.specs.Journal.{state_after, reply_with, line_with}
 use Rattle.lnfs_step.specs.Sessions.{Asks, HasOrigin}
 use Rattle.lnfs_step.specs.Lines.{Tells, Recorded, Unanswered, Refused, Bare, Made, Resent, Ended}
-use Rattle.lnfs_step.proofs.Slots.{serving, step_is, again}
+use Rattle.lnfs_step.proofs.SlotSteps.{serving}
+use Rattle.lnfs_step.proofs.Slots.{step_is, again}
 use Rattle.lnfs_step.proofs.Origins.{slot_origin, created_origin}
 use Rattle.lnfs_step.proofs.Failing.{Fails, cause_told, request_fails}
 use Rattle.lnfs_step.proofs.Requests.{asked_outside}

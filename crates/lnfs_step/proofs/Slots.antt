@@ -1,167 +1,99 @@
--- A COMPOUND that comes again is answered again and acts once, and its reply fits a response of its session.
-use Rattle.std.proofs.Common.{◌≡◌, ◌≤◌, ◌<◌, ℕ, Bool, true, false, cond, List, [], ◌∷◌, ◌++◌, length, Option, Some, None, refl, sym, ap, ◌∙◌, subst, arith}
-use Rattle.std.specs.Prelude.{nat_le, IfSome}
-use Rattle.std.proofs.lemmas.Bool.Decides.{nat_tests}
+-- After a journal, a COMPOUND that comes again is answered again and acts once, and its reply fits a response of its
+-- session.
+use Rattle.std.proofs.Common.{◌≡◌, ◌≤◌, ◌<◌, ℕ, List, [], ◌∷◌, ◌++◌, length, Some, None, sym, ◌∙◌, subst}
+use Rattle.std.specs.Prelude.{IfSome}
 use Rattle.lnfs_calipso.specs.Label.{IsPreorderWithBottom}
 use Rattle.lnfs_types.specs.declared.event.Event.{Event}
-use Rattle.lnfs_types.specs.declared.event.Moment.{Moment}
 use Rattle.lnfs_arguments.specs.declared.types.Compound.{Compound}
 use Rattle.lnfs_arguments.specs.declared.types.Sequence.{Sequence}
 use Rattle.lnfs_arguments.specs.declared.types.CreateSession.{CreateSession}
 use Rattle.lnfs_policy.specs.Policy.{Policy, dominance}
 use Rattle.lnfs_world.specs.World.{Slot as SlotRow, Client, Session}
-use Rattle.lnfs_world.specs.Outcome.{begins_at}
-use Rattle.lnfs_world.specs.Lawful.{Turn}
-use Rattle.lnfs_world.specs.Both.{Both, BothStand}
-use Rattle.lnfs_operations.specs.Accepted.{IsSent, too_many}
+use Rattle.lnfs_world.specs.Both.{Both}
+use Rattle.lnfs_operations.specs.Accepted.{too_many}
 use Rattle.lnfs_operations.specs.Extra.{Extra, AreLawful}
-use Rattle.lnfs_operations.specs.Identifiers.{session_under}
 use Rattle.lnfs_operations.specs.InOrder.{sequence_before}
 use Rattle.lnfs_operations.specs.Keeping.{next_sequence}
-use Rattle.lnfs_operations.specs.Results.{Denial}
-use Rattle.lnfs_operations.specs.Retries.{Names}
-use Rattle.lnfs_operations.specs.SlotRule.{Answer, served}
-use Rattle.lnfs_operations.proofs.AcceptedLaws.{accepted_again}
-use Rattle.lnfs_operations.proofs.Retries.{answered_again, refused_again, created_again}
-use Rattle.lnfs_operations.proofs.Once.{acts_once}
-use Rattle.lnfs_operations.proofs.SizeLaws.{fits_named}
-use Rattle.lnfs_gss3.specs.declared.numbers.TheConstants.{RPCSEC_GSS_CTXPROBLEM}
 use Rattle.lnfs_gss3.specs.Mechanism.{Signing, IsSized}
-use Rattle.lnfs_site.specs.Site.{site_of}
-use Rattle.lnfs_step.specs.Wrapping.{caller, answer_text}
-use Rattle.lnfs_step.specs.Request.{Call, Run}
-use Rattle.lnfs_step.specs.Step.{Step, answered, done_for, refused_to, step_with, step_of, sent_of}
+use Rattle.lnfs_step.specs.Wrapping.{answer_text}
+use Rattle.lnfs_step.specs.Request.{Call}
+use Rattle.lnfs_step.specs.Step.{answered, step_with}
 use Rattle.lnfs_step.specs.Journal.{state_after, first_state, reply_with, line_with}
-use Rattle.lnfs_step.specs.Sessions.{Asks, ComesOnSlot, ComesToClient, IsGiven, IsAnswered}
+use Rattle.lnfs_step.specs.Sessions.{AsksAt, Asks, ComesOnSlot, ComesToClient, IsGivenAt, IsAnsweredAt, IsGiven, IsAnswered}
 use Rattle.lnfs_step.proofs.Accepted.{accepted_after}
-use Rattle.lnfs_step.proofs.FirstSizes.{spells_shortly}
 use Rattle.lnfs_step.proofs.Lengths.{sizes_after}
-use Rattle.lnfs_step.proofs.Requests.{asked_parsed, asked_read}
-use Rattle.lnfs_step.proofs.Steps.{state_from-append, begins, holds_after}
-use Rattle.lnfs_step.proofs.Wrappings.{answer_length}
+use Rattle.lnfs_step.proofs.SlotSteps.{serving, GetsAgain, step_at, again_at, retry_at, created_at, many_at, once_at, room_at}
+use Rattle.lnfs_step.proofs.Steps.{state_from-append, holds_after}
 
--- what a COMPOUND of a call is, on a state
-abbrev pub serving : (X : Extra) → Policy → Event → Call → (arguments : List ℕ) → Compound → Both X.Row → Turn Answer (Both X.Row)
-serving X p event call arguments c b = served X (site_of p) (sent_of event arguments c) c (begins_at call.level event.moment) b
+module _ (X : Extra) (m : Signing) (p : Policy) (journal : List Event) (event : Event) where
+  -- the step of a COMPOUND
+  pub step_is : (call : Call) (arguments : List ℕ) (c : Compound) → Asks X m p journal event call arguments c →
+      step_with X m p (state_after X m p journal) event ≡ answered m call (serving X p event call arguments c (state_after X m p journal))
+  step_is call arguments c asks = step_at X m p (state_after X m p journal) event call arguments c asks
 
--- the step of a COMPOUND
-pub step_is : (X : Extra) (m : Signing) (p : Policy) (journal : List Event) (event : Event) (call : Call) (arguments : List ℕ) (c : Compound) → Asks X m p journal event call arguments c →
-    step_with X m p (state_after X m p journal) event ≡ answered m call (serving X p event call arguments c (state_after X m p journal))
-unfolding step_with
-step_is X m p journal event call arguments c asks =
-    let b = state_after X m p journal in
-    ap (step_of X m p b event) asks.request ∙ ap (λ there. cond there (done_for X m p b event call (Run arguments c)) (refused_to m call b (caller RPCSEC_GSS_CTXPROBLEM))) asks.there
+  -- the state after one more event
+  pub state_next : state_after X m p (journal ++ event ∷ []) ≡ (step_with X m p (state_after X m p journal) event).state
+  state_next = state_from-append X m p (first_state X p) journal event
 
--- the state after one more event
-pub state_next : (X : Extra) (m : Signing) (p : Policy) (journal : List Event) (event : Event) → state_after X m p (journal ++ event ∷ []) ≡ (step_with X m p (state_after X m p journal) event).state
-state_next X m p journal event = state_from-append X m p (first_state X p) journal event
+  -- what is given and answered there
+  pub given_after : (call : Call) (result : List ℕ) → IsGivenAt X m p (state_after X m p journal) event call result → IsGiven X m p journal event call result
+  unfolding reply_with
+  given_after call result is = record { reply = is.reply; state = state_next ∙ is.state }
 
--- an event that is given a result, by what is served
-given : (X : Extra) (m : Signing) (p : Policy) (journal : List Event) (event : Event) (call : Call) (arguments : List ℕ) (c : Compound) (denial : Option Denial) (result : List ℕ) → Asks X m p journal event call arguments c →
-    serving X p event call arguments c (state_after X m p journal) ≡ record { answer = record { result = result; denial = denial }; place = begins_at call.level event.moment; state = state_after X m p journal } →
-    IsGiven X m p journal event call result
-unfolding reply_with
-given X m p journal event call arguments c denial result asks same =
-    let step = step_is X m p journal event call arguments c asks ∙ ap (answered m call) same in
-    record {
-      reply = ap (λ (s : Step (Both X.Row)). s.reply) step;
-      state = state_next X m p journal event ∙ ap (λ (s : Step (Both X.Row)). s.state) step;
-    }
+  pub answered_after : (call : Call) (result : List ℕ) → IsAnsweredAt X m p (state_after X m p journal) event call result → IsAnswered X m p journal event call result
+  unfolding line_with
+  answered_after call result is = record { given = given_after call result is.given; line = is.line }
 
--- one that is answered again
-pub again : (X : Extra) (m : Signing) (p : Policy) (journal : List Event) (event : Event) (call : Call) (arguments : List ℕ) (c : Compound) (result : List ℕ) → Asks X m p journal event call arguments c →
-    serving X p event call arguments c (state_after X m p journal) ≡ record { answer = record { result = result; denial = None }; place = begins_at call.level event.moment; state = state_after X m p journal } →
-    IsAnswered X m p journal event call result
-unfolding reply_with line_with
-again X m p journal event call arguments c result asks same =
-    let step = step_is X m p journal event call arguments c asks ∙ ap (answered m call) same in
-    record { given = given X m p journal event call arguments c _ result asks same; line = ap (λ (s : Step (Both X.Row)). s.line) step }
+  -- one that is answered again
+  pub again : (call : Call) (arguments : List ℕ) (c : Compound) (result : List ℕ) → Asks X m p journal event call arguments c →
+      GetsAgain X p call.level event arguments c result (state_after X m p journal) → IsAnswered X m p journal event call result
+  again call arguments c result asks same = answered_after call result (again_at X m p (state_after X m p journal) event call arguments c result asks same)
 
-pub created_answered : (X : Extra) (m : Signing) (p : Policy) (journal : List Event) (event : Event) (call : Call) (arguments : List ℕ) (c : Compound) (args : CreateSession) (client : Client) (result : List ℕ) → ComesToClient X m p journal event call arguments c args client →
-    args.sequence ≡ sequence_before client.sequence → client.kept ≡ Some (record { arguments = arguments; reply = result }) → IsAnswered X m p journal event call result
-created_answered X m p journal event call arguments c args client result comes last kept =
-    again X m p journal event call arguments c result comes.asks
-    (created_again X (site_of p) (sent_of event arguments c) c call.level event.moment (state_after X m p journal) args comes.begins.rest client result comes.begins.minor comes.alone comes.begins.first comes.own comes.record_of last kept)
+  pub created_answered : (call : Call) (arguments : List ℕ) (c : Compound) (args : CreateSession) (client : Client) (result : List ℕ) → ComesToClient X m p journal event call arguments c args client →
+      args.sequence ≡ sequence_before client.sequence → client.kept ≡ Some (record { arguments = arguments; reply = result }) → IsAnswered X m p journal event call result
+  created_answered call arguments c args client result comes last kept = answered_after call result (created_at X m p (state_after X m p journal) event call arguments c args client result comes last kept)
 
--- a COMPOUND that counts more operations than its session grants
-pub many_refused : (X : Extra) (m : Signing) (p : Policy) (journal : List Event) (event : Event) (call : Call) (arguments : List ℕ) (c : Compound) (args : Sequence) (x : Session) (slot : SlotRow) → ComesOnSlot X m p journal event call arguments c args x slot → x.channel.max_operations < c.count →
-    IsGiven X m p journal event call (too_many c args).result
-many_refused X m p journal event call arguments c args x slot comes many =
-    given X m p journal event call arguments c _ (too_many c args).result comes.asks
-    (refused_again X (site_of p) (sent_of event arguments c) c call.level event.moment (state_after X m p journal) args comes.begins.rest x slot comes.begins.minor comes.begins.first comes.names many)
+  pub many_refused : (call : Call) (arguments : List ℕ) (c : Compound) (args : Sequence) (x : Session) (slot : SlotRow) → ComesOnSlot X m p journal event call arguments c args x slot → x.channel.max_operations < c.count →
+      IsGiven X m p journal event call (too_many c args).result
+  many_refused call arguments c args x slot comes many = given_after call (too_many c args).result (many_at X m p (state_after X m p journal) event call arguments c args x slot comes many)
+
+-- what is asked and given directly behind an event
+module _ (X : Extra) (m : Signing) (p : Policy) (journal : List Event) (event later : Event) where
+  pub asked_behind : (other : Call) (arguments : List ℕ) (c : Compound) → Asks X m p (journal ++ event ∷ []) later other arguments c → AsksAt X m p (step_with X m p (state_after X m p journal) event).state later other arguments c
+  asked_behind other arguments c asks = subst (λ (v : Both X.Row). AsksAt X m p v later other arguments c) (state_next X m p journal event) asks
+
+  pub given_behind : (other : Call) (result : List ℕ) → IsGivenAt X m p (step_with X m p (state_after X m p journal) event).state later other result → IsGiven X m p (journal ++ event ∷ []) later other result
+  given_behind other result is = given_after X m p (journal ++ event ∷ []) later other result (subst (λ (v : Both X.Row). IsGivenAt X m p v later other result) (sym (state_next X m p journal event)) is)
+
+  pub unrecorded_behind : (step_with X m p (step_with X m p (state_after X m p journal) event).state later).line ≡ None → line_with X m p (journal ++ event ∷ []) later ≡ None
+  unfolding line_with
+  unrecorded_behind none = subst (λ (v : Both X.Row). (step_with X m p v later).line ≡ None) (sym (state_next X m p journal event)) none
 
 -- the result of a first one, which one behind it is given too; where they are accepted, nothing is refused
 abbrev pub Once : (X : Extra) → Signing → Policy → List Event → (event later : Event) (call other : Call) (accepted : Type 0) → Type 0
 Once X m p journal event later call other accepted =
     (result : List ℕ) × (reply_with X m p journal event ≡ Some (answer_text m call.wrapping call.xid result)) × IsGiven X m p (journal ++ event ∷ []) later other result × (accepted → line_with X m p (journal ++ event ∷ []) later ≡ None)
 
--- what the first one left, and what one behind it at the same level gets there
-abbrev pub GetsAgain : (X : Extra) → Policy → (level : ℕ) → Event → (arguments : List ℕ) → Compound → (result : List ℕ) → Both X.Row → Type 0
-GetsAgain X p level later arguments c result v = served X (site_of p) (sent_of later arguments c) c (begins_at level later.moment) v ≡ record { answer = record { result = result; denial = None }; place = begins_at level later.moment; state = v }
-
 module _ (X : Extra) (owed : AreLawful X) (m : Signing) (p : Policy) (lattice : IsPreorderWithBottom (dominance p)) (journal : List Event) where
-  abbrev stands : (level : ℕ) (moment : Moment) → BothStand X.Fact (dominance p) (begins_at level moment) (state_after X m p journal)
-  stands level moment = begins X owed m p lattice level moment (state_after X m p journal) (holds_after X owed m p lattice journal)
-
-  -- the COMPOUND whose result its slot keeps: what the slot keeps was accepted, so this one counts few operations too
   pub retry_answered : (event : Event) (call : Call) (arguments : List ℕ) (c : Compound) (args : Sequence) (x : Session) (slot : SlotRow) (result : List ℕ) → ComesOnSlot X m p journal event call arguments c args x slot →
       slot ≡ record { sequence = args.sequence; kept = Some (record { arguments = arguments; reply = result }) } → IsAnswered X m p journal event call result
   retry_answered event call arguments c args x slot result comes same =
-      let b = state_after X m p journal in
-      let sent = sent_of event arguments c in
-      let sends : IsSent X.grammar sent c = record { read = asked_parsed X.grammar m p event call arguments c comes.asks.request; count = refl } in
-      let few = accepted_again X.grammar call.level b.world args sent c x slot result (accepted_after X owed m p lattice journal) sends comes.names (ap (λ (s : SlotRow). s.kept) same) in
-      again X m p journal event call arguments c result comes.asks
-      (answered_again X (site_of p) sent c call.level event.moment b args comes.begins.rest x slot result comes.begins.minor comes.begins.first comes.names few same)
-
-  -- a new one and one behind it, where they count no more operations than their session grants
-  once_accepted : (event later : Event) (call other : Call) (arguments : List ℕ) (c : Compound) (args : Sequence) (x : Session) (slot : SlotRow) → ComesOnSlot X m p journal event call arguments c args x slot → c.count ≤ x.channel.max_operations → args.sequence ≡ next_sequence slot.sequence →
-      Asks X m p (journal ++ event ∷ []) later other arguments c → other.level ≡ call.level → length later.message ≤ x.channel.max_request →
-      (result : List ℕ) × (reply_with X m p journal event ≡ Some (answer_text m call.wrapping call.xid result)) × IsAnswered X m p (journal ++ event ∷ []) later other result
-  unfolding reply_with
-  once_accepted event later call other arguments c args x slot comes few next asks own size =
-      let b = state_after X m p journal in
-      let first = serving X p event call arguments c b in
-      let step = step_is X m p journal event call arguments c comes.asks in
-      let after : state_after X m p (journal ++ event ∷ []) ≡ first.state = state_next X m p journal event ∙ ap (λ (s : Step (Both X.Row)). s.state) step in
-      let acts = acts_once X owed (site_of p) lattice (sent_of event arguments c) c call.level event.moment later.moment b args comes.begins.rest x slot (sent_of later arguments c) (stands call.level event.moment) comes.begins.minor comes.begins.first comes.names few next refl size few in (
-        first.answer.result,
-        ap (λ (s : Step (Both X.Row)). s.reply) step,
-        again X m p (journal ++ event ∷ []) later other arguments c first.answer.result asks
-            (subst (λ level. GetsAgain X p level later arguments c first.answer.result (state_after X m p (journal ++ event ∷ []))) (sym own)
-            (subst (GetsAgain X p call.level later arguments c first.answer.result) (sym after) acts)),
-      )
-
-  -- and where they count more
-  once_refused : (event later : Event) (call other : Call) (arguments : List ℕ) (c : Compound) (args : Sequence) (x : Session) (slot : SlotRow) → ComesOnSlot X m p journal event call arguments c args x slot → x.channel.max_operations < c.count →
-      Asks X m p (journal ++ event ∷ []) later other arguments c → other.level ≡ call.level → length later.message ≤ x.channel.max_request →
-      (reply_with X m p journal event ≡ Some (answer_text m call.wrapping call.xid (too_many c args).result)) × IsGiven X m p (journal ++ event ∷ []) later other (too_many c args).result
-  once_refused event later call other arguments c args x slot comes many asks own size =
-      let first = many_refused X m p journal event call arguments c args x slot comes many in
-      let there = ap (λ (v : Both X.Row). session_under args.session v.world.sessions) first.state ∙ comes.names.session in
-      let names : Names other.level (state_after X m p (journal ++ event ∷ [])).world args (sent_of later arguments c) x slot = record { own = comes.names.own ∙ sym own; session = there; size = size; slot = comes.names.slot } in
-      (first.reply, many_refused X m p (journal ++ event ∷ []) later other arguments c args x slot (record { asks = asks; begins = comes.begins; names = names }) many)
+      answered_after X m p journal event call result (retry_at X m p (state_after X m p journal) (accepted_after X owed m p lattice journal) event call arguments c args x slot result comes same)
 
   pub once_answered : (event later : Event) (call other : Call) (arguments : List ℕ) (c : Compound) (args : Sequence) (x : Session) (slot : SlotRow) → ComesOnSlot X m p journal event call arguments c args x slot → args.sequence ≡ next_sequence slot.sequence →
       Asks X m p (journal ++ event ∷ []) later other arguments c → other.level ≡ call.level → length later.message ≤ x.channel.max_request →
       Once X m p journal event later call other (c.count ≤ x.channel.max_operations)
-  once_answered event later call other arguments c args x slot comes next asks own size = at (nat_le c.count x.channel.max_operations) refl
-    where
-      at : (b : Bool) → nat_le c.count x.channel.max_operations ≡ b → Once X m p journal event later call other (c.count ≤ x.channel.max_operations)
-      at true is =
-          let (result, reply, answered) = once_accepted event later call other arguments c args x slot comes (grind (arith, nat_tests, is)) next asks own size in
-          (result, reply, answered.given, λ few. answered.line)
-      at false is =
-          let both = once_refused event later call other arguments c args x slot comes (grind (arith, nat_tests, is)) asks own size in
-          ((too_many c args).result, both.0, both.1, λ few. absurd (grind (arith, nat_tests, is, few)))
+  unfolding reply_with
+  once_answered event later call other arguments c args x slot comes next asks own size =
+      let once = once_at X owed m p lattice (state_after X m p journal) (holds_after X owed m p lattice journal) event later call other arguments c args x slot comes next (asked_behind X m p journal event later other arguments c asks) own size in (
+        once.0.result,
+        once.0.first,
+        given_behind X m p journal event later other once.0.result once.0.again,
+        λ few. unrecorded_behind X m p journal event later (once.1 few),
+      )
 
   pub room_left : IsSized m → (event : Event) (call : Call) (arguments : List ℕ) (c : Compound) (args : Sequence) (x : Session) (slot : SlotRow) → ComesOnSlot X m p journal event call arguments c args x slot →
       IfSome (reply_with X m p journal event) (λ reply. length reply ≤ x.channel.max_response)
   unfolding reply_with
   room_left sized event call arguments c args x slot comes =
-      let b = state_after X m p journal in
-      let sent = sent_of event arguments c in
-      let result = (serving X p event call arguments c b).answer.result in
-      let fits = fits_named X owed (site_of p) lattice (spells_shortly p) sent c call.level event.moment b (stands call.level event.moment) (sizes_after X owed m p lattice journal) (asked_read X.grammar m p event call arguments c comes.asks.request) args comes.begins.rest x slot comes.begins.minor comes.begins.first comes.names in
-      subst (λ (o : Option (List ℕ)). IfSome o (λ reply. length reply ≤ x.channel.max_response)) (sym (ap (λ (s : Step (Both X.Row)). s.reply) (step_is X m p journal event call arguments c comes.asks)))
-      (omega (arith, answer_length m sized call.wrapping call.xid result, fits))
+      room_at X owed m p lattice (state_after X m p journal) (holds_after X owed m p lattice journal) sized (sizes_after X owed m p lattice journal) event call arguments c args x slot comes

@@ -16,12 +16,15 @@ ghost use Rattle.lnfs_step.specs.Contexts.{is_there, make_context, end_context};
 
 /// Contexts are made and ended by what their subject sees, and only rows of its level change.
 pub fn contexts_are_lawful()
-    ensures make_view { (dom : ℕ → ℕ → Bool) → IsPreorderWithBottom dom → (parent : ℕ) → View dom (make_context parent) }
-    ensures make_footprint { (dom : ℕ → ℕ → Bool) (parent : ℕ) → Footprint dom (make_context parent) }
+    ensures make_view { (dom : ℕ → ℕ → Bool) → IsPreorderWithBottom dom → (parent : ℕ) →
+        View dom (make_context parent) }
+    ensures make_footprint { (dom : ℕ → ℕ → Bool) (parent : ℕ) →
+        Footprint dom (make_context parent) }
     ensures end_view { (dom : ℕ → ℕ → Bool) (number : ℕ) → View dom (end_context number) }
     ensures end_footprint { (dom : ℕ → ℕ → Bool) (number : ℕ) → Footprint dom (end_context number) }
     // Whether the context of a call is there is seen by each level that dominates the call's.
-    ensures there { (dom : ℕ → ℕ → Bool) (level s : ℕ) (context : Option InContext) (w : World) → dom level s ≡ true →
+    ensures there { (dom : ℕ → ℕ → Bool) (level s : ℕ) (context : Option InContext) (w : World) →
+        dom level s ≡ true →
         is_there (erased dom level w).contexts s context ≡ is_there w.contexts s context }
 {}
 
@@ -29,13 +32,19 @@ pub fn contexts_are_lawful()
 /// the parent of the context, and so is that to a call by RPCSEC_GSS which is refused for its
 /// arguments. What is signed goes by the header of the call (RFC 7861 section 2.3).
 pub fn contexts_are_signed()
-    ensures called { (g : Further) (m : Signing) (p : Policy) (class : ℕ) (bytes : List ℕ) (message : CallMessage) (call : Call) (task : Task) (context : InContext) →
-        call_of bytes ≡ Ok message → request_with g m p class bytes ≡ Asked call task → call.context ≡ Some context →
+    ensures called { (g : Further) (m : Signing) (p : Policy) (class : ℕ) (bytes : List ℕ)
+        (message : CallMessage) (call : Call) (task : Task) (context : InContext) →
+        call_of bytes ≡ Ok message → request_with g m p class bytes ≡ Asked call task →
+        call.context ≡ Some context →
         IsSignedUnder p context.parent message call.wrapping }
-    ensures made { (g : Further) (m : Signing) (p : Policy) (class : ℕ) (bytes : List ℕ) (message : CallMessage) (call : Call) (parent : ℕ) (assertion : Assertion) →
-        call_of bytes ≡ Ok message → request_with g m p class bytes ≡ Asked call (MakeContext parent assertion) →
+    ensures made { (g : Further) (m : Signing) (p : Policy) (class : ℕ) (bytes : List ℕ)
+        (message : CallMessage) (call : Call) (parent : ℕ) (assertion : Assertion) →
+        call_of bytes ≡ Ok message → request_with g m p class bytes
+        ≡ Asked call (MakeContext parent assertion) →
         IsSignedUnder p parent message call.wrapping }
-    ensures refused { (g : Further) (m : Signing) (p : Policy) (class : ℕ) (bytes : List ℕ) (message : CallMessage) (xid : ℕ) (wrapping : Wrapping) (stat : ℕ) →
-        call_of bytes ≡ Ok message → message.credential.flavor ≡ RPCSEC_GSS → request_with g m p class bytes ≡ Refused xid wrapping (called stat) →
+    ensures refused { (g : Further) (m : Signing) (p : Policy) (class : ℕ) (bytes : List ℕ)
+        (message : CallMessage) (xid : ℕ) (wrapping : Wrapping) (stat : ℕ) →
+        call_of bytes ≡ Ok message → message.credential.flavor ≡ RPCSEC_GSS →
+        request_with g m p class bytes ≡ Refused xid wrapping (called stat) →
         (parent : ℕ) × IsSignedUnder p parent message wrapping }
 {}

@@ -20,7 +20,8 @@ use lnfs_operations::ExtraRows;
 /// by its place and its number, or the COMPOUND as a whole. Where an operation of the table is denied
 /// access, the gate is a rule of labels, and only there.
 pub fn denials_are_recorded<X: ExtraRows, M: Mechanism>()
-    ensures recorded { (p : Policy) → IsPreorderWithBottom (dominance p) → (journal : List Event) (event : Event) →
+    ensures recorded { (p : Policy) → IsPreorderWithBottom (dominance p) →
+        (journal : List Event) (event : Event) →
         Recorded X.extra M.signing p journal event }
     // Which gate refused an operation is told by its name alone.
     ensures names { (a b : Gate) → letter a ≡ letter b → a ≡ b }
