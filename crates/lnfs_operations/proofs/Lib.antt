@@ -46,4 +46,5 @@ pub mod Rooms
 pub mod Bounded
 pub mod SizeLaws
 pub mod AcceptedLaws
+pub mod CameLaws
 pub mod LabelLaws

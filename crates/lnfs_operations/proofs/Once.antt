@@ -144,11 +144,11 @@ slot_set zero row (x ∷ xs) old is = refl
 slot_set (suc n) row (x ∷ xs) old is = slot_set n row xs old is
 
 -- the session with a result in one of its slots
-abbrev keeping : Session → (slot sequence : ℕ) → Stored → Session
+abbrev pub keeping : Session → (slot sequence : ℕ) → Stored → Session
 keeping x slot sequence kept = record x { slots = with_slot slot (record { sequence = sequence; kept = Some kept }) x.slots }
 
 -- where the place stands in a session that is there, it is that session that keeps
-kept_sessions : (q : Place) (w : World) (level : ℕ) (x : Session) (slot sequence : ℕ) (kept : Stored) → q.session ≡ Some x.id.number → q.subject ≡ level → x.id.level ≡ level → session_at w.sessions x.id ≡ Some x →
+pub kept_sessions : (q : Place) (w : World) (level : ℕ) (x : Session) (slot sequence : ℕ) (kept : Stored) → q.session ≡ Some x.id.number → q.subject ≡ level → x.id.level ≡ level → session_at w.sessions x.id ≡ Some x →
     (done_to w (keep_result slot sequence kept q w)).sessions ≡ inserted session_order (keeping x slot sequence kept) w.sessions
 kept_sessions q w level x slot sequence kept stands subject own there =
     let row : SlotRow = record { sequence = sequence; kept = Some kept } in

@@ -42,7 +42,7 @@ pub chosen_true : {A : Type 0} (b : Bool) (x y : A) → b ≡ true → cond b x 
 chosen_true true x y e = refl
 chosen_true false x y e = absurd (grind arith)
 
-chosen_false : {A : Type 0} (b : Bool) (x y : A) → b ≡ false → cond b x y ≡ y
+pub chosen_false : {A : Type 0} (b : Bool) (x y : A) → b ≡ false → cond b x y ≡ y
 chosen_false true x y e = absurd (grind arith)
 chosen_false false x y e = refl
 
@@ -135,12 +135,12 @@ module _ (X : Extra) (site : Site) (sent : Sent) (c : Compound) where
 -- ---- a CREATE_SESSION
 
 module _ (X : Extra) (site : Site) (sent : Sent) (c : Compound) where
-  created_from : CreateSession → List Op → Both X.Row → Outcome Reply → Ran (Both X.Row)
+  unfoldable pub created_from : CreateSession → List Op → Both X.Row → Outcome Reply → Ran (Both X.Row)
   created_from args rest b o =
       followed [] (ops.CreateSession args) o.place (both (done_to b.world o) b.own) o.answer
       (λ results. run_behind (operation X site sent c) results rest o.place (both (done_to b.world o) b.own))
 
-  by_created : (level : ℕ) (moment : Moment) (b : Both X.Row) (args : CreateSession) (rest : List Op) → c.minor ≡ 2 → c.count ≡ 1 → c.ops ≡ ops.CreateSession args ∷ rest → run_all (operation X site sent c) c (begins_at level moment) b ≡ created_from args rest b (create_session_in sent args (begins_at level moment) b.world)
+  pub by_created : (level : ℕ) (moment : Moment) (b : Both X.Row) (args : CreateSession) (rest : List Op) → c.minor ≡ 2 → c.count ≡ 1 → c.ops ≡ ops.CreateSession args ∷ rest → run_all (operation X site sent c) c (begins_at level moment) b ≡ created_from args rest b (create_session_in sent args (begins_at level moment) b.world)
   unfolding run_behind created_from
   by_created level moment b args rest minor count is =
       let p = begins_at level moment in

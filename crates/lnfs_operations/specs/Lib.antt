@@ -40,4 +40,5 @@ pub mod Served
 pub mod SlotRule
 pub mod Retries
 pub mod Accepted
+pub mod Came
 pub mod Bounded

@@ -58,154 +58,243 @@ use crate::extra::ExtraRows;
 
 /// EXCHANGE_ID looks only at what its subject sees and changes only rows of its subject's level.
 pub fn exchange_id_is_lawful()
-    ensures view { (dom : ℕ → ℕ → Bool) → IsPreorderWithBottom dom → (args : Arguments) → View dom (exchange_id args) }
-    ensures footprint { (dom : ℕ → ℕ → Bool) → IsPreorderWithBottom dom → (args : Arguments) → Footprint dom (exchange_id args) }
+    ensures view { (dom : ℕ → ℕ → Bool) → IsPreorderWithBottom dom → (args : Arguments) →
+        View dom (exchange_id args) }
+    ensures footprint { (dom : ℕ → ℕ → Bool) → IsPreorderWithBottom dom → (args : Arguments) →
+        Footprint dom (exchange_id args) }
 {}
 
 /// Each operation on sessions and on the clients behind them looks only at what its subject sees and
 /// changes only rows of its subject's level.
 pub fn session_operations_are_lawful()
-    ensures create_session_view { (dom : ℕ → ℕ → Bool) → IsPreorderWithBottom dom → (args : CreateSession) (arguments : List ℕ) → View dom (create_session args arguments) }
-    ensures create_session_footprint { (dom : ℕ → ℕ → Bool) (args : CreateSession) (arguments : List ℕ) → Footprint dom (create_session args arguments) }
-    ensures destroy_session_view { (dom : ℕ → ℕ → Bool) → IsPreorderWithBottom dom → (session : List ℕ) → View dom (destroy_session session) }
-    ensures destroy_session_footprint { (dom : ℕ → ℕ → Bool) (session : List ℕ) → Footprint dom (destroy_session session) }
-    ensures sequence_view { (dom : ℕ → ℕ → Bool) → IsPreorderWithBottom dom → (args : Sequence) (sent : Sent) → View dom (sequence args sent) }
-    ensures sequence_footprint { (dom : ℕ → ℕ → Bool) (args : Sequence) (sent : Sent) → Footprint dom (sequence args sent) }
-    ensures destroy_clientid_view { (dom : ℕ → ℕ → Bool) → IsPreorderWithBottom dom → (client : ℕ) → View dom (destroy_clientid client) }
-    ensures destroy_clientid_footprint { (dom : ℕ → ℕ → Bool) (client : ℕ) → Footprint dom (destroy_clientid client) }
-    ensures reclaim_complete_view { (dom : ℕ → ℕ → Bool) → IsPreorderWithBottom dom → (one_fs : Bool) → View dom (reclaim_complete one_fs) }
-    ensures reclaim_complete_footprint { (dom : ℕ → ℕ → Bool) (one_fs : Bool) → Footprint dom (reclaim_complete one_fs) }
+    ensures create_session_view { (dom : ℕ → ℕ → Bool) → IsPreorderWithBottom dom →
+        (args : CreateSession) (arguments : List ℕ) → View dom (create_session args arguments) }
+    ensures create_session_footprint { (dom : ℕ → ℕ →
+        Bool) (args : CreateSession) (arguments : List ℕ) →
+        Footprint dom (create_session args arguments) }
+    ensures destroy_session_view { (dom : ℕ → ℕ → Bool) → IsPreorderWithBottom dom →
+        (session : List ℕ) → View dom (destroy_session session) }
+    ensures destroy_session_footprint { (dom : ℕ → ℕ → Bool) (session : List ℕ) →
+        Footprint dom (destroy_session session) }
+    ensures sequence_view { (dom : ℕ → ℕ → Bool) → IsPreorderWithBottom dom →
+        (args : Sequence) (sent : Sent) → View dom (sequence args sent) }
+    ensures sequence_footprint { (dom : ℕ → ℕ → Bool) (args : Sequence) (sent : Sent) →
+        Footprint dom (sequence args sent) }
+    ensures destroy_clientid_view { (dom : ℕ → ℕ → Bool) → IsPreorderWithBottom dom → (client : ℕ) →
+        View dom (destroy_clientid client) }
+    ensures destroy_clientid_footprint { (dom : ℕ → ℕ → Bool) (client : ℕ) →
+        Footprint dom (destroy_clientid client) }
+    ensures reclaim_complete_view { (dom : ℕ → ℕ → Bool) → IsPreorderWithBottom dom →
+        (one_fs : Bool) → View dom (reclaim_complete one_fs) }
+    ensures reclaim_complete_footprint { (dom : ℕ → ℕ → Bool) (one_fs : Bool) →
+        Footprint dom (reclaim_complete one_fs) }
 {}
 
 /// The keeping of a COMPOUND's result in its slot, and of a CREATE_SESSION's answer in the record of its
 /// client, looks only at what its subject sees and changes only rows of its subject's level.
 pub fn keeping_is_lawful()
-    ensures result_view { (dom : ℕ → ℕ → Bool) → IsPreorderWithBottom dom → (slot sequence : ℕ) (kept : Kept) → View dom (keep_result slot sequence kept) }
-    ensures result_footprint { (dom : ℕ → ℕ → Bool) (slot sequence : ℕ) (kept : Kept) → Footprint dom (keep_result slot sequence kept) }
-    ensures created_view { (dom : ℕ → ℕ → Bool) → IsPreorderWithBottom dom → (client : ℕ) (kept : Kept) → View dom (keep_created client kept) }
-    ensures created_footprint { (dom : ℕ → ℕ → Bool) (client : ℕ) (kept : Kept) → Footprint dom (keep_created client kept) }
+    ensures result_view { (dom : ℕ → ℕ → Bool) → IsPreorderWithBottom dom →
+        (slot sequence : ℕ) (kept : Kept) → View dom (keep_result slot sequence kept) }
+    ensures result_footprint { (dom : ℕ → ℕ → Bool) (slot sequence : ℕ) (kept : Kept) →
+        Footprint dom (keep_result slot sequence kept) }
+    ensures created_view { (dom : ℕ → ℕ → Bool) → IsPreorderWithBottom dom →
+        (client : ℕ) (kept : Kept) → View dom (keep_created client kept) }
+    ensures created_footprint { (dom : ℕ → ℕ → Bool) (client : ℕ) (kept : Kept) →
+        Footprint dom (keep_created client kept) }
 {}
 
 /// Each operation that reads file handles, names, attributes and links looks only at what its subject sees, so
 /// at nothing of the content of a node that it may not read, and changes only what is of the subject's level.
 pub fn reading_is_lawful()
-    ensures put_fh_view { (site : Site) → IsPreorderWithBottom site.dom → (handle : List ℕ) → View site.dom (put_fh site handle) }
-    ensures put_fh_footprint { (site : Site) → IsPreorderWithBottom site.dom → (handle : List ℕ) → Footprint site.dom (put_fh site handle) }
-    ensures put_root_fh_view { (site : Site) → IsPreorderWithBottom site.dom → View site.dom put_root_fh }
-    ensures put_root_fh_footprint { (site : Site) → IsPreorderWithBottom site.dom → Footprint site.dom put_root_fh }
+    ensures put_fh_view { (site : Site) → IsPreorderWithBottom site.dom → (handle : List ℕ) →
+        View site.dom (put_fh site handle) }
+    ensures put_fh_footprint { (site : Site) → IsPreorderWithBottom site.dom → (handle : List ℕ) →
+        Footprint site.dom (put_fh site handle) }
+    ensures put_root_fh_view { (site : Site) → IsPreorderWithBottom site.dom →
+        View site.dom put_root_fh }
+    ensures put_root_fh_footprint { (site : Site) → IsPreorderWithBottom site.dom →
+        Footprint site.dom put_root_fh }
     ensures get_fh_view { (site : Site) → IsPreorderWithBottom site.dom → View site.dom get_fh }
-    ensures get_fh_footprint { (site : Site) → IsPreorderWithBottom site.dom → Footprint site.dom get_fh }
+    ensures get_fh_footprint { (site : Site) → IsPreorderWithBottom site.dom →
+        Footprint site.dom get_fh }
     ensures save_fh_view { (site : Site) → IsPreorderWithBottom site.dom → View site.dom save_fh }
-    ensures save_fh_footprint { (site : Site) → IsPreorderWithBottom site.dom → Footprint site.dom save_fh }
-    ensures restore_fh_view { (site : Site) → IsPreorderWithBottom site.dom → View site.dom restore_fh }
-    ensures restore_fh_footprint { (site : Site) → IsPreorderWithBottom site.dom → Footprint site.dom restore_fh }
-    ensures lookup_view { (site : Site) → IsPreorderWithBottom site.dom → (name : List ℕ) → View site.dom (lookup site name) }
-    ensures lookup_footprint { (site : Site) → IsPreorderWithBottom site.dom → (name : List ℕ) → Footprint site.dom (lookup site name) }
-    ensures lookup_parent_view { (site : Site) → IsPreorderWithBottom site.dom → View site.dom (lookup_parent site) }
-    ensures lookup_parent_footprint { (site : Site) → IsPreorderWithBottom site.dom → Footprint site.dom (lookup_parent site) }
-    ensures access_view { (site : Site) → IsPreorderWithBottom site.dom → (bits : ℕ) → View site.dom (access site bits) }
-    ensures access_footprint { (site : Site) → IsPreorderWithBottom site.dom → (bits : ℕ) → Footprint site.dom (access site bits) }
-    ensures read_link_view { (site : Site) → IsPreorderWithBottom site.dom → View site.dom (read_link site) }
-    ensures read_link_footprint { (site : Site) → IsPreorderWithBottom site.dom → Footprint site.dom (read_link site) }
-    ensures get_attr_view { (site : Site) → IsPreorderWithBottom site.dom → (asked : Bitmap) → View site.dom (get_attr site asked) }
-    ensures get_attr_footprint { (site : Site) → IsPreorderWithBottom site.dom → (asked : Bitmap) → Footprint site.dom (get_attr site asked) }
-    ensures verify_view { (site : Site) → IsPreorderWithBottom site.dom → (given : RawAttrs) → View site.dom (verify site given) }
-    ensures verify_footprint { (site : Site) → IsPreorderWithBottom site.dom → (given : RawAttrs) → Footprint site.dom (verify site given) }
-    ensures nverify_view { (site : Site) → IsPreorderWithBottom site.dom → (given : RawAttrs) → View site.dom (nverify site given) }
-    ensures nverify_footprint { (site : Site) → IsPreorderWithBottom site.dom → (given : RawAttrs) → Footprint site.dom (nverify site given) }
-    ensures read_dir_view { (site : Site) → IsPreorderWithBottom site.dom → (args : Listing) → View site.dom (read_dir site args) }
-    ensures read_dir_footprint { (site : Site) → IsPreorderWithBottom site.dom → (args : Listing) → Footprint site.dom (read_dir site args) }
+    ensures save_fh_footprint { (site : Site) → IsPreorderWithBottom site.dom →
+        Footprint site.dom save_fh }
+    ensures restore_fh_view { (site : Site) → IsPreorderWithBottom site.dom →
+        View site.dom restore_fh }
+    ensures restore_fh_footprint { (site : Site) → IsPreorderWithBottom site.dom →
+        Footprint site.dom restore_fh }
+    ensures lookup_view { (site : Site) → IsPreorderWithBottom site.dom → (name : List ℕ) →
+        View site.dom (lookup site name) }
+    ensures lookup_footprint { (site : Site) → IsPreorderWithBottom site.dom → (name : List ℕ) →
+        Footprint site.dom (lookup site name) }
+    ensures lookup_parent_view { (site : Site) → IsPreorderWithBottom site.dom →
+        View site.dom (lookup_parent site) }
+    ensures lookup_parent_footprint { (site : Site) → IsPreorderWithBottom site.dom →
+        Footprint site.dom (lookup_parent site) }
+    ensures access_view { (site : Site) → IsPreorderWithBottom site.dom → (bits : ℕ) →
+        View site.dom (access site bits) }
+    ensures access_footprint { (site : Site) → IsPreorderWithBottom site.dom → (bits : ℕ) →
+        Footprint site.dom (access site bits) }
+    ensures read_link_view { (site : Site) → IsPreorderWithBottom site.dom →
+        View site.dom (read_link site) }
+    ensures read_link_footprint { (site : Site) → IsPreorderWithBottom site.dom →
+        Footprint site.dom (read_link site) }
+    ensures get_attr_view { (site : Site) → IsPreorderWithBottom site.dom → (asked : Bitmap) →
+        View site.dom (get_attr site asked) }
+    ensures get_attr_footprint { (site : Site) → IsPreorderWithBottom site.dom → (asked : Bitmap) →
+        Footprint site.dom (get_attr site asked) }
+    ensures verify_view { (site : Site) → IsPreorderWithBottom site.dom → (given : RawAttrs) →
+        View site.dom (verify site given) }
+    ensures verify_footprint { (site : Site) → IsPreorderWithBottom site.dom → (given : RawAttrs) →
+        Footprint site.dom (verify site given) }
+    ensures nverify_view { (site : Site) → IsPreorderWithBottom site.dom → (given : RawAttrs) →
+        View site.dom (nverify site given) }
+    ensures nverify_footprint { (site : Site) → IsPreorderWithBottom site.dom → (given : RawAttrs) →
+        Footprint site.dom (nverify site given) }
+    ensures read_dir_view { (site : Site) → IsPreorderWithBottom site.dom → (args : Listing) →
+        View site.dom (read_dir site args) }
+    ensures read_dir_footprint { (site : Site) → IsPreorderWithBottom site.dom → (args : Listing) →
+        Footprint site.dom (read_dir site args) }
 {}
 
 /// CREATE and SETATTR look only at what their subject sees, and change only directories and nodes whose label
 /// is the subject's level; what is made has its home there.
 pub fn making_is_lawful()
-    ensures create_view { (site : Site) → IsPreorderWithBottom site.dom → (what : What) (name : List ℕ) (given : RawAttrs) → View site.dom (create site what name given) }
-    ensures create_footprint { (site : Site) → IsPreorderWithBottom site.dom → (what : What) (name : List ℕ) (given : RawAttrs) → Footprint site.dom (create site what name given) }
-    ensures set_attr_view { (site : Site) → IsPreorderWithBottom site.dom → (id : StateId) (given : RawAttrs) → View site.dom (set_attr site id given) }
-    ensures set_attr_footprint { (site : Site) → IsPreorderWithBottom site.dom → (id : StateId) (given : RawAttrs) → Footprint site.dom (set_attr site id given) }
+    ensures create_view { (site : Site) → IsPreorderWithBottom site.dom →
+        (what : What) (name : List ℕ) (given : RawAttrs) →
+        View site.dom (create site what name given) }
+    ensures create_footprint { (site : Site) → IsPreorderWithBottom site.dom →
+        (what : What) (name : List ℕ) (given : RawAttrs) →
+        Footprint site.dom (create site what name given) }
+    ensures set_attr_view { (site : Site) → IsPreorderWithBottom site.dom →
+        (id : StateId) (given : RawAttrs) → View site.dom (set_attr site id given) }
+    ensures set_attr_footprint { (site : Site) → IsPreorderWithBottom site.dom →
+        (id : StateId) (given : RawAttrs) → Footprint site.dom (set_attr site id given) }
 {}
 
 /// Each operation that gives, takes out and moves names looks only at what its subject sees and changes only what is of
 /// the subject's level.
 pub fn naming_is_lawful()
-    ensures link_view { (site : Site) → IsPreorderWithBottom site.dom → (name : List ℕ) → View site.dom (link site name) }
-    ensures link_footprint { (site : Site) → IsPreorderWithBottom site.dom → (name : List ℕ) → Footprint site.dom (link site name) }
-    ensures remove_view { (site : Site) → IsPreorderWithBottom site.dom → (name : List ℕ) → View site.dom (remove site name) }
-    ensures remove_footprint { (site : Site) → IsPreorderWithBottom site.dom → (name : List ℕ) → Footprint site.dom (remove site name) }
-    ensures rename_view { (site : Site) → IsPreorderWithBottom site.dom → (old new : List ℕ) → View site.dom (rename site old new) }
-    ensures rename_footprint { (site : Site) → IsPreorderWithBottom site.dom → (old new : List ℕ) → Footprint site.dom (rename site old new) }
+    ensures link_view { (site : Site) → IsPreorderWithBottom site.dom → (name : List ℕ) →
+        View site.dom (link site name) }
+    ensures link_footprint { (site : Site) → IsPreorderWithBottom site.dom → (name : List ℕ) →
+        Footprint site.dom (link site name) }
+    ensures remove_view { (site : Site) → IsPreorderWithBottom site.dom → (name : List ℕ) →
+        View site.dom (remove site name) }
+    ensures remove_footprint { (site : Site) → IsPreorderWithBottom site.dom → (name : List ℕ) →
+        Footprint site.dom (remove site name) }
+    ensures rename_view { (site : Site) → IsPreorderWithBottom site.dom → (old new : List ℕ) →
+        View site.dom (rename site old new) }
+    ensures rename_footprint { (site : Site) → IsPreorderWithBottom site.dom → (old new : List ℕ) →
+        Footprint site.dom (rename site old new) }
 {}
 
 /// Each operation on files and their opens looks only at what its subject sees, so at no open of a level that it doesn't
 /// dominate, and changes only files whose label is the subject's level and opens of that level.
 pub fn files_are_lawful()
-    ensures open_view { (site : Site) → IsPreorderWithBottom site.dom → (args : Opening) → View site.dom (open_file site args) }
-    ensures open_footprint { (site : Site) → IsPreorderWithBottom site.dom → (args : Opening) → Footprint site.dom (open_file site args) }
-    ensures close_view { (site : Site) → IsPreorderWithBottom site.dom → (id : StateId) → View site.dom (close id) }
-    ensures close_footprint { (site : Site) → IsPreorderWithBottom site.dom → (id : StateId) → Footprint site.dom (close id) }
-    ensures read_view { (site : Site) → IsPreorderWithBottom site.dom → (args : Reading) → View site.dom (read site args) }
-    ensures read_footprint { (site : Site) → IsPreorderWithBottom site.dom → (args : Reading) → Footprint site.dom (read site args) }
-    ensures write_view { (site : Site) → IsPreorderWithBottom site.dom → (args : Writing) → View site.dom (write site args) }
-    ensures write_footprint { (site : Site) → IsPreorderWithBottom site.dom → (args : Writing) → Footprint site.dom (write site args) }
-    ensures commit_view { (site : Site) → IsPreorderWithBottom site.dom → View site.dom (commit site) }
-    ensures commit_footprint { (site : Site) → IsPreorderWithBottom site.dom → Footprint site.dom (commit site) }
+    ensures open_view { (site : Site) → IsPreorderWithBottom site.dom → (args : Opening) →
+        View site.dom (open_file site args) }
+    ensures open_footprint { (site : Site) → IsPreorderWithBottom site.dom → (args : Opening) →
+        Footprint site.dom (open_file site args) }
+    ensures close_view { (site : Site) → IsPreorderWithBottom site.dom → (id : StateId) →
+        View site.dom (close id) }
+    ensures close_footprint { (site : Site) → IsPreorderWithBottom site.dom → (id : StateId) →
+        Footprint site.dom (close id) }
+    ensures read_view { (site : Site) → IsPreorderWithBottom site.dom → (args : Reading) →
+        View site.dom (read site args) }
+    ensures read_footprint { (site : Site) → IsPreorderWithBottom site.dom → (args : Reading) →
+        Footprint site.dom (read site args) }
+    ensures write_view { (site : Site) → IsPreorderWithBottom site.dom → (args : Writing) →
+        View site.dom (write site args) }
+    ensures write_footprint { (site : Site) → IsPreorderWithBottom site.dom → (args : Writing) →
+        Footprint site.dom (write site args) }
+    ensures commit_view { (site : Site) → IsPreorderWithBottom site.dom →
+        View site.dom (commit site) }
+    ensures commit_footprint { (site : Site) → IsPreorderWithBottom site.dom →
+        Footprint site.dom (commit site) }
 {}
 
 /// Each operation behind the results so far of its COMPOUND keeps the two laws of erasure, and what has to stand of world and
 /// place.
 pub fn operations_are_lawful<X: ExtraRows>()
-    ensures { (site : Site) → IsPreorderWithBottom site.dom → (sent : Sent) (c : Compound) (so_far : List OpResult) (op : Op) →
-        Lawful site.dom (both_seen X.extra.level_of site.dom) (BothStand X.extra.Fact site.dom) (operation X.extra site sent c so_far op) }
+    ensures { (site : Site) → IsPreorderWithBottom site.dom →
+        (sent : Sent) (c : Compound) (so_far : List OpResult) (op : Op) →
+        Lawful site.dom (both_seen X.extra.level_of site.dom) (BothStand X.extra.Fact site.dom)
+        (operation X.extra site sent c so_far op) }
 {}
 
 /// Each COMPOUND under the slot rule, with the keeping of its result, keeps the two laws of erasure, and
 /// what has to stand of world and place.
 pub fn compounds_are_lawful<X: ExtraRows>()
     ensures { (site : Site) → IsPreorderWithBottom site.dom → (sent : Sent) (c : Compound) →
-        Lawful site.dom (both_seen X.extra.level_of site.dom) (BothStand X.extra.Fact site.dom) (served X.extra site sent c) }
+        Lawful site.dom (both_seen X.extra.level_of site.dom) (BothStand X.extra.Fact site.dom)
+        (served X.extra site sent c) }
 {}
 
 /// A COMPOUND that comes again on its slot gets the result that is kept there, and the world stays
 /// (RFC 8881 section 2.10.6.1).
 pub fn retries_are_answered_again<X: ExtraRows>()
-    ensures kept { (site : Site) (sent : Sent) (c : Compound) (level : ℕ) (moment : Moment) (b : Both X.extra.Row) (args : Sequence) (rest : List Op) (x : Session) (slot : Slot) (reply : List ℕ) →
-        c.minor ≡ 2 → c.ops ≡ ops.Sequence args ∷ rest → IsSent X.extra.grammar sent c → AllAccepted X.extra.grammar b.world →
+    ensures kept { (site : Site) (sent : Sent) (c : Compound) (level : ℕ) (moment : Moment)
+        (b : Both X.extra.Row) (args : Sequence) (rest : List Op) (x : Session) (slot : Slot)
+        (reply : List ℕ) →
+        c.minor ≡ 2 → c.ops ≡ ops.Sequence args ∷ rest → IsSent X.extra.grammar sent c →
+        AllAccepted X.extra.grammar b.world →
         Names level b.world args sent x slot →
-        slot ≡ record { sequence = args.sequence; kept = Some (record { arguments = sent.arguments; reply = reply }) } →
-        served X.extra site sent c (begins_at level moment) b ≡ record { answer = record { result = reply; denial = None }; place = begins_at level moment; state = b } }
+        slot
+        ≡ record { sequence = args.sequence; kept = Some (record { arguments = sent.arguments; reply = reply }) } →
+        served X.extra site sent c (begins_at level moment) b
+        ≡ record { answer = record { result = reply; denial = None }; place = begins_at level moment; state = b } }
     // So does a CREATE_SESSION under the last sequence of its client's record (RFC 8881 section 18.36.4).
-    ensures created { (site : Site) (sent : Sent) (c : Compound) (level : ℕ) (moment : Moment) (b : Both X.extra.Row) (args : CreateSession) (rest : List Op) (client : Client) (reply : List ℕ) →
+    ensures created { (site : Site) (sent : Sent) (c : Compound) (level : ℕ) (moment : Moment)
+        (b : Both X.extra.Row) (args : CreateSession) (rest : List Op) (client : Client)
+        (reply : List ℕ) →
         c.minor ≡ 2 → c.count ≡ 1 → c.ops ≡ ops.CreateSession args ∷ rest →
-        (client_named args.client).level ≡ level → client_at b.world.clients (client_named args.client) ≡ Some client →
-        args.sequence ≡ sequence_before client.sequence → client.kept ≡ Some (record { arguments = sent.arguments; reply = reply }) →
-        served X.extra site sent c (begins_at level moment) b ≡ record { answer = record { result = reply; denial = None }; place = begins_at level moment; state = b } }
+        (client_named args.client).level ≡ level →
+        client_at b.world.clients (client_named args.client) ≡ Some client →
+        args.sequence ≡ sequence_before client.sequence →
+        client.kept ≡ Some (record { arguments = sent.arguments; reply = reply }) →
+        served X.extra site sent c (begins_at level moment) b
+        ≡ record { answer = record { result = reply; denial = None }; place = begins_at level moment; state = b } }
     // A new COMPOUND under the next sequence of its slot, of no more operations than its session grants, acts once:
     // with the same arguments it gets its first result, and leaves what the first one left.
-    ensures once { (site : Site) → IsPreorderWithBottom site.dom → (sent again : Sent) (c : Compound) (level : ℕ) (moment later : Moment) (b : Both X.extra.Row) (args : Sequence) (rest : List Op) (x : Session) (slot : Slot) →
-        BothStand X.extra.Fact site.dom (begins_at level moment) b → c.minor ≡ 2 → c.ops ≡ ops.Sequence args ∷ rest →
-        Names level b.world args sent x slot → sent.count ≤ x.channel.max_operations → args.sequence ≡ next_sequence slot.sequence →
-        again.arguments ≡ sent.arguments → again.size ≤ x.channel.max_request → again.count ≤ x.channel.max_operations →
+    ensures once { (site : Site) → IsPreorderWithBottom site.dom →
+        (sent again : Sent) (c : Compound) (level : ℕ) (moment later : Moment)
+        (b : Both X.extra.Row) (args : Sequence) (rest : List Op) (x : Session) (slot : Slot) →
+        BothStand X.extra.Fact site.dom (begins_at level moment) b → c.minor ≡ 2 →
+        c.ops ≡ ops.Sequence args ∷ rest →
+        Names level b.world args sent x slot → sent.count ≤ x.channel.max_operations →
+        args.sequence ≡ next_sequence slot.sequence →
+        again.arguments ≡ sent.arguments → again.size ≤ x.channel.max_request →
+        again.count ≤ x.channel.max_operations →
         let first = served X.extra site sent c (begins_at level moment) b in
         served X.extra site again c (begins_at level later) first.state
         ≡ record { answer = record { result = first.answer.result; denial = None }; place = begins_at level later; state = first.state } }
     // So does a CREATE_SESSION under the next sequence of its client's record, be it granted or refused.
-    ensures created_once { (site : Site) (sent again : Sent) (c : Compound) (level : ℕ) (moment later : Moment) (b : Both X.extra.Row) (args : CreateSession) (client : Client) →
+    ensures created_once { (site : Site) (sent again : Sent) (c : Compound) (level : ℕ)
+        (moment later : Moment) (b : Both X.extra.Row) (args : CreateSession) (client : Client) →
         c.minor ≡ 2 → c.count ≡ 1 → c.ops ≡ ops.CreateSession args ∷ [] →
-        (client_named args.client).level ≡ level → client_at b.world.clients (client_named args.client) ≡ Some client →
+        (client_named args.client).level ≡ level →
+        client_at b.world.clients (client_named args.client) ≡ Some client →
         args.sequence ≡ client.sequence → again.arguments ≡ sent.arguments →
         let first = served X.extra site sent c (begins_at level moment) b in
         served X.extra site again c (begins_at level later) first.state
         ≡ record { answer = record { result = first.answer.result; denial = None }; place = begins_at level later; state = first.state } }
     // A COMPOUND that counts more operations than its session grants is refused each time that it comes, and changes
     // nothing (RFC 8881 section 18.36.3).
-    ensures refused { (site : Site) (sent : Sent) (c : Compound) (level : ℕ) (moment : Moment) (b : Both X.extra.Row) (args : Sequence) (rest : List Op) (x : Session) (slot : Slot) →
-        c.minor ≡ 2 → c.ops ≡ ops.Sequence args ∷ rest → Names level b.world args sent x slot → x.channel.max_operations < sent.count →
-        served X.extra site sent c (begins_at level moment) b ≡ record { answer = too_many c args; place = begins_at level moment; state = b } }
+    ensures refused { (site : Site) (sent : Sent) (c : Compound) (level : ℕ) (moment : Moment)
+        (b : Both X.extra.Row) (args : Sequence) (rest : List Op) (x : Session) (slot : Slot) →
+        c.minor ≡ 2 → c.ops ≡ ops.Sequence args ∷ rest → Names level b.world args sent x slot →
+        x.channel.max_operations < sent.count →
+        served X.extra site sent c (begins_at level moment) b
+        ≡ record { answer = too_many c args; place = begins_at level moment; state = b } }
     // So what a slot keeps was accepted: its arguments are read as a COMPOUND of no more operations than the session grants.
-    ensures accepted { (site : Site) → IsPreorderWithBottom site.dom → SpellsShortly site → (sent : Sent) (c : Compound) (level : ℕ) (moment : Moment) (b : Both X.extra.Row) →
-        BothStand X.extra.Fact site.dom (begins_at level moment) b → Sizes b.world → IsRead c → IsSent X.extra.grammar sent c → AllAccepted X.extra.grammar b.world →
-        AllAccepted X.extra.grammar (served X.extra site sent c (begins_at level moment) b).state.world }
+    ensures accepted { (site : Site) → IsPreorderWithBottom site.dom → SpellsShortly site →
+        (sent : Sent) (c : Compound) (level : ℕ) (moment : Moment) (b : Both X.extra.Row) →
+        BothStand X.extra.Fact site.dom (begins_at level moment) b → Sizes b.world → IsRead c →
+        IsSent X.extra.grammar sent c → AllAccepted X.extra.grammar b.world →
+        AllAccepted X.extra.grammar (served X.extra site sent c (begins_at level moment)
+        b).state.world }
 {}
 
 /// The result of each operation behind the results so far of its COMPOUND is no longer than its bound, by which the
@@ -213,10 +302,14 @@ pub fn retries_are_answered_again<X: ExtraRows>()
 /// refused has at most 12 bytes. So it is where world and place stand, labels are short, and what is stored keeps
 /// its limits. These are kept behind each operation, so that the next one finds them.
 pub fn results_are_bounded<X: ExtraRows>()
-    ensures bounded { (site : Site) → IsPreorderWithBottom site.dom → SpellsShortly site → (sent : Sent) (c : Compound) (so_far : List OpResult) (op : Op) (p : Place) (b : Both X.extra.Row) →
+    ensures bounded { (site : Site) → IsPreorderWithBottom site.dom → SpellsShortly site →
+        (sent : Sent) (c : Compound) (so_far : List OpResult) (op : Op) (p : Place)
+        (b : Both X.extra.Row) →
         BothStand X.extra.Fact site.dom p b → Sizes b.world →
         IsBounded X.extra.grammar op (operation X.extra site sent c so_far op p b).answer }
-    ensures kept { (site : Site) → IsPreorderWithBottom site.dom → SpellsShortly site → (sent : Sent) (c : Compound) (so_far : List OpResult) (op : Op) (p : Place) (b : Both X.extra.Row) →
+    ensures kept { (site : Site) → IsPreorderWithBottom site.dom → SpellsShortly site →
+        (sent : Sent) (c : Compound) (so_far : List OpResult) (op : Op) (p : Place)
+        (b : Both X.extra.Row) →
         BothStand X.extra.Fact site.dom p b → Sizes b.world →
         let t = operation X.extra site sent c so_far op p b in
         BothStand X.extra.Fact site.dom t.place t.state × Sizes t.state.world }
@@ -225,40 +318,51 @@ pub fn results_are_bounded<X: ExtraRows>()
 /// The result of a new COMPOUND on an accepted slot leaves room in a response of its session for the largest
 /// wrapping in an RPC message (RFC 8881 section 2.10.6.4).
 pub fn results_leave_room<X: ExtraRows>()
-    ensures { (site : Site) → IsPreorderWithBottom site.dom → SpellsShortly site → (sent : Sent) (c : Compound) (level : ℕ) (moment : Moment) (b : Both X.extra.Row) (args : Sequence) (rest : List Op) (x : Session) (slot : Slot) →
-        BothStand X.extra.Fact site.dom (begins_at level moment) b → Sizes b.world → c.minor ≡ 2 → c.ops ≡ ops.Sequence args ∷ rest →
+    ensures { (site : Site) → IsPreorderWithBottom site.dom → SpellsShortly site →
+        (sent : Sent) (c : Compound) (level : ℕ) (moment : Moment) (b : Both X.extra.Row)
+        (args : Sequence) (rest : List Op) (x : Session) (slot : Slot) →
+        BothStand X.extra.Fact site.dom (begins_at level moment) b → Sizes b.world → c.minor ≡ 2 →
+        c.ops ≡ ops.Sequence args ∷ rest →
         Names level b.world args sent x slot → args.sequence ≡ next_sequence slot.sequence →
         length c.tag ≤ 1024 → LEAST_SIZE ≤ x.channel.max_response →
-        length (served X.extra site sent c (begins_at level moment) b).answer.result + LARGEST_WRAPPING ≤ x.channel.max_response }
+        length (served X.extra site sent c (begins_at level moment) b).answer.result
+        + LARGEST_WRAPPING ≤ x.channel.max_response }
 {}
 
 /// Whatever COMPOUND that was read is served, what sessions grant, the lengths of kept results, stored labels and
 /// the texts of links stay within the limits of the server, and with its wrapping each result has at most the
 /// greatest size of a response.
 pub fn sizes_are_kept<X: ExtraRows>()
-    ensures kept { (site : Site) → IsPreorderWithBottom site.dom → SpellsShortly site → (sent : Sent) (c : Compound) (level : ℕ) (moment : Moment) (b : Both X.extra.Row) →
+    ensures kept { (site : Site) → IsPreorderWithBottom site.dom → SpellsShortly site →
+        (sent : Sent) (c : Compound) (level : ℕ) (moment : Moment) (b : Both X.extra.Row) →
         BothStand X.extra.Fact site.dom (begins_at level moment) b → Sizes b.world → IsRead c →
         Sizes (served X.extra site sent c (begins_at level moment) b).state.world }
-    ensures short { (site : Site) → IsPreorderWithBottom site.dom → SpellsShortly site → (sent : Sent) (c : Compound) (level : ℕ) (moment : Moment) (b : Both X.extra.Row) →
+    ensures short { (site : Site) → IsPreorderWithBottom site.dom → SpellsShortly site →
+        (sent : Sent) (c : Compound) (level : ℕ) (moment : Moment) (b : Both X.extra.Row) →
         BothStand X.extra.Fact site.dom (begins_at level moment) b → Sizes b.world → IsRead c →
-        length (served X.extra site sent c (begins_at level moment) b).answer.result + LARGEST_WRAPPING ≤ MOST_SIZE }
+        length (served X.extra site sent c (begins_at level moment) b).answer.result
+        + LARGEST_WRAPPING ≤ MOST_SIZE }
 {}
 
 /// Whatever COMPOUND is served, labels go up alone: a node that stands before and after has a label afterwards that
 /// dominates the one that it had.
 pub fn labels_rise<X: ExtraRows>()
-    ensures { (site : Site) → IsPreorderWithBottom site.dom → (sent : Sent) (c : Compound) (level : ℕ) (moment : Moment) (b : Both X.extra.Row) →
+    ensures { (site : Site) → IsPreorderWithBottom site.dom →
+        (sent : Sent) (c : Compound) (level : ℕ) (moment : Moment) (b : Both X.extra.Row) →
         BothStand X.extra.Fact site.dom (begins_at level moment) b →
-        LabelsRise site.dom b.world (served X.extra site sent c (begins_at level moment) b).state.world }
+        LabelsRise site.dom b.world (served X.extra site sent c (begins_at level moment)
+        b).state.world }
 {}
 
 /// A bitmap is that of the attributes that it has, and that of a test has those below 256 that pass. What is
 /// answered of a view that fits is within the limits of an answer.
 pub fn attributes_are_told()
     ensures itself { (b : Bitmap) → BitmapFits b → b ≡ bitmap_of (has_attr b) }
-    ensures told { (b : Bitmap) → BitmapFits b → (test : ℕ → Bool) → ((n : ℕ) → n < 256 → has_attr b n ≡ test n) → b ≡ bitmap_of test }
+    ensures told { (b : Bitmap) → BitmapFits b → (test : ℕ → Bool) →
+        ((n : ℕ) → n < 256 → has_attr b n ≡ test n) → b ≡ bitmap_of test }
     ensures has { (test : ℕ → Bool) (n : ℕ) → n < 256 → has_attr (bitmap_of test) n ≡ test n }
     ensures fits { (test : ℕ → Bool) → BitmapFits (bitmap_of test) }
-    ensures answer { (asked : Bitmap) (inner : Bool) (view : Shown) → ViewFits view → IsAnswer (answer_to asked inner view) }
+    ensures answer { (asked : Bitmap) (inner : Bool) (view : Shown) → ViewFits view →
+        IsAnswer (answer_to asked inner view) }
     ensures handle { (i : Id) → length (handle_of i) ≡ 12 }
 {}

@@ -1,14 +1,16 @@
 //! The operations of NFS 4.2 as definitions: for each its tests in order, what it answers and what
 //! it changes; the run of a COMPOUND over them and over further operations; and the laws that it tells
-//! a level nothing of what that level does not dominate.
+//! a level nothing of what that level does not dominate, and that a request acts by how it came.
 //!
 //! `numbers` has the limits and flags of the operations.
 #![tactic(auto)]
 
+mod came_laws;
 mod extra;
 mod laws;
 pub mod numbers;
 
+pub use came_laws::requests_act_by_how_they_came;
 pub use extra::ExtraRows;
 pub use laws::{
     attributes_are_told, compounds_are_lawful, exchange_id_is_lawful, files_are_lawful,
