@@ -34,7 +34,8 @@ pub fn insert(bits: &mut [u8; BITMAP_BYTES], comp: u16)
 
 /// The bitmap of the given compartments, which isn't there where one is above 255.
 pub fn bitmap_of(comps: &[u16]) -> Option<[u8; BITMAP_BYTES]>
-    ensures some { IfSome result (λ bits. (members bits ≡ compartments (has_comp comps.now)) × IsBitmap bits) }
+    ensures some { IfSome result (λ bits. (members bits ≡ compartments (has_comp comps.now))
+        × IsBitmap bits) }
     ensures below { OnSome result (All (λ c. c < COMPARTMENTS) comps.now) }
     ensures above { IfNone result (Any (λ c. COMPARTMENTS ≤ c) comps.now) }
 {

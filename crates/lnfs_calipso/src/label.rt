@@ -5,6 +5,7 @@ ghost use Rattle.lnfs_calipso.specs.Bitmap.{members, IsBitmap};
 use crate::bitmap::{BITMAP_BYTES, COMPARTMENTS, bitmap_of, covers, has, insert, same};
 use std::alloc::Global;
 use std::marker::Model;
+use thiserror::Error;
 
 /// A sensitivity label (RFC 5570 section 2): a domain of interpretation, a sensitivity and a set of
 /// compartments from 0 to 255.
@@ -32,11 +33,13 @@ impl Model for Label {
 }
 
 /// Why there is no label.
-#[derive(Clone, Copy, Debug, PartialEq, Eq)]
+#[derive(Clone, Copy, Debug, PartialEq, Eq, Error)]
 pub enum LabelError {
     /// A compartment is above 255.
+    #[error("a compartment is above 255")]
     BadCompartment,
     /// There is no memory.
+    #[error("out of memory")]
     Memory,
 }
 
@@ -49,7 +52,8 @@ impl Label {
     pub fn new(_alloc: Global, doi: u32, sens: u8, comps: &[u16]) -> Result<Label, LabelError>
         ensures ok { IfOk result (λ label. label ≡ labelled doi sens comps.now) }
         ensures below { OnOk result (All (λ c. c < COMPARTMENTS) comps.now) }
-        ensures above { IfErr result (λ e. (e ≡ LabelError.BadCompartment) × Any (λ c. COMPARTMENTS ≤ c) comps.now) }
+        ensures above { IfErr result (λ e. (e ≡ LabelError.BadCompartment)
+            × Any (λ c. COMPARTMENTS ≤ c) comps.now) }
     {
         match bitmap_of(comps) {
             Some(bits) => Ok(Label { doi, sens, bits }),
@@ -121,7 +125,7 @@ impl Label {
     }
 
     /// What holds of each label.
-    pub fn is_label(&self)
+    pub fn law_label(&self)
         ensures { IsLabel self.now }
     {
         let _doi = self.doi;

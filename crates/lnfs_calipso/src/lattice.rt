@@ -9,6 +9,7 @@ use crate::Level;
 use crate::label::Label;
 use std::alloc::{AllocError, Global};
 use std::marker::Model;
+use thiserror::Error;
 
 /// The largest number of levels of a site.
 pub const MAX_LEVELS: usize = 32;
@@ -32,15 +33,19 @@ impl Model for Lattice {
 }
 
 /// Why labels aren't those of levels.
-#[derive(Clone, Copy, Debug, PartialEq, Eq)]
+#[derive(Clone, Copy, Debug, PartialEq, Eq, Error)]
 pub enum LatticeError {
     /// The label at this place stands earlier too.
+    #[error("label {index} stands earlier too")]
     Twice { index: u32 },
     /// The label at this place doesn't dominate the first, or there is none at all.
+    #[error("label {index} does not dominate the first, or there is no label")]
     NoBottom { index: u32 },
     /// There are more than 32 labels.
+    #[error("there are more than 32 labels")]
     TooMany,
     /// There is no memory.
+    #[error("out of memory")]
     Memory,
 }
 
@@ -168,14 +173,14 @@ impl Lattice {
     }
 
     /// What holds of the labels of levels.
-    pub fn are_levels(&self)
+    pub fn law_levels(&self)
         ensures { AreLevels self.now }
     {
         let _labels = &self.labels;
     }
 
     /// Dominance of levels is a preorder, with level 0 below all of them.
-    pub fn is_preordered(&self)
+    pub fn law_preorder(&self)
         ensures { IsPreorderWithBottom (dom_of self.now) }
     {
         let _labels = &self.labels;

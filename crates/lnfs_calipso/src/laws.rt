@@ -15,7 +15,8 @@ pub fn dominance()
 
 /// Reading and writing of bodies are inverse to each other.
 pub fn bodies()
-    ensures read_back { (label : Label) → IsLabel label → label_of_body (body_of label) ≡ Some label }
+    ensures read_back { (label : Label) → IsLabel label →
+        label_of_body (body_of label) ≡ Some label }
     ensures written_back { (bytes : List ℕ) → ((k : ℕ) → slice_index bytes k < 256)
         → (label : Label) → label_of_body bytes ≡ Some label → body_of label ≡ bytes }
 {}

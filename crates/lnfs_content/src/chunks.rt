@@ -25,7 +25,8 @@ fn add_chunks(alloc: Global, chunks: &mut Vec<Chunk>, count: usize) -> Result<()
 fn grow_chunk(chunks: &mut Vec<Chunk>, index: usize, to: usize) -> Result<(), AllocError>
     requires { index < length chunks.old.items }
     ensures same { (c at : ℕ) → cell chunks.new.items c at ≡ cell chunks.old.items c at }
-    ensures kept { (c : ℕ) → length (slice_index_or chunks.old.items c []) ≤ length (slice_index_or chunks.new.items c []) }
+    ensures kept { (c : ℕ) → length (slice_index_or chunks.old.items c [])
+        ≤ length (slice_index_or chunks.new.items c []) }
     ensures count { length chunks.new.items ≡ length chunks.old.items }
     ensures room { OnOk result (to ≤ length (slice_index_or chunks.new.items index [])) }
 {
@@ -59,8 +60,11 @@ pub(crate) fn make_room(
 fn put_part(chunks: &mut Vec<Chunk>, index: usize, at: usize, bytes: &[u8])
     requires there { index < length chunks.old.items }
     requires fits { at + length bytes.now ≤ length (slice_index_or chunks.old.items index []) }
-    ensures cells { (c r : ℕ) → cell chunks.new.items c r ≡ cond (c == index && (nat_le at r && nat_lt r (at + length bytes.now))) (byte_in bytes.now (r - at)) (cell chunks.old.items c r) }
-    ensures kept { (c : ℕ) → length (slice_index_or chunks.new.items c []) ≡ length (slice_index_or chunks.old.items c []) }
+    ensures cells { (c r : ℕ) → cell chunks.new.items c r
+        ≡ cond (c == index && (nat_le at r && nat_lt r (at + length bytes.now)))
+        (byte_in bytes.now (r - at)) (cell chunks.old.items c r) }
+    ensures kept { (c : ℕ) → length (slice_index_or chunks.new.items c [])
+        ≡ length (slice_index_or chunks.old.items c []) }
     ensures count { length chunks.new.items ≡ length chunks.old.items }
 {
     let chunk = &mut chunks[index];
@@ -69,9 +73,12 @@ fn put_part(chunks: &mut Vec<Chunk>, index: usize, at: usize, bytes: &[u8])
 
 /// Writes bytes where there is room for them.
 pub(crate) fn put_bytes(chunks: &mut Vec<Chunk>, offset: usize, bytes: &[u8])
-    requires room { (i : ℕ) → offset ≤ i → i < offset + length bytes.now → HasPlace chunks.old.items i }
+    requires room { (i : ℕ) → offset ≤ i → i < offset + length bytes.now →
+        HasPlace chunks.old.items i }
     requires fits { offset + length bytes.now ≤ MOST_FILE }
-    ensures bytes { (i : ℕ) → byte_at chunks.new.items i ≡ cond (nat_le offset i && nat_lt i (offset + length bytes.now)) (byte_in bytes.now (i - offset)) (byte_at chunks.old.items i) }
+    ensures bytes { (i : ℕ) → byte_at chunks.new.items i
+        ≡ cond (nat_le offset i && nat_lt i (offset + length bytes.now))
+        (byte_in bytes.now (i - offset)) (byte_at chunks.old.items i) }
     ensures count { length chunks.new.items ≡ length chunks.old.items }
 {
     let mut done = 0;
@@ -86,7 +93,8 @@ pub(crate) fn put_bytes(chunks: &mut Vec<Chunk>, offset: usize, bytes: &[u8])
 
 /// Makes zeros of the bytes from a place on.
 pub(crate) fn cut_chunks(chunks: &mut Vec<Chunk>, size: usize)
-    ensures bytes { (i : ℕ) → byte_at chunks.new.items i ≡ cond (nat_lt i size) (byte_at chunks.old.items i) 0 }
+    ensures bytes { (i : ℕ) → byte_at chunks.new.items i
+        ≡ cond (nat_lt i size) (byte_at chunks.old.items i) 0 }
     ensures count { length chunks.new.items ≤ length chunks.old.items }
 {
     let whole = size / CHUNK;
@@ -107,7 +115,8 @@ fn append_part(
     out: &mut XdrWriter,
 ) -> Result<(), AllocError>
     requires { at + count ≤ CHUNK }
-    ensures ok { OnOk result (out.new ≡ out.old ++ bytes_from (cell chunks.now.items index) at count) }
+    ensures ok { OnOk result (out.new ≡ out.old ++ bytes_from (cell chunks.now.items index) at
+        count) }
     ensures err { OnErr result (out.new ≡ out.old) }
 {
     if index >= chunks.len() {
@@ -125,7 +134,8 @@ pub(crate) fn append_bytes(
     out: &mut XdrWriter,
 ) -> Result<(), AllocError>
     requires { from ≤ end }
-    ensures ok { OnOk result (out.new ≡ out.old ++ bytes_from (byte_at chunks.now.items) from (end - from)) }
+    ensures ok { OnOk result (out.new ≡ out.old ++ bytes_from (byte_at chunks.now.items) from
+        (end - from)) }
     ensures err { OnErr result (out.new ≡ out.old) }
 {
     let mark = out.mark();

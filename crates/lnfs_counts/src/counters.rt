@@ -56,9 +56,12 @@ pub fn count_one(counters: &mut BTreeMap<u32, Counter>, level: u32, number: u32)
     requires there { IsSome (get nat_cmp counters.old level) }
     requires positive { 0 < number }
     requires few { count_at counters.old level < LAST_NUMBER }
-    ensures last { (l : ℕ) → last_at counters.new l ≡ cond (level == l) number (last_at counters.old l) }
-    ensures count { (l : ℕ) → count_at counters.new l ≡ cond (level == l) (count_at counters.old level + 1) (count_at counters.old l) }
-    ensures lasts { lasts_of counters.new.entries ≡ inserted level_order (record { level = level; number = number }) (lasts_of counters.old.entries) }
+    ensures last { (l : ℕ) → last_at counters.new l
+        ≡ cond (level == l) number (last_at counters.old l) }
+    ensures count { (l : ℕ) → count_at counters.new l
+        ≡ cond (level == l) (count_at counters.old level + 1) (count_at counters.old l) }
+    ensures lasts { lasts_of counters.new.entries ≡ inserted level_order
+        (record { level = level; number = number }) (lasts_of counters.old.entries) }
 {
     let Some(found) = counters.get_mut(&level) else {
         return;
@@ -72,7 +75,8 @@ pub fn count_one(counters: &mut BTreeMap<u32, Counter>, level: u32, number: u32)
 /// Counts one row less of a level.
 pub fn count_off(counters: &mut BTreeMap<u32, Counter>, level: u32)
     ensures last { (l : ℕ) → last_at counters.new l ≡ last_at counters.old l }
-    ensures count { (l : ℕ) → count_at counters.new l ≡ cond (level == l) (count_at counters.old level - 1) (count_at counters.old l) }
+    ensures count { (l : ℕ) → count_at counters.new l
+        ≡ cond (level == l) (count_at counters.old level - 1) (count_at counters.old l) }
     ensures lasts { lasts_of counters.new.entries ≡ lasts_of counters.old.entries }
 {
     let Some(found) = counters.get_mut(&level) else {

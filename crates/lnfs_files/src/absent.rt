@@ -35,7 +35,7 @@ use lnfs_nodes::{Held, cinfo, kept_label, level_or, namespace, no_space};
 use lnfs_open::{OpenError, Opens};
 use lnfs_operations::Refusal;
 use lnfs_operations::numbers::FILE_MODE;
-use lnfs_quota::{Quota, totals};
+use lnfs_quota::{Quota, law_totals};
 use lnfs_tree::{Fresh, NodeKind, Tree, TreeError};
 use lnfs_types::Octets;
 use std::alloc::AllocError;
@@ -71,9 +71,12 @@ fn fresh_file(
 ) -> Result<Fresh, AllocError>
     ensures home { IfOk result (λ fresh. fresh.home ≡ dir.now.facts.label) }
     ensures label { IfOk result (λ fresh. fresh.label ≡ label) }
-    ensures node { IfOk result (λ fresh. (d : Node) (p : Place) (w : World) → Holds tree.now d dir.now → label.0 ≡ level_or d.label (option_map given_of wanted.label) →
+    ensures node { IfOk result (λ fresh. (d : Node) (p : Place) (w : World) →
+        Holds tree.now d dir.now → label.0 ≡ level_or d.label (option_map given_of wanted.label) →
         tree_changed.new_node p.moment fresh (next_id w.lasts.nodes d.label)
-        ≡ operation.new_file (site_of opener.now.site.now) (record p { subject = opener.now.caller.now.subject.0 }) w making.now (wanted_of wanted) d) }
+        ≡ operation.new_file (site_of opener.now.site.now)
+        (record p { subject = opener.now.caller.now.subject.0 }) w making.now (wanted_of wanted)
+        d) }
 {
     let (alloc, site, subject) = (opener.alloc, opener.site, opener.caller.subject);
     let Wanted {
@@ -96,7 +99,8 @@ fn fresh_file(
 /// Whether a level may have one more node, and the client one more open.
 fn has_room(opener: &Opener<'_>, opens: &Opens, quota: &Quota, home: Level) -> bool
     ensures room { (nodes : List Node) → AreTotals quota.now nodes →
-        result ≡ (nat_lt (nodes_used nodes home.0) ((site_of opener.now.site.now).nodes home.0) && has_open_left opens.now opener.now.client.level.0) }
+        result ≡ (nat_lt (nodes_used nodes home.0) ((site_of opener.now.site.now).nodes home.0)
+        && has_open_left opens.now opener.now.client.level.0) }
     ensures rises { result ≡ true → MayRise quota.now home.0 }
 {
     let room = room_for(opener.site, quota, home);
@@ -123,14 +127,20 @@ pub fn open_absent(
 ) -> Result<Result<Opened, Refusal>, AllocError>
     requires level { opener.now.client.level ≡ opener.now.caller.now.subject }
     requires there { IsAbsentIn tree.old dir.now name.now }
-    requires facts { NodeFacts (site_of opener.now.site.now).dom tree.old.nodes tree.old.entries tree.old.lasts }
-    requires opens { AllByRecursion (λ o. is_good_open (site_of opener.now.site.now).dom (label_at tree.old.nodes) o ≡ true) opens.old.opens }
+    requires facts { NodeFacts (site_of opener.now.site.now).dom tree.old.nodes tree.old.entries
+        tree.old.lasts }
+    requires opens { AllByRecursion (λ o. is_good_open (site_of opener.now.site.now).dom
+        (label_at tree.old.nodes) o ≡ true) opens.old.opens }
     requires counts { AreTotals quota.old tree.old.nodes }
     requires listed { IfSome wanted.label (λ given. IsListed given.level.0) }
-    ensures acts { IfOk result (λ told. (p : Place) (rest : World) (d : Node) → Holds tree.old d dir.now →
+    ensures acts { IfOk result (λ told. (p : Place) (rest : World) (d : Node) →
+        Holds tree.old d dir.now →
         let at = placed p opener.now.caller.now in
-        ActsTo opened_of (λ o. record at { current = Some (id_of o.node) }) at rest tree.old tree.new opens.old opens.new
-        (operation.open_absent (site_of opener.now.site.now) (args_of opener.now.args.now) at (with_files rest tree.old opens.old) opener.now.client.number d name.now (wanted_of wanted) opener.now.args.now.making.now) told) }
+        ActsTo opened_of (λ o. record at { current = Some (id_of o.node) }) at rest tree.old
+        tree.new opens.old opens.new
+        (operation.open_absent (site_of opener.now.site.now) (args_of opener.now.args.now) at
+        (with_files rest tree.old opens.old) opener.now.client.number d name.now
+        (wanted_of wanted) opener.now.args.now.making.now) told) }
     ensures tree { OnErr result (IsOrMade tree.old tree.new) }
     ensures opens { OnErr result (opens.new ≡ opens.old) }
     ensures counts { AreTotals quota.new tree.new.nodes }
@@ -157,7 +167,7 @@ pub fn open_absent(
             _ => unreachable!(),
         },
     };
-    totals();
+    law_totals();
     quota.charge_node(home);
     match opens.open(
         opener.client,

@@ -79,7 +79,8 @@ fn is_of_handle(claim: &Claim) -> bool
 /// NFS4ERR_INVAL where the share access is none, where more is to be denied than reading and writing, where a file is to
 /// be made and the current one opened, and where a size is given without write access.
 pub fn check_words(args: &Opening<'_>) -> Result<(), Refusal>
-    ensures { (p : Place) (next : Outcome (Answer operation.Opened)) → where_words p (args_of args.now) next ≡ checked p result (λ it. next) }
+    ensures { (p : Place) (next : Outcome (Answer operation.Opened)) →
+        where_words p (args_of args.now) next ≡ checked p result (λ it. next) }
 {
     let share = args.share();
     if share == 0
@@ -98,7 +99,8 @@ pub fn check_words(args: &Opening<'_>) -> Result<(), Refusal>
 ///
 /// Those of `check_name`.
 pub fn check_claim(claim: &Claim) -> Result<(), Refusal>
-    ensures { (p : Place) (next : Outcome (Answer operation.Opened)) → operation.where_claim p claim.now next ≡ checked p result (λ it. next) }
+    ensures { (p : Place) (next : Outcome (Answer operation.Opened)) →
+        operation.where_claim p claim.now next ≡ checked p result (λ it. next) }
 {
     match claim {
         Claim::Name { name } => check_name(name.as_slice()),

@@ -16,7 +16,7 @@ use lnfs_site::Site;
 use lnfs_tree::NodeId;
 
 /// The number of a node is one that a level can give.
-pub(crate) fn is_numbered(_node: NodeId)
+pub(crate) fn law_numbered(_node: NodeId)
     ensures { (id_of _node).number ≤ LAST_NUMBER }
 {}
 
@@ -34,7 +34,8 @@ pub fn room_for(site: &Site<'_>, quota: &Quota, level: Level) -> bool
 /// grow, above the limit too.
 pub(crate) fn byte_room(site: &Site<'_>, quota: &Quota, level: Level, old: u64, new: u64) -> bool
     requires held { AreBytesHeld quota.now level.0 old }
-    ensures room { (w : World) (n : Node) → AreTotals quota.now w.nodes → n.label ≡ level.0 → length n.inner.content ≡ old →
+    ensures room { (w : World) (n : Node) → AreTotals quota.now w.nodes → n.label ≡ level.0 →
+        length n.inner.content ≡ old →
         result ≡ not (passes_quota (site_of site.now) w n new) }
     ensures resizes { result ≡ true → MayResize quota.now level.0 old new }
 {
@@ -51,7 +52,8 @@ pub fn credit(quota: &mut Quota, home: Level, label: Level, bytes: u64)
     requires bytes { AreBytesHeld quota.old label.0 bytes }
     ensures value { quota.new ≡ released quota.old home.0 label.0 bytes }
     ensures levels { length quota.new ≡ length quota.old }
-    ensures counts { (before after : List Node) → AreTotals quota.old before → IsLess home.0 label.0 bytes before after → AreTotals quota.new after }
+    ensures counts { (before after : List Node) → AreTotals quota.old before →
+        IsLess home.0 label.0 bytes before after → AreTotals quota.new after }
 {
     quota.credit_node(home);
     quota.credit_bytes(label, bytes);

@@ -31,9 +31,12 @@ fn end_open(
     node: NodeId,
     id: &StateId,
 ) -> Result<(), Refusal>
-    ensures { (p : Place) (rest : World) (t : Rows) (n : Node) → p.client ≡ client → id_of node ≡ n.id →
+    ensures { (p : Place) (rest : World) (t : Rows) (n : Node) → p.client ≡ client →
+        id_of node ≡ n.id →
         let at = placed p caller.now in
-        Acts (λ it. it) at rest t t opens.old opens.new (where_open at (with_files rest t opens.old) n id.now (λ o. done at tt (EndOpen o.id ∷ []))) result }
+        Acts (λ it. it) at rest t t opens.old opens.new
+        (where_open at (with_files rest t opens.old) n id.now (λ o.
+        done at tt (EndOpen o.id ∷ []))) result }
 {
     let open = refer(opens, caller.subject, client, id)?;
     match opens.close(open.client, node_key(node), open.id) {
@@ -58,7 +61,8 @@ pub fn close(
 ) -> Result<(), Refusal>
     ensures acts { (p : Place) (rest : World) → p.client ≡ client →
         let at = placed p caller.now in
-        Acts (λ it. it) at rest tree.now tree.now opens.old opens.new (operation.close id.now at (with_files rest tree.now opens.old)) result }
+        Acts (λ it. it) at rest tree.now tree.now opens.old opens.new
+        (operation.close id.now at (with_files rest tree.now opens.old)) result }
 {
     let held = node_held(tree, caller.current)?;
     if meaning(id).is_some() {

@@ -23,7 +23,8 @@ use lnfs_tree::Tree;
 pub fn commit(site: &Site<'_>, tree: &Tree, caller: &Caller) -> Result<(), Refusal>
     ensures { (p : Place) (rest : World) →
         let at = placed p caller.now in
-        operation.commit (site_of site.now) at (with_tree rest tree.now) ≡ stays at (answered (λ it. it) result) }
+        operation.commit (site_of site.now) at (with_tree rest tree.now)
+        ≡ stays at (answered (λ it. it) result) }
 {
     let held = node_held(tree, caller.current)?;
     check_file(&held)?;

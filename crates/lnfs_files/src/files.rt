@@ -26,7 +26,8 @@ use lnfs_tree::{NodeKind, Tree};
 
 /// What refuses a node that has to be a file: NFS4ERR_ISDIR of a directory, NFS4ERR_SYMLINK of a symbolic link.
 pub fn check_file(held: &Held) -> Result<(), Refusal>
-    ensures { (p : Place) (n : Node) → kind_of held.now.facts.kind ≡ n.kind → failed result ≡ refusal_in (where_file p n (passed p)) }
+    ensures { (p : Place) (n : Node) → kind_of held.now.facts.kind ≡ n.kind →
+        failed result ≡ refusal_in (where_file p n (passed p)) }
 {
     match held.facts.kind {
         NodeKind::File => Ok(()),
@@ -62,8 +63,11 @@ pub fn usable_file(
 ) -> Result<Held, Refusal>
     ensures refused { (p : Place) (rest : World) → p.client ≡ client →
         let at = placed p caller.now in
-        refused result ≡ refusal_in (where_current_usable (site_of site.now) at (with_files rest tree.now opens.now) id.now (way_of way) (λ n. passed at)) }
-    ensures held { IfOk result (λ held. IsHeld tree.now (held_in tree.now.nodes (option_map id_of caller.now.current)) (Ok held)) }
+        refused result
+        ≡ refusal_in (where_current_usable (site_of site.now) at
+        (with_files rest tree.now opens.now) id.now (way_of way) (λ n. passed at)) }
+    ensures held { IfOk result (λ held. IsHeld tree.now
+        (held_in tree.now.nodes (option_map id_of caller.now.current)) (Ok held)) }
     ensures file { IfOk result (λ held. kind_of held.facts.kind ≡ File) }
 {
     let held = node_held(tree, caller.current)?;

@@ -29,7 +29,7 @@ use lnfs_calipso::Level;
 use lnfs_monitor::Question;
 use lnfs_nodes::{Caller, Held, denied, label_shown, namespace};
 use lnfs_operations::Refusal;
-use lnfs_quota::{Quota, fitting, totals};
+use lnfs_quota::{Quota, law_fitting, law_totals};
 use lnfs_site::Site;
 use lnfs_tree::{NodeKind, Tree};
 use lnfs_world::Stored;
@@ -46,7 +46,8 @@ fn is_spelled(a: &Stored, b: &Stored) -> bool
 /// Whether a node shows a label as it is spelled.
 fn shows(site: &Site<'_>, tree: &Tree, subject: Level, held: &Held, spelled: &Stored) -> bool
     ensures { (n : Node) (p : Place) → Holds tree.now n held.now →
-        result ≡ same_spelling (label_shown (site_of site.now) (record p { subject = subject.0 }) n) (stored_of spelled.now) }
+        result ≡ same_spelling (label_shown (site_of site.now) (record p { subject = subject.0 }) n)
+        (stored_of spelled.now) }
 {
     is_spelled(label_shown(site, tree, subject, held), spelled)
 }
@@ -61,14 +62,18 @@ pub fn respell(
     spelled: Stored,
 ) -> Result<(), Refusal>
     requires counts { AreTotals quota.now tree.old.nodes }
-    requires held { IsHeld tree.old (held_in tree.old.nodes (option_map id_of caller.now.current)) (Ok held.now) }
-    ensures acts { (n : Node) (p : Place) (rest : World) (opens : Lists) (set : bitmap.Bitmap) → Holds tree.old n held.now →
+    requires held { IsHeld tree.old (held_in tree.old.nodes (option_map id_of caller.now.current))
+        (Ok held.now) }
+    ensures acts { (n : Node) (p : Place) (rest : World) (opens : Lists) (set : bitmap.Bitmap) →
+        Holds tree.old n held.now →
         let at = placed p caller.now in
-        Acts (λ it. set) at rest tree.old tree.new opens opens (where_allowed (site_of site.now) at (Write n.label) (respelled (site_of site.now) at n (stored_of spelled) set)) result }
+        Acts (λ it. set) at rest tree.old tree.new opens opens
+        (where_allowed (site_of site.now) at (Write n.label)
+        (respelled (site_of site.now) at n (stored_of spelled) set)) result }
     ensures counts { AreTotals quota.now tree.new.nodes }
 {
     // The call says that the totals stay where the content keeps its length.
-    totals();
+    law_totals();
     let label = held.facts.label;
     if let Some(why) = denied(site, caller.subject, &Question::Write { label }) {
         return Err(why);
@@ -94,7 +99,8 @@ fn raise_denied(
 ) -> Option<Refusal>
     requires { NodeFacts (site_of site.now).dom tree.now.nodes tree.now.entries tree.now.lasts }
     ensures { (n : Node) → Holds tree.now n held.now →
-        option_map refusal_of result ≡ denial (site_of site.now) subject.0 (Raise n.label (parent_labels tree.now.nodes tree.now.entries n.id) new.0) }
+        option_map refusal_of result ≡ denial (site_of site.now) subject.0
+        (Raise n.label (parent_labels tree.now.nodes tree.now.entries n.id) new.0) }
 {
     let old = held.facts.label;
     let home = held.id.home;
@@ -146,19 +152,22 @@ fn put_level(
 ) -> Result<(), Refusal>
     requires facts { HasFacts tree.old }
     requires counts { AreTotals quota.old tree.old.nodes }
-    requires held { IsHeld tree.old (held_in tree.old.nodes (option_map id_of caller.now.current)) (Ok held.now) }
+    requires held { IsHeld tree.old (held_in tree.old.nodes (option_map id_of caller.now.current))
+        (Ok held.now) }
     requires bytes { (t : Rows) (n : Node) → Holds t n held.now → bytes ≡ bytes_of n n.kind }
     requires listed { IsListed level.0 }
     requires other { (level.0 == held.now.facts.label.0) ≡ false }
-    ensures acts { (n : Node) (p : Place) (rest : World) (opens : Lists) (set : bitmap.Bitmap) → Holds tree.old n held.now →
+    ensures acts { (n : Node) (p : Place) (rest : World) (opens : Lists) (set : bitmap.Bitmap) →
+        Holds tree.old n held.now →
         let at = placed p caller.now in
-        Acts (λ it. set) at rest tree.old tree.new opens opens (raised at (with_files rest tree.old opens) n level.0 set) result }
+        Acts (λ it. set) at rest tree.old tree.new opens opens
+        (raised at (with_files rest tree.old opens) n level.0 set) result }
     ensures counts { AreTotals quota.new tree.new.nodes }
     ensures levels { length quota.new ≡ length quota.old }
 {
     // The calls say what another label does to the totals, and that they hold the bytes.
-    totals();
-    fitting();
+    law_totals();
+    law_fitting();
     match tree.raise(held.id, level, caller.moment) {
         Ok(()) => {
             quota.move_up(held.facts.label, level, bytes);
@@ -179,14 +188,18 @@ pub fn raise(
     held: &Held,
     level: Level,
 ) -> Result<(), Refusal>
-    requires facts { NodeFacts (site_of site.now).dom tree.old.nodes tree.old.entries tree.old.lasts }
+    requires facts { NodeFacts (site_of site.now).dom tree.old.nodes tree.old.entries
+        tree.old.lasts }
     requires counts { AreTotals quota.old tree.old.nodes }
-    requires held { IsHeld tree.old (held_in tree.old.nodes (option_map id_of caller.now.current)) (Ok held.now) }
+    requires held { IsHeld tree.old (held_in tree.old.nodes (option_map id_of caller.now.current))
+        (Ok held.now) }
     requires listed { IsListed level.0 }
-    ensures acts { (n : Node) (p : Place) (rest : World) (opens : Lists) (set : bitmap.Bitmap) → Holds tree.old n held.now →
+    ensures acts { (n : Node) (p : Place) (rest : World) (opens : Lists) (set : bitmap.Bitmap) →
+        Holds tree.old n held.now →
         let at = placed p caller.now in
         Acts (λ it. set) at rest tree.old tree.new opens opens
-        (where_allowed (site_of site.now) at (Raise n.label (parent_labels tree.old.nodes tree.old.entries n.id) level.0)
+        (where_allowed (site_of site.now) at (Raise n.label
+        (parent_labels tree.old.nodes tree.old.entries n.id) level.0)
         (raised at (with_files rest tree.old opens) n level.0 set)) result }
     ensures counts { AreTotals quota.new tree.new.nodes }
     ensures levels { length quota.new ≡ length quota.old }

@@ -33,7 +33,7 @@ pub use charging::{credit, room_for};
 pub use closing::close;
 pub use committing::commit;
 pub use files::{check_file, usable_file};
-pub use listing::are_listed;
+pub use listing::law_listed;
 pub use opened::Opened;
 pub use opening::open;
 pub use reading::read;

@@ -64,7 +64,7 @@ pub fn no_change() -> Cinfo
 }
 
 /// The words of a bitmap are words.
-pub fn are_words(_set: Bitmap)
+pub fn law_words(_set: Bitmap)
     ensures { BitmapFits _set }
 {}
 
@@ -76,6 +76,6 @@ pub fn cut_set(sized: bool) -> Bitmap
     if sized {
         set.insert(SIZE);
     }
-    are_words(set);
+    law_words(set);
     set
 }

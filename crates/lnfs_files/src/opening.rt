@@ -43,8 +43,10 @@ use std::alloc::{AllocError, Global};
 fn readable_directory(site: &Site<'_>, tree: &Tree, caller: &Caller) -> Result<Held, Refusal>
     ensures leads { (p : Place) (rest : World) (s : Lists) →
         let at = placed p caller.now in
-        Leads at (λ next. where_readable (site_of site.now) at (with_files rest tree.now s) next) tree.now result }
-    ensures held { IfOk result (λ dir. IsHeld tree.now (held_in tree.now.nodes (option_map id_of caller.now.current)) (Ok dir)) }
+        Leads at (λ next. where_readable (site_of site.now) at (with_files rest tree.now s) next)
+        tree.now result }
+    ensures held { IfOk result (λ dir. IsHeld tree.now
+        (held_in tree.now.nodes (option_map id_of caller.now.current)) (Ok dir)) }
     ensures kind { IfOk result (λ dir. is_directory (kind_of dir.facts.kind) ≡ true) }
 {
     let dir = node_held(tree, caller.current)?;
@@ -60,7 +62,8 @@ fn readable_directory(site: &Site<'_>, tree: &Tree, caller: &Caller) -> Result<H
 ///
 /// NFS4ERR_NOENT where it has the name and the node isn't there, which no world comes to.
 fn find_name(tree: &Tree, dir: &Held, name: &[u8]) -> Result<Option<Held>, Refusal>
-    ensures { (p : Place) (d : Node) → Holds tree.now d dir.now → is_directory d.kind ≡ true → Finds p tree.now d name.now result }
+    ensures { (p : Place) (d : Node) → Holds tree.now d dir.now → is_directory d.kind ≡ true →
+        Finds p tree.now d name.now result }
 {
     let Ok(id) = tree.lookup(dir.id, name) else {
         return Ok(None);
@@ -85,14 +88,19 @@ fn open_name(
     name: &[u8],
 ) -> Result<Result<Opened, Refusal>, AllocError>
     requires level { opener.now.client.level ≡ opener.now.caller.now.subject }
-    requires facts { NodeFacts (site_of opener.now.site.now).dom tree.old.nodes tree.old.entries tree.old.lasts }
-    requires opens { AllByRecursion (λ o. is_good_open (site_of opener.now.site.now).dom (label_at tree.old.nodes) o ≡ true) opens.old.opens }
+    requires facts { NodeFacts (site_of opener.now.site.now).dom tree.old.nodes tree.old.entries
+        tree.old.lasts }
+    requires opens { AllByRecursion (λ o. is_good_open (site_of opener.now.site.now).dom
+        (label_at tree.old.nodes) o ≡ true) opens.old.opens }
     requires counts { AreTotals quota.old tree.old.nodes }
     requires listed { IfSome wanted.label (λ given. IsListed given.level.0) }
     ensures acts { IfOk result (λ told. (p : Place) (rest : World) →
         let at = placed p opener.now.caller.now in
-        ActsTo opened_of (λ o. record at { current = Some (id_of o.node) }) at rest tree.old tree.new opens.old opens.new
-        (operation.open_name (site_of opener.now.site.now) (args_of opener.now.args.now) at (with_files rest tree.old opens.old) opener.now.client.number (wanted_of wanted) name.now) told) }
+        ActsTo opened_of (λ o. record at { current = Some (id_of o.node) }) at rest tree.old
+        tree.new opens.old opens.new
+        (operation.open_name (site_of opener.now.site.now) (args_of opener.now.args.now) at
+        (with_files rest tree.old opens.old) opener.now.client.number (wanted_of wanted)
+        name.now) told) }
     ensures tree { OnErr result (IsOrMade tree.old tree.new) }
     ensures opens { OnErr result (opens.new ≡ opens.old) }
     ensures counts { AreTotals quota.new tree.new.nodes }
@@ -130,8 +138,11 @@ fn open_handle(
     requires counts { AreTotals quota.old tree.old.nodes }
     ensures acts { IfOk result (λ told. (p : Place) (rest : World) →
         let at = placed p opener.now.caller.now in
-        ActsTo opened_of (λ o. record at { current = Some (id_of o.node) }) at rest tree.old tree.new opens.old opens.new
-        (operation.open_claimed (site_of opener.now.site.now) (args_of opener.now.args.now) at (with_files rest tree.old opens.old) opener.now.client.number (wanted_of wanted.now) Handle) told) }
+        ActsTo opened_of (λ o. record at { current = Some (id_of o.node) }) at rest tree.old
+        tree.new opens.old opens.new
+        (operation.open_claimed (site_of opener.now.site.now) (args_of opener.now.args.now) at
+        (with_files rest tree.old opens.old) opener.now.client.number (wanted_of wanted.now)
+        Handle) told) }
     ensures tree { OnErr result (tree.new ≡ tree.old) }
     ensures opens { OnErr result (opens.new ≡ opens.old) }
     ensures counts { AreTotals quota.new tree.new.nodes }
@@ -156,14 +167,19 @@ fn open_claimed(
     wanted: Wanted,
 ) -> Result<Result<Opened, Refusal>, AllocError>
     requires level { opener.now.client.level ≡ opener.now.caller.now.subject }
-    requires facts { NodeFacts (site_of opener.now.site.now).dom tree.old.nodes tree.old.entries tree.old.lasts }
-    requires opens { AllByRecursion (λ o. is_good_open (site_of opener.now.site.now).dom (label_at tree.old.nodes) o ≡ true) opens.old.opens }
+    requires facts { NodeFacts (site_of opener.now.site.now).dom tree.old.nodes tree.old.entries
+        tree.old.lasts }
+    requires opens { AllByRecursion (λ o. is_good_open (site_of opener.now.site.now).dom
+        (label_at tree.old.nodes) o ≡ true) opens.old.opens }
     requires counts { AreTotals quota.old tree.old.nodes }
     requires listed { IfSome wanted.label (λ given. IsListed given.level.0) }
     ensures acts { IfOk result (λ told. (p : Place) (rest : World) →
         let at = placed p opener.now.caller.now in
-        ActsTo opened_of (λ o. record at { current = Some (id_of o.node) }) at rest tree.old tree.new opens.old opens.new
-        (operation.open_claimed (site_of opener.now.site.now) (args_of opener.now.args.now) at (with_files rest tree.old opens.old) opener.now.client.number (wanted_of wanted) opener.now.args.now.claim.now) told) }
+        ActsTo opened_of (λ o. record at { current = Some (id_of o.node) }) at rest tree.old
+        tree.new opens.old opens.new
+        (operation.open_claimed (site_of opener.now.site.now) (args_of opener.now.args.now) at
+        (with_files rest tree.old opens.old) opener.now.client.number (wanted_of wanted)
+        opener.now.args.now.claim.now) told) }
     ensures tree { OnErr result (IsOrMade tree.old tree.new) }
     ensures opens { OnErr result (opens.new ≡ opens.old) }
     ensures counts { AreTotals quota.new tree.new.nodes }
@@ -198,13 +214,17 @@ pub fn open(
     client: Option<u32>,
     args: &Opening<'_>,
 ) -> Result<Result<Opened, Refusal>, AllocError>
-    requires facts { NodeFacts (site_of site.now).dom tree.old.nodes tree.old.entries tree.old.lasts }
-    requires opens { AllByRecursion (λ o. is_good_open (site_of site.now).dom (label_at tree.old.nodes) o ≡ true) opens.old.opens }
+    requires facts { NodeFacts (site_of site.now).dom tree.old.nodes tree.old.entries
+        tree.old.lasts }
+    requires opens { AllByRecursion (λ o. is_good_open (site_of site.now).dom
+        (label_at tree.old.nodes) o ≡ true) opens.old.opens }
     requires counts { AreTotals quota.old tree.old.nodes }
     ensures acts { IfOk result (λ told. (p : Place) (rest : World) → p.client ≡ client →
         let at = placed p caller.now in
-        ActsTo opened_of (λ o. record at { current = Some (id_of o.node) }) at rest tree.old tree.new opens.old opens.new
-        (operation.open_file (site_of site.now) (args_of args.now) at (with_files rest tree.old opens.old)) told) }
+        ActsTo opened_of (λ o. record at { current = Some (id_of o.node) }) at rest tree.old
+        tree.new opens.old opens.new
+        (operation.open_file (site_of site.now) (args_of args.now) at
+        (with_files rest tree.old opens.old)) told) }
     ensures tree { OnErr result (IsOrMade tree.old tree.new) }
     ensures opens { OnErr result (opens.new ≡ opens.old) }
     ensures counts { AreTotals quota.new tree.new.nodes }

@@ -22,7 +22,7 @@ use lnfs_arguments::Cinfo;
 use lnfs_nodes::{Caller, Held, no_space};
 use lnfs_open::{ClientKey, OpenError, Opens};
 use lnfs_operations::Refusal;
-use lnfs_quota::{Quota, totals};
+use lnfs_quota::{Quota, law_totals};
 use lnfs_site::Site;
 use lnfs_tree::Tree;
 use std::alloc::{AllocError, Global};
@@ -58,10 +58,14 @@ pub fn open_present(
     requires level { opener.now.client.level ≡ opener.now.caller.now.subject }
     requires there { IsThere tree.old held.now }
     requires counts { AreTotals quota.old tree.old.nodes }
-    ensures acts { IfOk result (λ told. (p : Place) (rest : World) (n : Node) → Holds tree.old n held.now →
+    ensures acts { IfOk result (λ told. (p : Place) (rest : World) (n : Node) →
+        Holds tree.old n held.now →
         let at = placed p opener.now.caller.now in
-        ActsTo opened_of (λ o. record at { current = Some (id_of o.node) }) at rest tree.old tree.new opens.old opens.new
-        (operation.open_present (site_of opener.now.site.now) (args_of opener.now.args.now) at (with_files rest tree.old opens.old) opener.now.client.number (wanted_of wanted.now) info n) told) }
+        ActsTo opened_of (λ o. record at { current = Some (id_of o.node) }) at rest tree.old
+        tree.new opens.old opens.new
+        (operation.open_present (site_of opener.now.site.now) (args_of opener.now.args.now) at
+        (with_files rest tree.old opens.old) opener.now.client.number (wanted_of wanted.now)
+        info n) told) }
     ensures tree { OnErr result (tree.new ≡ tree.old) }
     ensures opens { OnErr result (opens.new ≡ opens.old) }
     ensures quota { OnErr result (quota.new ≡ quota.old) }
@@ -84,7 +88,7 @@ pub fn open_present(
     };
     if sized {
         // The call says that the file's bytes are counted in its label.
-        totals();
+        law_totals();
         put_size(tree, quota, held, 0, caller.moment);
     }
     Ok(Ok(Opened {

@@ -57,7 +57,9 @@ fn put_data(
     count: u32,
 ) -> Result<(), AllocError>
     requires { count ≤ MOST_DATA }
-    ensures { OnOk result (out.new ≡ out.old ++ result_text (results.Read (nat_le (length content.now) (offset + length (read_at offset count content.now))) (read_at offset count content.now))) }
+    ensures { OnOk result (out.new ≡ out.old ++ result_text
+        (results.Read (nat_le (length content.now) (offset
+        + length (read_at offset count content.now))) (read_at offset count content.now))) }
 {
     let size = content.readable(offset, count) as u32;
     let eof = is_end(content, offset, size);
@@ -88,8 +90,10 @@ pub fn read(
 ) -> Result<Result<(), Refusal>, AllocError>
     ensures writes { IfOk result (λ answer. (p : Place) (rest : World) → p.client ≡ client →
         let at = placed p caller.now in
-        Writes out.old out.new (λ d. results.Read d.eof d.content) at (with_files rest tree.old opens.now) (with_files rest tree.new opens.now)
-        (operation.read (site_of site.now) (record { id = id.now; offset = offset; count = count }) at (with_files rest tree.old opens.now)) answer) }
+        Writes out.old out.new (λ d. results.Read d.eof d.content) at
+        (with_files rest tree.old opens.now) (with_files rest tree.new opens.now)
+        (operation.read (site_of site.now) (record { id = id.now; offset = offset; count = count })
+        at (with_files rest tree.old opens.now)) answer) }
     ensures kept { OnErr result (tree.new ≡ tree.old) }
 {
     let held = match usable_file(site, tree, opens, caller, client, id, Way::Reading) {

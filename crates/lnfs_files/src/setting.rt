@@ -18,7 +18,7 @@ ghost use Rattle.lnfs_files.specs.Charges.{IsListed};
 ghost use Rattle.lnfs_files.specs.Setting.{size_refusal, wanted_done};
 
 use crate::labelling::{raise, respell};
-use crate::listing::are_listed;
+use crate::listing::law_listed;
 use crate::values::set_values;
 use lnfs_arguments::StateId;
 use lnfs_arguments::statuses::{NFS4ERR_INVAL, NFS4ERR_ISDIR};
@@ -57,14 +57,19 @@ fn set_wanted(
     id: &StateId,
     wanted: Wanted,
 ) -> Result<(), Refusal>
-    requires facts { NodeFacts (site_of site.now).dom tree.old.nodes tree.old.entries tree.old.lasts }
+    requires facts { NodeFacts (site_of site.now).dom tree.old.nodes tree.old.entries
+        tree.old.lasts }
     requires counts { AreTotals quota.old tree.old.nodes }
-    requires held { IsHeld tree.old (held_in tree.old.nodes (option_map id_of caller.now.current)) (Ok held.now) }
+    requires held { IsHeld tree.old (held_in tree.old.nodes (option_map id_of caller.now.current))
+        (Ok held.now) }
     requires file { IfSome wanted.size (λ size. kind_of held.now.facts.kind ≡ File) }
     requires listed { IfSome wanted.label (λ given. IsListed given.level.0) }
-    ensures acts { (n : Node) (p : Place) (rest : World) (set : bitmap.Bitmap) → p.client ≡ client → Holds tree.old n held.now →
+    ensures acts { (n : Node) (p : Place) (rest : World) (set : bitmap.Bitmap) → p.client ≡ client →
+        Holds tree.old n held.now →
         let at = placed p caller.now in
-        Acts (λ it. set) at rest tree.old tree.new opens.now opens.now (wanted_done (site_of site.now) id.now at (with_files rest tree.old opens.now) n (wanted_of wanted) set) result }
+        Acts (λ it. set) at rest tree.old tree.new opens.now opens.now
+        (wanted_done (site_of site.now) id.now at (with_files rest tree.old opens.now) n
+        (wanted_of wanted) set) result }
     ensures counts { AreTotals quota.new tree.new.nodes }
     ensures levels { length quota.new ≡ length quota.old }
 {
@@ -103,18 +108,21 @@ pub fn set_attr(
     id: &StateId,
     given: &RawAttrs,
 ) -> Result<Result<Bitmap, Refusal>, AllocError>
-    requires facts { NodeFacts (site_of site.now).dom tree.old.nodes tree.old.entries tree.old.lasts }
+    requires facts { NodeFacts (site_of site.now).dom tree.old.nodes tree.old.entries
+        tree.old.lasts }
     requires counts { AreTotals quota.old tree.old.nodes }
     ensures acts { IfOk result (λ told. (p : Place) (rest : World) → p.client ≡ client →
         let at = placed p caller.now in
-        Acts (λ set. set) at rest tree.old tree.new opens.now opens.now (operation.set_attr (site_of site.now) id.now given.now at (with_files rest tree.old opens.now)) told) }
+        Acts (λ set. set) at rest tree.old tree.new opens.now opens.now
+        (operation.set_attr (site_of site.now) id.now given.now at
+        (with_files rest tree.old opens.now)) told) }
     ensures counts { AreTotals quota.new tree.new.nodes }
     ensures levels { length quota.new ≡ length quota.old }
     ensures kept { OnErr result (tree.new ≡ tree.old) }
     ensures uncharged { OnErr result (quota.new ≡ quota.old) }
 {
     // The call says that a label that is given is one of those that a policy may list.
-    are_listed(site);
+    law_listed(site);
     let wanted = match read_wanted(alloc, site, given)? {
         Ok(wanted) => wanted,
         Err(why) => return Ok(Err(why)),

@@ -33,7 +33,8 @@ fn check_asked(
     comes_up: bool,
     question: &Question<'_>,
 ) -> Result<(), Refusal>
-    ensures { failed result ≡ cond comes_up (denial (site_of site.now) subject.0 (asked question.now)) None }
+    ensures { failed result
+        ≡ cond comes_up (denial (site_of site.now) subject.0 (asked question.now)) None }
 {
     if comes_up {
         check_allowed(site, subject, question)
@@ -55,7 +56,8 @@ fn check_shared(
 ) -> Result<(), Refusal>
     ensures { (p : Place) (next : Outcome (Answer operation.Opened)) →
         let at = record p { subject = subject.0 } in
-        operation.where_shared (site_of site.now) at (args_of args.now) label.0 next ≡ checked at result (λ it. next) }
+        operation.where_shared (site_of site.now) at (args_of args.now) label.0 next
+        ≡ checked at result (λ it. next) }
 {
     let share = args.share();
     let reads = share & OPEN4_SHARE_ACCESS_READ != 0;
@@ -77,7 +79,8 @@ fn has_verifier(verifier: &[u8; 8], kept: Option<[u8; 8]>) -> bool
 
 /// Whether a file may be there: a guarded create finds none, and an exclusive one that which it made itself.
 fn may_be_there(making: &Option<Making>, held: &Held) -> bool
-    ensures { (n : Node) → held.now.facts.verifier ≡ n.verifier → result ≡ operation.may_be_there making.now n }
+    ensures { (n : Node) → held.now.facts.verifier ≡ n.verifier →
+        result ≡ operation.may_be_there making.now n }
 {
     match making {
         None | Some(Making::Unchecked { .. }) => true,
@@ -96,8 +99,10 @@ fn has_conflict(
     args: &Opening<'_>,
     node: NodeId,
 ) -> bool
-    ensures { (p : Place) (rest : World) (t : Rows) (n : Node) → client.level ≡ caller.now.subject → id_of node ≡ n.id →
-        result ≡ operation.conflicts (site_of site.now) (args_of args.now) (placed p caller.now) (with_files rest t opens.now) client.number n }
+    ensures { (p : Place) (rest : World) (t : Rows) (n : Node) → client.level ≡ caller.now.subject →
+        id_of node ≡ n.id →
+        result ≡ operation.conflicts (site_of site.now) (args_of args.now) (placed p caller.now)
+        (with_files rest t opens.now) client.number n }
 {
     opens.conflicts(
         site.policy().lattice(),
@@ -126,9 +131,11 @@ pub fn check_openable(
 ) -> Result<(), Refusal>
     requires level { client.level ≡ caller.now.subject }
     ensures file { OnOk result (kind_of held.now.facts.kind ≡ File) }
-    ensures checked { (p : Place) (rest : World) (t : Rows) (n : Node) (next : Outcome (Answer operation.Opened)) → Holds t n held.now →
+    ensures checked { (p : Place) (rest : World) (t : Rows) (n : Node)
+        (next : Outcome (Answer operation.Opened)) → Holds t n held.now →
         let at = placed p caller.now in
-        where_openable (site_of site.now) (args_of args.now) at (with_files rest t opens.now) client.number sized n next ≡ checked at result (λ it. next) }
+        where_openable (site_of site.now) (args_of args.now) at (with_files rest t opens.now)
+        client.number sized n next ≡ checked at result (λ it. next) }
 {
     check_file(held)?;
     if !may_be_there(args.making, held) {
@@ -159,9 +166,11 @@ pub fn check_makable(
     dir: &Held,
     label: Level,
 ) -> Result<(), Refusal>
-    ensures { (p : Place) (t : Rows) (d : Node) (next : Outcome (Answer operation.Opened)) → Holds t d dir.now →
+    ensures { (p : Place) (t : Rows) (d : Node) (next : Outcome (Answer operation.Opened)) →
+        Holds t d dir.now →
         let at = record p { subject = subject.0 } in
-        where_makable (site_of site.now) (args_of args.now) at d label.0 next ≡ checked at result (λ it. next) }
+        where_makable (site_of site.now) (args_of args.now) at d label.0 next
+        ≡ checked at result (λ it. next) }
 {
     let home = dir.facts.label;
     check_allowed(site, subject, &Question::Change { dir: home })?;

@@ -90,7 +90,9 @@ fn check_undenied(
 ) -> Result<(), Refusal>
     ensures { (p : outcome.Place) (rest : World) (n : Node) → id_of node ≡ n.id →
         let at = placed p caller.now in
-        failed result ≡ refusal_in (operation.where_undenied (site_of site.now) at (with_opens rest opens.now) n (way_of way) (passed at)) }
+        failed result
+        ≡ refusal_in (operation.where_undenied (site_of site.now) at (with_opens rest opens.now)
+        n (way_of way) (passed at)) }
 {
     let lattice = site.policy().lattice();
     let node = node_key(node);
@@ -118,9 +120,12 @@ fn check_opened(
     id: &StateId,
     way: Way,
 ) -> Result<(), Refusal>
-    ensures { (site : outcome.Site) (p : outcome.Place) (rest : World) (n : Node) → p.client ≡ client → id_of node ≡ n.id →
+    ensures { (site : outcome.Site) (p : outcome.Place) (rest : World) (n : Node) →
+        p.client ≡ client → id_of node ≡ n.id →
         let at = placed p caller.now in
-        failed result ≡ refusal_in (operation.where_usable_by None site at (with_opens rest opens.now) n id.now (way_of way) (passed at)) }
+        failed result
+        ≡ refusal_in (operation.where_usable_by None site at (with_opens rest opens.now) n
+        id.now (way_of way) (passed at)) }
 {
     let open = refer(opens, caller.subject, client, id)?;
     match opens.find(open.client, node_key(node), open.id) {
@@ -153,9 +158,12 @@ pub fn check_usable(
     id: &StateId,
     way: Way,
 ) -> Result<(), Refusal>
-    ensures { (p : outcome.Place) (rest : World) (n : Node) → p.client ≡ client → id_of node ≡ n.id →
+    ensures { (p : outcome.Place) (rest : World) (n : Node) → p.client ≡ client →
+        id_of node ≡ n.id →
         let at = placed p caller.now in
-        failed result ≡ refusal_in (operation.where_usable (site_of site.now) at (with_opens rest opens.now) n id.now (way_of way) (passed at)) }
+        failed result
+        ≡ refusal_in (operation.where_usable (site_of site.now) at (with_opens rest opens.now) n
+        id.now (way_of way) (passed at)) }
 {
     match meaning(id) {
         Some(Special::Anonymous) => check_undenied(site, opens, caller, node, way),

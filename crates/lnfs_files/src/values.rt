@@ -24,7 +24,7 @@ ghost use Rattle.lnfs_files.specs.Charges.{MayResize};
 ghost use Rattle.lnfs_files.specs.Openings.{IsThere};
 ghost use Rattle.lnfs_files.specs.Setting.{unlabelled};
 
-use crate::charging::{byte_room, is_numbered};
+use crate::charging::{byte_room, law_numbered};
 use crate::state_ids::{Way, check_usable};
 use crate::writing::past_quota;
 use lnfs_arguments::StateId;
@@ -34,7 +34,7 @@ use lnfs_monitor::Question;
 use lnfs_nodes::{Caller, Held, denied, namespace};
 use lnfs_open::Opens;
 use lnfs_operations::Refusal;
-use lnfs_quota::{Quota, totals};
+use lnfs_quota::{Quota, law_totals};
 use lnfs_site::Site;
 use lnfs_tree::{NodeId, Tree};
 use lnfs_types::Moment;
@@ -51,7 +51,8 @@ fn writes(sized: bool, mode: Option<u32>) -> bool
 
 /// What the rules refuse of writing at a label, in some cases.
 fn write_denied(site: &Site<'_>, subject: Level, label: Level, writes: bool) -> Option<Refusal>
-    ensures { option_map refusal_of result ≡ cond writes (denial (site_of site.now) subject.0 (Write label.0)) None }
+    ensures { option_map refusal_of result ≡ cond writes
+        (denial (site_of site.now) subject.0 (Write label.0)) None }
 {
     if writes {
         denied(site, subject, &Question::Write { label })
@@ -74,16 +75,21 @@ fn check_size(
     size: u64,
 ) -> Result<(), Refusal>
     requires counts { AreTotals quota.now tree.now.nodes }
-    requires held { IsHeld tree.now (held_in tree.now.nodes (option_map id_of caller.now.current)) (Ok held.now) }
+    requires held { IsHeld tree.now (held_in tree.now.nodes (option_map id_of caller.now.current))
+        (Ok held.now) }
     requires file { kind_of held.now.facts.kind ≡ File }
-    ensures refused { (n : Node) (p : Place) (rest : World) → p.client ≡ client → Holds tree.now n held.now →
+    ensures refused { (n : Node) (p : Place) (rest : World) → p.client ≡ client →
+        Holds tree.now n held.now →
         let at = placed p caller.now in
-        failed result ≡ refusal_in (where_size (site_of site.now) id.now at (with_files rest tree.now opens.now) n (Some size) (passed at)) }
+        failed result
+        ≡ refusal_in (where_size (site_of site.now) id.now at
+        (with_files rest tree.now opens.now) n (Some size) (passed at)) }
     ensures fits { OnOk result (size ≤ MOST_FILE) }
-    ensures resizes { OnOk result (MayResize quota.now held.now.facts.label.0 held.now.facts.size size) }
+    ensures resizes { OnOk result (MayResize quota.now held.now.facts.label.0 held.now.facts.size
+        size) }
 {
     // The call says that the file's bytes are counted in its label.
-    totals();
+    law_totals();
     if let Err(why) = check_usable(site, opens, caller, client, held.id, id, Way::Writing) {
         return Err(why);
     }
@@ -109,13 +115,18 @@ fn check_given(
     size: Option<u64>,
 ) -> Result<(), Refusal>
     requires counts { AreTotals quota.now tree.now.nodes }
-    requires held { IsHeld tree.now (held_in tree.now.nodes (option_map id_of caller.now.current)) (Ok held.now) }
+    requires held { IsHeld tree.now (held_in tree.now.nodes (option_map id_of caller.now.current))
+        (Ok held.now) }
     requires file { IfSome size (λ size. kind_of held.now.facts.kind ≡ File) }
-    ensures refused { (n : Node) (p : Place) (rest : World) → p.client ≡ client → Holds tree.now n held.now →
+    ensures refused { (n : Node) (p : Place) (rest : World) → p.client ≡ client →
+        Holds tree.now n held.now →
         let at = placed p caller.now in
-        failed result ≡ refusal_in (where_size (site_of site.now) id.now at (with_files rest tree.now opens.now) n size (passed at)) }
+        failed result
+        ≡ refusal_in (where_size (site_of site.now) id.now at
+        (with_files rest tree.now opens.now) n size (passed at)) }
     ensures fits { OnOk result (IfSome size (λ size. size ≤ MOST_FILE)) }
-    ensures resizes { OnOk result (IfSome size (λ size. MayResize quota.now held.now.facts.label.0 held.now.facts.size size)) }
+    ensures resizes { OnOk result (IfSome size (λ size.
+        MayResize quota.now held.now.facts.label.0 held.now.facts.size size)) }
 {
     match size {
         Some(size) => check_size(site, tree, opens, quota, caller, client, held, id, size),
@@ -133,13 +144,14 @@ pub(crate) fn put_size(tree: &mut Tree, quota: &mut Quota, held: &Held, size: u6
     requires fits { size ≤ MOST_FILE }
     requires resizes { MayResize quota.old held.now.facts.label.0 held.now.facts.size size }
     ensures done { (n : Node) → Holds tree.old n held.now →
-        tree.new ≡ ran (Touch n.id (data_changed moment (sized size n.inner.content) n.inner) ∷ []) tree.old }
+        tree.new ≡ ran (Touch n.id (data_changed moment (sized size n.inner.content) n.inner) ∷ [])
+        tree.old }
     ensures counts { AreTotals quota.new tree.new.nodes }
     ensures levels { length quota.new ≡ length quota.old }
 {
     // The calls say what a change of a file's bytes does to the totals.
-    totals();
-    is_numbered(held.id);
+    law_totals();
+    law_numbered(held.id);
     // The file is there and may have so many bytes, so that there is no error.
     let _done = tree.set_size(held.id, size, moment);
     quota.resize(held.facts.label, held.facts.size, size);
@@ -149,11 +161,13 @@ pub(crate) fn put_size(tree: &mut Tree, quota: &mut Quota, held: &Held, size: u6
 fn put_mode(tree: &mut Tree, caller: &Caller, id: NodeId, mode: u32)
     requires there { is_some (node_at tree.old.nodes (id_of id)) ≡ true }
     ensures done { (n : Node) (p : Place) → node_at tree.old.nodes (id_of id) ≡ Some n →
-        tree.new ≡ ran (Touch n.id (mode_set (placed p caller.now) (Some mode) n.inner) ∷ []) tree.old }
-    ensures counts { (rows : List Row) → AreTotals rows tree.old.nodes → AreTotals rows tree.new.nodes }
+        tree.new ≡ ran (Touch n.id (mode_set (placed p caller.now) (Some mode) n.inner) ∷ [])
+        tree.old }
+    ensures counts { (rows : List Row) → AreTotals rows tree.old.nodes →
+        AreTotals rows tree.new.nodes }
 {
     // The call says that the totals stay where the content keeps its length.
-    totals();
+    law_totals();
     // The node is there, so that there is no error.
     let _done = tree.set_mode(id, mode, caller.moment);
 }
@@ -168,12 +182,16 @@ fn put_values(
     mode: Option<u32>,
 )
     requires counts { AreTotals quota.old tree.old.nodes }
-    requires held { IsHeld tree.old (held_in tree.old.nodes (option_map id_of caller.now.current)) (Ok held.now) }
+    requires held { IsHeld tree.old (held_in tree.old.nodes (option_map id_of caller.now.current))
+        (Ok held.now) }
     requires file { IfSome size (λ size. kind_of held.now.facts.kind ≡ File) }
     requires fits { IfSome size (λ size. size ≤ MOST_FILE) }
-    requires resizes { IfSome size (λ size. MayResize quota.old held.now.facts.label.0 held.now.facts.size size) }
-    ensures done { (n : Node) (p : Place) (rest : World) (opens : Lists) → Holds tree.old n held.now →
-        apply_all (values_written (placed p caller.now) n (unlabelled size mode)) (with_files rest tree.old opens) ≡ with_files rest tree.new opens }
+    requires resizes { IfSome size (λ size. MayResize quota.old held.now.facts.label.0
+        held.now.facts.size size) }
+    ensures done { (n : Node) (p : Place) (rest : World) (opens : Lists) →
+        Holds tree.old n held.now →
+        apply_all (values_written (placed p caller.now) n (unlabelled size mode))
+        (with_files rest tree.old opens) ≡ with_files rest tree.new opens }
     ensures counts { AreTotals quota.new tree.new.nodes }
     ensures levels { length quota.new ≡ length quota.old }
 {
@@ -199,11 +217,15 @@ pub fn set_values(
     mode: Option<u32>,
 ) -> Result<(), Refusal>
     requires counts { AreTotals quota.old tree.old.nodes }
-    requires held { IsHeld tree.old (held_in tree.old.nodes (option_map id_of caller.now.current)) (Ok held.now) }
+    requires held { IsHeld tree.old (held_in tree.old.nodes (option_map id_of caller.now.current))
+        (Ok held.now) }
     requires file { IfSome size (λ size. kind_of held.now.facts.kind ≡ File) }
-    ensures acts { (n : Node) (p : Place) (rest : World) (set : bitmap.Bitmap) → p.client ≡ client → Holds tree.old n held.now →
+    ensures acts { (n : Node) (p : Place) (rest : World) (set : bitmap.Bitmap) → p.client ≡ client →
+        Holds tree.old n held.now →
         let at = placed p caller.now in
-        Acts (λ it. set) at rest tree.old tree.new opens.now opens.now (values_set (site_of site.now) id.now at (with_files rest tree.old opens.now) n (unlabelled size mode) set) result }
+        Acts (λ it. set) at rest tree.old tree.new opens.now opens.now
+        (values_set (site_of site.now) id.now at (with_files rest tree.old opens.now) n
+        (unlabelled size mode) set) result }
     ensures counts { AreTotals quota.new tree.new.nodes }
     ensures levels { length quota.new ≡ length quota.old }
 {

@@ -10,8 +10,8 @@ ghost use Rattle.lnfs_files.specs.Charges.{IsListed};
 ghost use Rattle.lnfs_files.specs.Openings.{wanted_of, where_given};
 
 use crate::asked::attrs_of;
-use crate::listing::are_listed;
-use crate::opened::are_words;
+use crate::listing::law_listed;
+use crate::opened::law_words;
 use lnfs_arguments::Making;
 use lnfs_arguments::statuses::NFS4ERR_INVAL;
 use lnfs_attrs::{AttrSet, Bitmap, RawAttrs};
@@ -36,7 +36,7 @@ fn nothing() -> Wanted
     ensures { wanted_of result ≡ operation.nothing_wanted }
 {
     let set = Bitmap::empty();
-    are_words(set);
+    law_words(set);
     Wanted {
         sized: false,
         mode: None,
@@ -66,12 +66,15 @@ fn read_given(
     site: &Site<'_>,
     given: &RawAttrs,
 ) -> Result<Result<Wanted, Refusal>, AllocError>
-    ensures tests { IfOk result (λ told. (p : Place) (next : operation.Wanted → Outcome (Answer operation.Opened)) →
-        where_given (site_of site.now) p given.now next ≡ checked p told (λ x. next (wanted_of x))) }
-    ensures listed { IfOk result (λ told. IfOk told (λ wanted. IfSome wanted.label (λ given. IsListed given.level.0))) }
+    ensures tests { IfOk result (λ told. (p : Place) (next : operation.Wanted →
+        Outcome (Answer operation.Opened)) →
+        where_given (site_of site.now) p given.now next
+        ≡ checked p told (λ x. next (wanted_of x))) }
+    ensures listed { IfOk result (λ told. IfOk told (λ wanted.
+        IfSome wanted.label (λ given. IsListed given.level.0))) }
 {
     // The call says that a label that is given is one of those that a policy may list.
-    are_listed(site);
+    law_listed(site);
     let values = match values_of(alloc, given)? {
         Ok(values) => values,
         Err(why) => return Ok(Err(why)),
@@ -102,9 +105,12 @@ pub fn read_wanted(
     site: &Site<'_>,
     making: &Option<Making>,
 ) -> Result<Result<Wanted, Refusal>, AllocError>
-    ensures tests { IfOk result (λ told. (p : Place) (next : operation.Wanted → Outcome (Answer operation.Opened)) →
-        operation.where_wanted (site_of site.now) p making.now next ≡ checked p told (λ x. next (wanted_of x))) }
-    ensures listed { IfOk result (λ told. IfOk told (λ wanted. IfSome wanted.label (λ given. IsListed given.level.0))) }
+    ensures tests { IfOk result (λ told. (p : Place) (next : operation.Wanted →
+        Outcome (Answer operation.Opened)) →
+        operation.where_wanted (site_of site.now) p making.now next
+        ≡ checked p told (λ x. next (wanted_of x))) }
+    ensures listed { IfOk result (λ told. IfOk told (λ wanted.
+        IfSome wanted.label (λ given. IsListed given.level.0))) }
 {
     match making {
         Some(making) => read_given(alloc, site, attrs_of(making)),

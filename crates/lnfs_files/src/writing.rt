@@ -18,7 +18,7 @@ ghost use Rattle.lnfs_files.specs.Worlds.{with_files};
 ghost use Rattle.lnfs_files.specs.Acts.{Acts};
 ghost use Rattle.lnfs_files.specs.Writing.{write_on, fitting_size};
 
-use crate::charging::{byte_room, is_numbered};
+use crate::charging::{byte_room, law_numbered};
 use crate::files::usable_file;
 use crate::state_ids::Way;
 use lnfs_arguments::StateId;
@@ -28,7 +28,7 @@ use lnfs_nodes::{Caller, Held, argument, namespace};
 use lnfs_open::Opens;
 use lnfs_operations::numbers::FILE_SYNC4;
 use lnfs_operations::{Gate, Refusal};
-use lnfs_quota::{Quota, totals};
+use lnfs_quota::{Quota, law_totals};
 use lnfs_site::Site;
 use lnfs_tree::{Tree, TreeError};
 use std::alloc::{AllocError, Global};
@@ -73,21 +73,25 @@ fn put(
     offset: u64,
     content: &[u8],
 ) -> Result<Result<u32, Refusal>, AllocError>
-    requires held { IsHeld tree.old (held_in tree.old.nodes (option_map id_of caller.now.current)) (Ok held.now) }
+    requires held { IsHeld tree.old (held_in tree.old.nodes (option_map id_of caller.now.current))
+        (Ok held.now) }
     requires file { kind_of held.now.facts.kind ≡ File }
     requires counts { AreTotals quota.old tree.old.nodes }
-    ensures acts { IfOk result (λ told. (n : Node) (p : Place) (rest : World) (opens : Lists) (id : StateId) (stable : ℕ) → Holds tree.old n held.now →
+    ensures acts { IfOk result (λ told. (n : Node) (p : Place) (rest : World) (opens : Lists)
+        (id : StateId) (stable : ℕ) → Holds tree.old n held.now →
         let at = placed p caller.now in
-        let args : operation.Arguments = record { id = id; offset = offset; stable = stable; content = content.now } in
-        Acts (λ count. count) at rest tree.old tree.new opens opens (write_on (site_of site.now) args at (with_files rest tree.old opens) n) told) }
+        let args : operation.Arguments = record
+        { id = id; offset = offset; stable = stable; content = content.now } in
+        Acts (λ count. count) at rest tree.old tree.new opens opens
+        (write_on (site_of site.now) args at (with_files rest tree.old opens) n) told) }
     ensures counts { AreTotals quota.new tree.new.nodes }
     ensures levels { length quota.new ≡ length quota.old }
     ensures kept { OnErr result (tree.new ≡ tree.old) }
     ensures uncharged { OnErr result (quota.new ≡ quota.old) }
 {
     // The calls say that the file's bytes are counted in its label, and what a change of them does to the totals.
-    totals();
-    is_numbered(held.id);
+    law_totals();
+    law_numbered(held.id);
     let Ok(file) = tree.file(held.id) else {
         unreachable!();
     };
@@ -137,8 +141,11 @@ pub fn write(
     requires counts { AreTotals quota.old tree.old.nodes }
     ensures acts { IfOk result (λ told. (p : Place) (rest : World) → p.client ≡ client →
         let at = placed p caller.now in
-        let args : operation.Arguments = record { id = id.now; offset = offset; stable = stable; content = content.now } in
-        Acts (λ count. count) at rest tree.old tree.new opens.now opens.now (operation.write (site_of site.now) args at (with_files rest tree.old opens.now)) told) }
+        let args : operation.Arguments = record
+        { id = id.now; offset = offset; stable = stable; content = content.now } in
+        Acts (λ count. count) at rest tree.old tree.new opens.now opens.now
+        (operation.write (site_of site.now) args at (with_files rest tree.old opens.now))
+        told) }
     ensures counts { AreTotals quota.new tree.new.nodes }
     ensures levels { length quota.new ≡ length quota.old }
     ensures kept { OnErr result (tree.new ≡ tree.old) }

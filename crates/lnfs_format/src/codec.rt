@@ -32,8 +32,10 @@ impl Codec {
     pub fn new(kind: u32, read: ReadFn, write: WriteFn) -> Codec
         requires read_callable { ReadFn.IsAlwaysCallable read }
         requires write_callable { WriteFn.IsAlwaysCallable write }
-        requires reads { (x : _) (y : _) (r : _) → ReadFn.post read x y r → ReadsAs kind x.now y.now r }
-        requires writes { (x : _) (y : _) (r : _) → WriteFn.post write x y r → WritesAs kind x.now y.now r }
+        requires reads { (x : _) (y : _) (r : _) → ReadFn.post read x y r →
+            ReadsAs kind x.now y.now r }
+        requires writes { (x : _) (y : _) (r : _) → WriteFn.post write x y r →
+            WritesAs kind x.now y.now r }
         ensures { result.kind ≡ kind }
     {
         Codec { kind, read, write }

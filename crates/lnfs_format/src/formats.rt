@@ -14,6 +14,7 @@ use lnfs_calipso::{Lattice, Level};
 use lnfs_types::LABEL_LIMIT;
 use std::alloc::{AllocError, AllocFailed, Global};
 use std::marker::Model;
+use thiserror::Error;
 
 /// The largest number of formats of a site.
 pub const MAX_FORMATS: usize = 8;
@@ -52,13 +53,16 @@ impl Model for Formats {
 }
 
 /// Why a format isn't added.
-#[derive(Clone, Copy, Debug, PartialEq, Eq)]
+#[derive(Clone, Copy, Debug, PartialEq, Eq, Error)]
 pub enum AddError {
     /// There is a format of this number and policy identifier.
+    #[error("there is a format of this number and policy identifier")]
     Taken,
     /// There are eight formats.
+    #[error("there are eight formats")]
     TooMany,
     /// There is no memory.
+    #[error("out of memory")]
     Memory,
 }
 
@@ -73,13 +77,16 @@ impl From<AllocFailed<FormatEntry>> for AddError {
 }
 
 /// Why some bytes aren't read as a level.
-#[derive(Clone, Copy, Debug, PartialEq, Eq)]
+#[derive(Clone, Copy, Debug, PartialEq, Eq, Error)]
 pub enum ReadError {
     /// There is no format of this number and policy identifier.
+    #[error("there is no format of this number and policy identifier")]
     WrongLfs,
     /// The bytes spell no label, or one that is no level's.
+    #[error("the bytes spell no label, or one that is no level's")]
     BadLabel,
     /// There is no memory.
+    #[error("out of memory")]
     Memory,
 }
 
@@ -94,13 +101,16 @@ impl From<AllocError> for ReadError {
 }
 
 /// Why a level isn't written.
-#[derive(Clone, Copy, Debug, PartialEq, Eq)]
+#[derive(Clone, Copy, Debug, PartialEq, Eq, Error)]
 pub enum WriteError {
     /// There is no format of this number and policy identifier.
+    #[error("there is no format of this number and policy identifier")]
     WrongLfs,
     /// The format has no spelling of the label.
+    #[error("the format has no spelling of the label")]
     NotInFormat,
     /// There is no memory.
+    #[error("out of memory")]
     Memory,
 }
 

@@ -18,6 +18,7 @@ pub fn formats()
 pub fn compartments()
     ensures read_back { (label : Label) → IsLabel label → (label.comps ≡ [] → ⊥)
         → reads_comps label.doi label.sens (comps_text label.comps) ≡ Some label }
-    ensures written_back { (doi sens : ℕ) → doi < 2 ^ 32 → sens < 256 → (bytes : List ℕ) (label : Label)
+    ensures written_back { (doi sens : ℕ) → doi < 2 ^ 32 → sens < 256 →
+        (bytes : List ℕ) (label : Label)
         → reads_comps doi sens bytes ≡ Some label → IsComps doi sens label bytes }
 {}

@@ -34,7 +34,8 @@ pub fn write_name(
     rows: &[NameRow],
     label: &Label,
 ) -> Result<Option<Vec<u8>>, AllocError>
-    ensures { IfOk result (λ text. option_map (λ v. v.items) text ≡ writes_name rows.now label.now) }
+    ensures { IfOk result (λ text. option_map (λ v. v.items) text
+        ≡ writes_name rows.now label.now) }
 {
     for row in rows {
         if row.label == *label {

@@ -18,7 +18,7 @@ pub struct Reading {
 fn insert_range(label: &mut Label, low: u8, high: u8)
     ensures { label.new ≡ with_range label.old low high }
 {
-    label.is_label();
+    label.law_label();
     for comp in u16::from(low)..u16::from(high) + 1 {
         label.insert(comp);
     }

@@ -66,7 +66,8 @@ fn put_run(text: &mut Vec<u8>, run: Run) -> Result<(), AllocError>
 /// The first compartment of a label that isn't below the given one.
 fn first_from(label: &Label, from: u16) -> Option<u16>
     requires { from ≤ COMPARTMENTS }
-    ensures { MatchOption result ((c : ℕ) → from ≤ c → c < COMPARTMENTS → has_comp label.now.comps c ≡ false)
+    ensures { MatchOption result ((c : ℕ) → from ≤ c → c < COMPARTMENTS →
+        has_comp label.now.comps c ≡ false)
         (HasOriginFrom label.now.comps from) }
 {
     for comp in from..COMPARTMENTS {
@@ -104,7 +105,7 @@ fn next_run(label: &Label, from: u16) -> Option<Run>
 pub fn put_comps(text: &mut Vec<u8>, label: &Label) -> Result<(), AllocError>
     ensures { OnOk result (text.new.items ≡ text.old.items ++ comps_text label.now.comps) }
 {
-    label.is_label();
+    label.law_label();
     let Some(mut run) = next_run(label, 0) else {
         return Ok(());
     };
@@ -119,9 +120,10 @@ pub fn put_comps(text: &mut Vec<u8>, label: &Label) -> Result<(), AllocError>
 
 /// Whether a label has a compartment.
 pub fn has_comps(label: &Label) -> bool
-    ensures { MatchBool result ((others : List ℕ) × (c : ℕ) × (label.now.comps ≡ c ∷ others)) (label.now.comps ≡ []) }
+    ensures { MatchBool result ((others : List ℕ) × (c : ℕ) × (label.now.comps ≡ c ∷ others))
+        (label.now.comps ≡ []) }
 {
-    label.is_label();
+    label.law_label();
     match first_from(label, 0) {
         Some(_comp) => true,
         None => false,

@@ -50,7 +50,8 @@ fn put_granted(
     label: &[u8],
 ) -> Result<(), AllocError>
     requires { length label.now < 2 ^ 32 }
-    ensures ok { OnOk result (out.new ≡ out.old ++ create_res_text (record { handle = handle_text handle.now; assertion = record { lfs = lfs; pi = pi; label = label.now } })) }
+    ensures ok { OnOk result (out.new ≡ out.old ++ create_res_text
+        (record { handle = handle_text handle.now; assertion = record { lfs = lfs; pi = pi; label = label.now } })) }
     ensures err { OnErr result (Extends out.old out.new) }
 {
     put_handle(out, handle)?;
@@ -73,7 +74,8 @@ pub fn put_create_results(
     label: &[u8],
 ) -> Result<(), AllocError>
     requires { length label.now < 2 ^ 32 }
-    ensures ok { OnOk result (out.new ≡ out.old ++ create_res_text (record { handle = handle_text handle.now; assertion = record { lfs = lfs; pi = pi; label = label.now } })) }
+    ensures ok { OnOk result (out.new ≡ out.old ++ create_res_text
+        (record { handle = handle_text handle.now; assertion = record { lfs = lfs; pi = pi; label = label.now } })) }
     ensures err { OnErr result (out.new ≡ out.old) }
 {
     let mark = out.mark();
@@ -93,7 +95,8 @@ pub fn append_signed<M: Mechanism>(
     databody: &[u8],
 ) -> Result<(), AllocError>
     requires { length databody.now < 2 ^ 32 }
-    ensures ok { OnOk result (out.new ≡ out.old ++ signed_text (signed_by M.signing parent.now databody.now)) }
+    ensures ok { OnOk result (out.new ≡ out.old ++ signed_text
+        (signed_by M.signing parent.now databody.now)) }
     ensures err { OnErr result (out.new ≡ out.old) }
 {
     let mic = mechanism.sign(parent, databody);

@@ -235,8 +235,10 @@ impl<B: Room> History<B> {
         reply: &Option<ReplyRecord>,
     ) -> LinkView<B>
         requires { event.now.value.link ≡ place.link }
-        ensures place { result ≡ part place.link (place.entries ++ entry event.now.value reply.now ∷ []) }
-        ensures keeper { keeper.new ≡ known (keeper.old.log ++ entry event.now.value reply.now ∷ []) keeper.old.made }
+        ensures place { result ≡ part place.link (place.entries
+            ++ entry event.now.value reply.now ∷ []) }
+        ensures keeper { keeper.new ≡ known (keeper.old.log ++ entry event.now.value reply.now ∷ [])
+            keeper.old.made }
     {
         self.add_said::<Brand>(keeper, place, event, reply)
     }

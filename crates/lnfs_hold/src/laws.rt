@@ -18,6 +18,8 @@ pub fn hold_is_lawful()
 /// What is held for a level is refused to it a second time.
 pub fn hold_is_exclusive()
     ensures { (site : Site) (arguments : List ℕ) (at : Spot) (a : Both Held) (node : Id) →
-        at.current ≡ Some node → (readable site (place_at at) a.world).answer ≡ Done tt → is_held a.own at.subject node ≡ true →
-        (outcome site HOLD arguments at a).said.refusal ≡ Some (record { gate = Open; status = NFS4ERR_DENIED }) }
+        at.current ≡ Some node → (readable site (place_at at) a.world).answer ≡ Done tt →
+        is_held a.own at.subject node ≡ true →
+        (outcome site HOLD arguments at a).said.refusal
+        ≡ Some (record { gate = Open; status = NFS4ERR_DENIED }) }
 {}

@@ -30,7 +30,8 @@ const BOUND: u32 = 12;
 
 /// What is answered of a refusal.
 fn refused(alloc: Global, gate: Gate, status: u32) -> ExtraRan
-    ensures { result ≡ record { refusal = Some (record { gate = gate; status = status }); bytes = [] } }
+    ensures { result
+        ≡ record { refusal = Some (record { gate = gate; status = status }); bytes = [] } }
 {
     ExtraRan {
         refusal: Some(Refusal { gate, status }),
@@ -50,7 +51,8 @@ fn anonymous() -> StateId
 
 /// What refuses to read the current file without an open.
 fn unreadable(store: &Store, at: &Spot<'_>) -> Option<Refusal>
-    ensures { option_map refusal_of result ≡ refusal_told (readable (site_of at.now.site.now) (place_at (spot_of at.now)) store.now).answer }
+    ensures { option_map refusal_of result ≡ refusal_told
+        (readable (site_of at.now.site.now) (place_at (spot_of at.now)) store.now).answer }
 {
     let caller = at.caller();
     let id = anonymous();

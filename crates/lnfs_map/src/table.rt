@@ -3,17 +3,22 @@ ghost use Rattle.lnfs_map.specs.Translated.{translated, IsTranslated};
 
 use lnfs_calipso::Lattice;
 use lnfs_format::{Codecs, Formats, Pair, ReadError, WriteError};
+use thiserror::Error;
 
 /// Why some bytes aren't translated.
-#[derive(Clone, Copy, Debug, PartialEq, Eq)]
+#[derive(Clone, Copy, Debug, PartialEq, Eq, Error)]
 pub enum MapError {
     /// One of the two formats isn't there.
+    #[error("one of the two formats is not there")]
     WrongLfs,
     /// The bytes spell no label, or one that is no level's.
+    #[error("the bytes spell no label, or one that is no level's")]
     BadLabel,
     /// The format has no spelling of the label.
+    #[error("the format has no spelling of the label")]
     NoRow,
     /// There is no memory.
+    #[error("out of memory")]
     Memory,
 }
 
@@ -78,7 +83,8 @@ impl<'a> TranslationTable<'a> {
     /// one that is no level's, `NoRow` where the other format has no spelling of the label. `Memory` where there is no
     /// memory.
     pub fn translate(&self, from: Pair, to: Pair, bytes: &[u8]) -> Result<Vec<u8>, MapError>
-        ensures { IsTranslated result (translated self.now.formats.now self.now.lattice.now from to bytes.now) }
+        ensures { IsTranslated result (translated self.now.formats.now self.now.lattice.now from to
+            bytes.now) }
     {
         if self.formats.entry(to.lfs, to.pi).is_none() {
             return Err(MapError::WrongLfs);

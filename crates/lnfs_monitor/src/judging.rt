@@ -38,7 +38,8 @@ fn is_at_each(subject: Level, labels: &[Level]) -> bool
 /// Whether a label may be raised.
 #[tactic(auto, using(crate::proofs::Labels::empty_map))]
 fn raises(lattice: &Lattice, subject: Level, old: Level, parents: &[Level], new: Level) -> bool
-    ensures { result ≡ allows (dom_of lattice.now) subject.0 (Raise old.0 (map (λ parent. parent.0) parents.now) new.0) }
+    ensures { result ≡ allows (dom_of lattice.now) subject.0
+        (Raise old.0 (map (λ parent. parent.0) parents.now) new.0) }
 {
     subject == old
         && is_at_each(subject, parents)

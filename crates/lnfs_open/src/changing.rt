@@ -31,8 +31,10 @@ fn place_row(
     id: Key,
     row: OpenRow,
 ) -> Result<(), AllocError>
-    ensures added { OnOk result (map open_of rows.new.entries ≡ inserted open_order (row_of (id_of id) row) (map open_of rows.old.entries)) }
-    ensures own { OnOk result (row.client.level.0 ≡ id.level → AreOwn rows.old.entries → AreOwn rows.new.entries) }
+    ensures added { OnOk result (map open_of rows.new.entries
+        ≡ inserted open_order (row_of (id_of id) row) (map open_of rows.old.entries)) }
+    ensures own { OnOk result (row.client.level.0 ≡ id.level → AreOwn rows.old.entries →
+        AreOwn rows.new.entries) }
     ensures kept { OnErr result (rows.new.entries ≡ rows.old.entries) }
     ensures place { OnOk result (IsSome (get layer_cmp tallies.new.layers layer)) }
     ensures same { (n : Id) (l : ℕ) → tally_at tallies.new n l ≡ tally_at tallies.old n l }
@@ -55,8 +57,10 @@ impl Opens {
         access: u32,
         deny: u32,
     ) -> Option<OpenRef>
-        ensures answer { IsJoined access deny (own_open self.old (record { client = client_id client; owner = owner.now; node = node_id node; access = access; deny = deny })) result }
-        ensures lists { self.new ≡ record self.old { opens = rows_set (joined access deny) (own_open self.old (record { client = client_id client; owner = owner.now; node = node_id node; access = access; deny = deny })) self.old.opens } }
+        ensures answer { IsJoined access deny (own_open self.old
+            (record { client = client_id client; owner = owner.now; node = node_id node; access = access; deny = deny })) result }
+        ensures lists { self.new ≡ record self.old
+            { opens = rows_set (joined access deny) (own_open self.old (record { client = client_id client; owner = owner.now; node = node_id node; access = access; deny = deny })) self.old.opens } }
     {
         let id = self.own(client, owner, node)?;
         let row = row_at(&self.rows, id)?;
@@ -83,8 +87,10 @@ impl Opens {
         access: u32,
         deny: u32,
     ) -> Result<OpenRef, OpenError>
-        requires { own_open self.old (record { client = client_id client; owner = owner.now; node = node_id node; access = access; deny = deny }) ≡ None }
-        ensures { Does (opened_by self.old (record { client = client_id client; owner = owner.now; node = node_id node; access = access; deny = deny }) None) self.old self.new result }
+        requires { own_open self.old
+            (record { client = client_id client; owner = owner.now; node = node_id node; access = access; deny = deny }) ≡ None }
+        ensures { Does (opened_by self.old (record
+            { client = client_id client; owner = owner.now; node = node_id node; access = access; deny = deny }) None) self.old self.new result }
     {
         if !self.has_room(client.level) {
             return Err(OpenError::Full);
@@ -154,7 +160,8 @@ impl Opens {
         access: u32,
         deny: u32,
     ) -> Result<OpenRef, OpenError>
-        ensures { Does (opened_of self.old (record { client = client_id client; owner = owner.now; node = node_id node; access = access; deny = deny })) self.old self.new result }
+        ensures { Does (opened_of self.old (record
+            { client = client_id client; owner = owner.now; node = node_id node; access = access; deny = deny })) self.old self.new result }
     {
         if let Some(joined) = self.join(client, owner, node, access, deny) {
             return Ok(joined);
@@ -164,7 +171,8 @@ impl Opens {
 
     /// An open goes, if it is there.
     fn take_out(&mut self, id: Key)
-        ensures { self.new ≡ record self.old { opens = filter (λ o. not (same_id (id_of id) o.id)) self.old.opens } }
+        ensures { self.new
+            ≡ record self.old { opens = filter (λ o. not (same_id (id_of id) o.id)) self.old.opens } }
     {
         let Some(row) = row_at(&self.rows, id) else {
             return;
@@ -189,8 +197,11 @@ impl Opens {
     ///
     /// Those of `find`, which leave all as it was.
     pub fn close(&mut self, client: ClientKey, node: NodeKey, id: OpenRef) -> Result<(), OpenError>
-        ensures answer { Ends result (found_of self.old.opens (client_id client) (node_id node) (open_id id) id.seq) }
-        ensures lists { self.new ≡ ended_of (found_of self.old.opens (client_id client) (node_id node) (open_id id) id.seq) self.old }
+        ensures answer { Ends result (found_of self.old.opens (client_id client) (node_id node)
+            (open_id id) id.seq) }
+        ensures lists { self.new
+            ≡ ended_of (found_of self.old.opens (client_id client) (node_id node) (open_id id)
+            id.seq) self.old }
     {
         self.find(client, node, id)?;
         self.take_out(id.key());
@@ -199,7 +210,8 @@ impl Opens {
 
     /// The opens of a node go with it. Takes no memory.
     pub fn drop_node(&mut self, node: NodeKey)
-        ensures { self.new ≡ record self.old { opens = filter (λ o. not (same_id (node_id node) o.node)) self.old.opens } }
+        ensures { self.new
+            ≡ record self.old { opens = filter (λ o. not (same_id (node_id node) o.node)) self.old.opens } }
     {
         let node = node.key();
         while let Some(id) = self.first_of_node(node) {
@@ -209,7 +221,8 @@ impl Opens {
 
     /// The opens of a client go with it. Takes no memory.
     pub fn drop_client(&mut self, client: ClientKey)
-        ensures { self.new ≡ record self.old { opens = filter (λ o. not (is_open_of (client_id client) o)) self.old.opens } }
+        ensures { self.new
+            ≡ record self.old { opens = filter (λ o. not (is_open_of (client_id client) o)) self.old.opens } }
     {
         let client = client.key();
         while let Some(id) = self.first_of_client(client) {

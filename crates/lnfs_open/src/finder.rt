@@ -44,7 +44,8 @@ impl Finder {
     pub fn new(alloc: Global) -> Finder
         ensures nodes { (node i : Id) → holds result.nodes node i ≡ false }
         ensures clients { (client i : Id) → holds result.clients client i ≡ false }
-        ensures numbers { (client node : Id) (name : List ℕ) → number_at result.owners client node name ≡ None }
+        ensures numbers { (client node : Id) (name : List ℕ) →
+            number_at result.owners client node name ≡ None }
     {
         Finder {
             nodes: Groups::new(alloc),
@@ -56,7 +57,8 @@ impl Finder {
     /// Enters a new open. Where memory is wanting, what was begun is taken back.
     pub fn enter(&mut self, alloc: Global, filing: &Filing<'_>) -> Result<(), AllocError>
         requires node { holds self.old.nodes (id_of filing.now.node) (id_of filing.now.id) ≡ false }
-        requires client { holds self.old.clients (id_of filing.now.client) (id_of filing.now.id) ≡ false }
+        requires client { holds self.old.clients (id_of filing.now.client) (id_of filing.now.id)
+            ≡ false }
         ensures entered { OnOk result (IsEntered (filed_of filing.now) self.old self.new) }
         ensures kept { OnErr result (FindSame self.old self.new) }
     {

@@ -46,7 +46,9 @@ impl Groups {
 
     /// Puts an open in a group.
     pub fn enter(&mut self, group: Key, id: Key) -> Result<(), AllocError>
-        ensures entered { OnOk result ((g i : Id) → holds self.new g i ≡ (same_id (id_of group) g && same_id (id_of id) i || holds self.old g i)) }
+        ensures entered { OnOk result ((g i : Id) →
+            holds self.new g i ≡ (same_id (id_of group) g && same_id (id_of id) i
+            || holds self.old g i)) }
         ensures kept { OnErr result ((g i : Id) → holds self.new g i ≡ holds self.old g i) }
     {
         self.places.insert(Member { group, id }, ())?;
@@ -55,7 +57,8 @@ impl Groups {
 
     /// Takes an open out of a group.
     pub fn leave(&mut self, group: Key, id: Key)
-        ensures { (g i : Id) → holds self.new g i ≡ (not (same_id (id_of group) g && same_id (id_of id) i) && holds self.old g i) }
+        ensures { (g i : Id) → holds self.new g i
+            ≡ (not (same_id (id_of group) g && same_id (id_of id) i) && holds self.old g i) }
     {
         self.places.remove(&Member { group, id });
     }

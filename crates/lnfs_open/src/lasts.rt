@@ -10,7 +10,8 @@ impl Opens {
     /// The last number that a level was given: before the first, 0. No open of the level has one above it.
     pub fn last_number(&self, level: Level) -> u32
         ensures value { result ≡ last_of level.0 self.now.lasts }
-        ensures most { (i : Id) → i.level ≡ level.0 → result < i.number → find (λ o. same_id i o.id) self.now.opens ≡ None }
+        ensures most { (i : Id) → i.level ≡ level.0 → result < i.number →
+            find (λ o. same_id i o.id) self.now.opens ≡ None }
     {
         last_given(&self.counters, level.0)
     }

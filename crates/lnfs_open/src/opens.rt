@@ -66,7 +66,9 @@ impl Opens {
 
     /// The open of a client, an owner and a node.
     pub(crate) fn own(&self, client: ClientKey, owner: &[u8], node: NodeKey) -> Option<Key>
-        ensures { option_map id_of result ≡ option_map (λ o. o.id) (own_open self.now (record { client = client_id client; owner = owner.now; node = node_id node; access = 0; deny = 0 })) }
+        ensures { option_map id_of result ≡ option_map (λ o. o.id)
+            (own_open self.now (record
+            { client = client_id client; owner = owner.now; node = node_id node; access = 0; deny = 0 })) }
     {
         let matter = Matter {
             client: client.key(),
@@ -119,7 +121,8 @@ impl Opens {
     ///
     /// `Bad` where there is no such open, or its sequence is below that of the reference, and `Old` where it is above.
     pub fn find(&self, client: ClientKey, node: NodeKey, id: OpenRef) -> Result<&OpenRow, OpenError>
-        ensures row { result_map_both (λ row. row_of (open_id id) row.now) (λ e. e) result ≡ found_of self.now.opens (client_id client) (node_id node) (open_id id) id.seq }
+        ensures row { result_map_both (λ row. row_of (open_id id) row.now) (λ e. e) result
+            ≡ found_of self.now.opens (client_id client) (node_id node) (open_id id) id.seq }
         ensures client { IfOk result (λ row. row.now.client ≡ client) }
     {
         let Some(row) = self.named(client, node, id.key()) else {
@@ -136,7 +139,8 @@ impl Opens {
 
     /// The open of an identifier, if it is of a client and a node.
     fn named(&self, client: ClientKey, node: NodeKey, id: Key) -> Option<&OpenRow>
-        ensures row { option_map (λ row. row_of (id_of id) row.now) result ≡ open_named self.now.opens (client_id client) (node_id node) (id_of id) }
+        ensures row { option_map (λ row. row_of (id_of id) row.now) result
+            ≡ open_named self.now.opens (client_id client) (node_id node) (id_of id) }
         ensures client { IfSome result (λ row. row.now.client ≡ client) }
     {
         let row = row_at(&self.rows, id)?;
@@ -158,9 +162,11 @@ impl Opens {
         access: u32,
         deny: u32,
     ) -> bool
-        ensures exact { result ≡ conflicts (dom_of lattice.now) subject.0 (option_map owner_of own.entry) (node_id node) access deny self.now.opens }
+        ensures exact { result ≡ conflicts (dom_of lattice.now) subject.0
+            (option_map owner_of own.entry) (node_id node) access deny self.now.opens }
         // Without an open of one's own and with nothing to deny, it is what denies a use.
-        ensures denied { option_map owner_of own.entry ≡ None → deny ≡ 0 → result ≡ is_denied (dom_of lattice.now) subject.0 (node_id node) access self.now.opens }
+        ensures denied { option_map owner_of own.entry ≡ None → deny ≡ 0 →
+            result ≡ is_denied (dom_of lattice.now) subject.0 (node_id node) access self.now.opens }
     {
         let share = Share {
             lattice,
@@ -181,19 +187,24 @@ impl Opens {
 
     /// The first open of a node, if it has one.
     pub(crate) fn first_of_node(&self, node: Key) -> Option<Key>
-        ensures there { IfSome result (λ id. list_any (λ o. same_id (id_of id) o.id) self.now.opens ≡ true) }
+        ensures there { IfSome result (λ id. list_any (λ o. same_id (id_of id) o.id) self.now.opens
+            ≡ true) }
         // No other open has its identifier.
-        ensures only { IfSome result (λ id. list_all (λ o. not (same_id (id_of id) o.id) || same_id (id_of node) o.node) self.now.opens ≡ true) }
-        ensures none { IfNone result (list_any (λ o. same_id (id_of node) o.node) self.now.opens ≡ false) }
+        ensures only { IfSome result (λ id. list_all (λ o. not (same_id (id_of id) o.id)
+            || same_id (id_of node) o.node) self.now.opens ≡ true) }
+        ensures none { IfNone result (list_any (λ o. same_id (id_of node) o.node) self.now.opens
+            ≡ false) }
     {
         self.finder.nodes.first(node)
     }
 
     /// The first open of a client, if it has one.
     pub(crate) fn first_of_client(&self, client: Key) -> Option<Key>
-        ensures there { IfSome result (λ id. list_any (λ o. same_id (id_of id) o.id) self.now.opens ≡ true) }
+        ensures there { IfSome result (λ id. list_any (λ o. same_id (id_of id) o.id) self.now.opens
+            ≡ true) }
         // No other open has its identifier.
-        ensures only { IfSome result (λ id. list_all (λ o. not (same_id (id_of id) o.id) || is_open_of (id_of client) o) self.now.opens ≡ true) }
+        ensures only { IfSome result (λ id. list_all (λ o. not (same_id (id_of id) o.id)
+            || is_open_of (id_of client) o) self.now.opens ≡ true) }
         ensures none { IfNone result (list_any (is_open_of (id_of client)) self.now.opens ≡ false) }
     {
         self.finder.clients.first(client)

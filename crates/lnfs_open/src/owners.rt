@@ -45,7 +45,8 @@ impl Owners {
 
     /// Makes the map of a name, where there is none.
     fn make_place(&mut self, alloc: Global, name: &[u8]) -> Result<(), AllocError>
-        ensures same { (c n : Id) (o : List ℕ) → number_at self.new c n o ≡ number_at self.old c n o }
+        ensures same { (c n : Id) (o : List ℕ) → number_at self.new c n o
+            ≡ number_at self.old c n o }
         ensures place { OnOk result (IsSome (numbers_of self.new name.now)) }
     {
         if self.numbers.contains_key(name) {
@@ -71,8 +72,12 @@ impl Owners {
     /// Sets a number in the map of a name.
     fn put(&mut self, matter: Matter, name: &[u8], number: u32) -> Result<(), AllocError>
         requires { IsSome (numbers_of self.old name.now) }
-        ensures put { OnOk result ((c n : Id) (o : List ℕ) → number_at self.new c n o ≡ cond ((same_id (id_of matter.client) c && same_id (id_of matter.node) n) && bytes_eq name.now o) (Some number) (number_at self.old c n o)) }
-        ensures kept { OnErr result ((c n : Id) (o : List ℕ) → number_at self.new c n o ≡ number_at self.old c n o) }
+        ensures put { OnOk result ((c n : Id) (o : List ℕ) →
+            number_at self.new c n o
+            ≡ cond ((same_id (id_of matter.client) c && same_id (id_of matter.node) n)
+            && bytes_eq name.now o) (Some number) (number_at self.old c n o)) }
+        ensures kept { OnErr result ((c n : Id) (o : List ℕ) →
+            number_at self.new c n o ≡ number_at self.old c n o) }
     {
         let Some(numbers) = self.numbers.get_mut(name) else {
             return Ok(());
@@ -83,7 +88,9 @@ impl Owners {
 
     /// Takes a number out of the map of a name.
     fn take(&mut self, matter: Matter, name: &[u8])
-        ensures { (c n : Id) (o : List ℕ) → number_at self.new c n o ≡ cond ((same_id (id_of matter.client) c && same_id (id_of matter.node) n) && bytes_eq name.now o) None (number_at self.old c n o) }
+        ensures { (c n : Id) (o : List ℕ) → number_at self.new c n o
+            ≡ cond ((same_id (id_of matter.client) c && same_id (id_of matter.node) n)
+            && bytes_eq name.now o) None (number_at self.old c n o) }
     {
         let Some(numbers) = self.numbers.get_mut(name) else {
             return;
@@ -99,8 +106,12 @@ impl Owners {
         name: &[u8],
         number: u32,
     ) -> Result<(), AllocError>
-        ensures entered { OnOk result ((c n : Id) (o : List ℕ) → number_at self.new c n o ≡ cond ((same_id (id_of matter.client) c && same_id (id_of matter.node) n) && bytes_eq name.now o) (Some number) (number_at self.old c n o)) }
-        ensures kept { OnErr result ((c n : Id) (o : List ℕ) → number_at self.new c n o ≡ number_at self.old c n o) }
+        ensures entered { OnOk result ((c n : Id) (o : List ℕ) →
+            number_at self.new c n o
+            ≡ cond ((same_id (id_of matter.client) c && same_id (id_of matter.node) n)
+            && bytes_eq name.now o) (Some number) (number_at self.old c n o)) }
+        ensures kept { OnErr result ((c n : Id) (o : List ℕ) →
+            number_at self.new c n o ≡ number_at self.old c n o) }
     {
         self.make_place(alloc, name)?;
         let put = self.put(matter, name, number);
@@ -112,7 +123,9 @@ impl Owners {
 
     /// Takes out the number of a client's open of a node under a name.
     pub fn leave(&mut self, matter: Matter, name: &[u8])
-        ensures { (c n : Id) (o : List ℕ) → number_at self.new c n o ≡ cond ((same_id (id_of matter.client) c && same_id (id_of matter.node) n) && bytes_eq name.now o) None (number_at self.old c n o) }
+        ensures { (c n : Id) (o : List ℕ) → number_at self.new c n o
+            ≡ cond ((same_id (id_of matter.client) c && same_id (id_of matter.node) n)
+            && bytes_eq name.now o) None (number_at self.old c n o) }
     {
         self.take(matter, name);
         self.free_place(name);

@@ -33,7 +33,8 @@ pub struct Share<'a> {
 
 /// The place before all opens of a node that are of a level.
 fn first_of(layer: Layer) -> Member
-    ensures { result ≡ record { group = layer.node; id = record { level = layer.level; number = 0 } } }
+    ensures { result
+        ≡ record { group = layer.node; id = record { level = layer.level; number = 0 } } }
 {
     Member {
         group: layer.node,
@@ -47,7 +48,9 @@ fn first_of(layer: Layer) -> Member
 impl<'a> Share<'a> {
     /// Whether an open is that of the client and the owner.
     fn is_own(&self, row: &OpenRow) -> bool
-        ensures { (number : ℕ) → result ≡ is_own (option_map owner_of self.now.own) (node_id row.now.node) (row_of (record { level = row.now.client.level.0; number = number }) row.now) }
+        ensures { (number : ℕ) →
+            result ≡ is_own (option_map owner_of self.now.own) (node_id row.now.node)
+            (row_of (record { level = row.now.client.level.0; number = number }) row.now) }
     {
         match self.own {
             Some((client, owner)) => row.client == client && row.owner.as_slice() == owner,
@@ -57,7 +60,10 @@ impl<'a> Share<'a> {
 
     /// Whether an open of the file stands in the way.
     fn is_stopped_by(&self, row: &OpenRow) -> bool
-        ensures { (number : ℕ) → result ≡ stands_in_way (dom_of self.now.lattice.now) self.now.subject.0 (option_map owner_of self.now.own) (node_id row.now.node) self.now.access self.now.deny (row_of (record { level = row.now.client.level.0; number = number }) row.now) }
+        ensures { (number : ℕ) →
+            result ≡ stands_in_way (dom_of self.now.lattice.now) self.now.subject.0
+            (option_map owner_of self.now.own) (node_id row.now.node) self.now.access self.now.deny
+            (row_of (record { level = row.now.client.level.0; number = number }) row.now) }
     {
         dominates(self.lattice, self.subject, row.client.level)
             && !self.is_own(row)
@@ -87,7 +93,8 @@ impl<'a> Share<'a> {
     /// Whether one of the opens of a file that are of a level stands in the way.
     fn is_stopped_in(&self, nodes: &Groups, rows: &BTreeMap<Key, OpenRow>, layer: Layer) -> bool
         requires { AreFound rows.now nodes.now }
-        ensures { result ≡ list_any (λ o. in_layer (id_of layer.node) layer.level o && stopped_by self.now o) (opens_in rows.now) }
+        ensures { result ≡ list_any (λ o. in_layer (id_of layer.node) layer.level o
+            && stopped_by self.now o) (opens_in rows.now) }
     {
         for (place, _) in nodes.places.range(first_of(layer)..) {
             if place.group != layer.node || place.id.level != layer.level {
@@ -109,7 +116,9 @@ impl<'a> Share<'a> {
         tally: &Tally,
     ) -> bool
         requires { AreFound rows.now nodes.now }
-        ensures { result ≡ (may_stop self.now layer.level tally.now && list_any (λ o. in_layer (id_of layer.node) layer.level o && stopped_by self.now o) (opens_in rows.now)) }
+        ensures { result ≡ (may_stop self.now layer.level tally.now
+            && list_any (λ o. in_layer (id_of layer.node) layer.level o && stopped_by self.now o)
+            (opens_in rows.now)) }
     {
         self.may_be_stopped(layer.level, tally) && self.is_stopped_in(nodes, rows, layer)
     }
@@ -124,7 +133,8 @@ impl<'a> Share<'a> {
     ) -> bool
         requires found { AreFound rows.now nodes.now }
         requires tallied { AreTallied (opens_in rows.now) tallies.now }
-        ensures { result ≡ list_any (λ o. same_id (id_of node) o.node && stopped_by self.now o) (opens_in rows.now) }
+        ensures { result ≡ list_any (λ o. same_id (id_of node) o.node && stopped_by self.now o)
+            (opens_in rows.now) }
     {
         for (layer, tally) in tallies.layers.range(lowest(node)..) {
             if layer.node != node {

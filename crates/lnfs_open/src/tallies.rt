@@ -160,7 +160,9 @@ impl Tallies {
     pub fn count(&mut self, layer: Layer, uses: Uses)
         requires place { IsSome (get layer_cmp self.old.layers layer) }
         requires room { HasRoom (tally_at self.old (id_of layer.node) layer.level) }
-        ensures { (n : Id) (l : ℕ) → tally_at self.new n l ≡ cond (same_id (id_of layer.node) n && layer.level == l) (more uses.access uses.deny (tally_at self.old n l)) (tally_at self.old n l) }
+        ensures { (n : Id) (l : ℕ) → tally_at self.new n l
+            ≡ cond (same_id (id_of layer.node) n && layer.level == l)
+            (more uses.access uses.deny (tally_at self.old n l)) (tally_at self.old n l) }
     {
         let Some(tally) = self.layers.get_mut(&layer) else {
             return;
@@ -170,8 +172,12 @@ impl Tallies {
 
     /// Counts an open of a layer again, whose uses have changed.
     pub fn count_again(&mut self, layer: Layer, before: Uses, after: Uses)
-        requires { CanChange before.access before.deny (tally_at self.old (id_of layer.node) layer.level) }
-        ensures { (n : Id) (l : ℕ) → tally_at self.new n l ≡ cond (same_id (id_of layer.node) n && layer.level == l) (more after.access after.deny (less before.access before.deny (tally_at self.old n l))) (tally_at self.old n l) }
+        requires { CanChange before.access before.deny
+            (tally_at self.old (id_of layer.node) layer.level) }
+        ensures { (n : Id) (l : ℕ) → tally_at self.new n l
+            ≡ cond (same_id (id_of layer.node) n && layer.level == l)
+            (more after.access after.deny (less before.access before.deny (tally_at self.old n l)))
+            (tally_at self.old n l) }
     {
         let Some(tally) = self.layers.get_mut(&layer) else {
             return;
@@ -181,7 +187,9 @@ impl Tallies {
 
     /// Counts one open less of a layer.
     fn take_off(&mut self, layer: Layer, uses: Uses)
-        ensures { (n : Id) (l : ℕ) → tally_at self.new n l ≡ cond (same_id (id_of layer.node) n && layer.level == l) (less uses.access uses.deny (tally_at self.old n l)) (tally_at self.old n l) }
+        ensures { (n : Id) (l : ℕ) → tally_at self.new n l
+            ≡ cond (same_id (id_of layer.node) n && layer.level == l)
+            (less uses.access uses.deny (tally_at self.old n l)) (tally_at self.old n l) }
     {
         let Some(tally) = self.layers.get_mut(&layer) else {
             return;
@@ -191,7 +199,9 @@ impl Tallies {
 
     /// Counts one open less of a layer, whose row goes with the last.
     pub fn count_off(&mut self, layer: Layer, uses: Uses)
-        ensures { (n : Id) (l : ℕ) → tally_at self.new n l ≡ cond (same_id (id_of layer.node) n && layer.level == l) (less uses.access uses.deny (tally_at self.old n l)) (tally_at self.old n l) }
+        ensures { (n : Id) (l : ℕ) → tally_at self.new n l
+            ≡ cond (same_id (id_of layer.node) n && layer.level == l)
+            (less uses.access uses.deny (tally_at self.old n l)) (tally_at self.old n l) }
     {
         self.take_off(layer, uses);
         self.free_place(layer);

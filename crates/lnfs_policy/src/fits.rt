@@ -107,7 +107,8 @@ impl Spelling {
 impl LevelName {
     /// Whether a later name has the level or the bytes in the same format.
     fn clashes(&self, later: &LevelName) -> bool
-        ensures { result ≡ clashes later.now.pair.lfs later.now.pair.pi later.now.level.0 later.now.bytes self.now }
+        ensures { result ≡ clashes later.now.pair.lfs later.now.pair.pi later.now.level.0
+            later.now.bytes self.now }
     {
         self.pair == later.pair
             && (self.level == later.level || self.bytes.as_slice() == later.bytes.as_slice())
@@ -115,14 +116,17 @@ impl LevelName {
 }
 
 fn has_table(rows: &[FormatRow], pair: Pair) -> bool
-    ensures { result ≡ list_any (λ row. is_pair pair.lfs pair.pi row.pair && is_table row.spelling) rows.now }
+    ensures { result ≡ list_any (λ row. is_pair pair.lfs pair.pi row.pair && is_table row.spelling)
+        rows.now }
 {
     rows.iter()
         .any(|row| row.pair == pair && row.spelling.is_table())
 }
 
 fn has_clash(names: &[LevelName], name: &LevelName) -> bool
-    ensures { result ≡ list_any (clashes name.now.pair.lfs name.now.pair.pi name.now.level.0 name.now.bytes) names.now }
+    ensures { result
+        ≡ list_any (clashes name.now.pair.lfs name.now.pair.pi name.now.level.0 name.now.bytes)
+        names.now }
 {
     names.iter().any(|earlier| earlier.clashes(name))
 }
@@ -136,7 +140,8 @@ pub fn name_fits(
     names: &[LevelName],
     name: &LevelName,
 ) -> bool
-    ensures { result ≡ name_fits labels.now rows.now names.now name.now.pair.lfs name.now.pair.pi name.now.level.0 (Some name.now.bytes) }
+    ensures { result ≡ name_fits labels.now rows.now names.now name.now.pair.lfs name.now.pair.pi
+        name.now.level.0 (Some name.now.bytes) }
 {
     has_table(rows, name.pair)
         && is_known(labels, name.level.0)

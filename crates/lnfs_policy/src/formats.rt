@@ -17,7 +17,8 @@ use std::alloc::{AllocError, Global};
 /// The row of a name in the table of a format.
 fn row_of(alloc: Global, labels: &[Label], name: &LevelName) -> Result<NameRow, AllocError>
     requires { 0 < length labels.now }
-    ensures { IfOk result (λ row. row ≡ record { label = label_at labels.now name.now.level.0; bytes = name.now.bytes }) }
+    ensures { IfOk result (λ row. row
+        ≡ record { label = label_at labels.now name.now.level.0; bytes = name.now.bytes }) }
 {
     Ok(NameRow {
         label: *label_at(labels, name.level.0),
@@ -33,7 +34,8 @@ fn table_of(
     pair: Pair,
 ) -> Result<Vec<NameRow>, AllocError>
     requires { 0 < length labels.now }
-    ensures { IfOk result (λ rows. rows.items ≡ filter_map (name_row labels.now pair.lfs pair.pi) names.now) }
+    ensures { IfOk result (λ rows. rows.items ≡ filter_map (name_row labels.now pair.lfs pair.pi)
+        names.now) }
 {
     let mut rows = Vec::new(alloc);
     for name in names {
@@ -87,7 +89,8 @@ pub fn entries_of(
 }
 
 fn all_spelled(codecs: &Codecs, kind: &Kind, labels: &[Label]) -> Result<bool, AllocError>
-    ensures { IfOk result (λ all. all ≡ list_all (λ label. is_some (writes kind.now label)) labels.now) }
+    ensures { IfOk result (λ all. all ≡ list_all (λ label. is_some (writes kind.now label))
+        labels.now) }
 {
     for label in labels {
         if codecs.write(kind, label)?.is_none() {

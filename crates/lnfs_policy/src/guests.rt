@@ -49,7 +49,8 @@ fn level_in(levels: &BTreeMap<Named, Level>, class: u32, uid: Option<u32>) -> Op
 
 /// Notes the level of one more line, where no earlier one fits all whom it names.
 fn note(levels: &mut BTreeMap<Named, Level>, line: &Guest) -> Result<(), AllocError>
-    ensures { OnOk result ((lines : List Guest) → AreLevelsOf lines levels.old → AreLevelsOf (lines ++ line.now ∷ []) levels.new) }
+    ensures { OnOk result ((lines : List Guest) → AreLevelsOf lines levels.old →
+        AreLevelsOf (lines ++ line.now ∷ []) levels.new) }
 {
     let (class, uid) = (line.class, line.uid);
     if level_in(levels, class, uid).is_some() {

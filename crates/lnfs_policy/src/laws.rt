@@ -10,7 +10,8 @@ ghost use Rattle.lnfs_policy.specs.Spelled.{spelled, HasNumbers};
 
 /// A line says something exactly where its words are the one spelling of it.
 pub fn lines()
-    ensures { (words : List (List ℕ)) (line : Line) → (line_of words ≡ Ok line) ↔ (HasNumbers line × (words ≡ spelled line)) }
+    ensures { (words : List (List ℕ)) (line : Line) →
+        (line_of words ≡ Ok line) ↔ (HasNumbers line × (words ≡ spelled line)) }
 {}
 
 /// The labels of a policy are labels, and its formats are formats. So each format reads some bytes as a label

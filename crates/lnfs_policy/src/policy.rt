@@ -111,14 +111,14 @@ impl Policy {
     }
 
     /// Dominance of the levels is a preorder, with level 0 below all.
-    pub fn is_preordered(&self)
+    pub fn law_preorder(&self)
         ensures { IsPreorderWithBottom (dominance self.now) }
     {
-        self.lattice.is_preordered();
+        self.lattice.law_preorder();
     }
 
     /// A policy is what its own text spells.
-    pub fn is_policy(&self)
+    pub fn law_policy(&self)
         ensures { IsPolicy self.now }
     {
         let _text = &self.text;

@@ -58,6 +58,6 @@ pub fn write_policy(alloc: Global, policy: &Policy) -> Result<Vec<u8>, AllocErro
     // reading it gives the policy again
     ensures again { IfOk result (λ text. policy_of text.items ≡ Ok policy.now) }
 {
-    policy.is_policy();
+    policy.law_policy();
     Vec::from_slice(alloc, &policy.text)
 }

@@ -90,7 +90,8 @@ impl Reading {
     }
 
     fn add_label(&mut self, place: u32, label: Option<Label>) -> Result<(), Stop>
-        ensures { MatchResult result (λ _. add_label self.old place label ≡ Ok self.new) (IsStop (add_label self.old place label)) }
+        ensures { MatchResult result (λ _. add_label self.old place label ≡ Ok self.new)
+            (IsStop (add_label self.old place label)) }
     {
         let Some(label) = label else {
             return Err(Stop::Broken(Cause::Level));
@@ -103,7 +104,8 @@ impl Reading {
     }
 
     fn add_format(&mut self, pair: Pair, spelling: Option<Spelling>) -> Result<(), Stop>
-        ensures { MatchResult result (λ _. add_format self.old pair.lfs pair.pi spelling ≡ Ok self.new) (IsStop (add_format self.old pair.lfs pair.pi spelling)) }
+        ensures { MatchResult result (λ _. add_format self.old pair.lfs pair.pi spelling
+            ≡ Ok self.new) (IsStop (add_format self.old pair.lfs pair.pi spelling)) }
     {
         let Some(spelling) = spelling else {
             return Err(Stop::Broken(Cause::Format));
@@ -116,7 +118,9 @@ impl Reading {
     }
 
     fn add_name(&mut self, pair: Pair, level: u32, hex: &[u8]) -> Result<(), Stop>
-        ensures { MatchResult result (λ _. add_name self.old pair.lfs pair.pi level (lower_hex_of hex.now) ≡ Ok self.new) (IsStop (add_name self.old pair.lfs pair.pi level (lower_hex_of hex.now))) }
+        ensures { MatchResult result (λ _. add_name self.old pair.lfs pair.pi level
+            (lower_hex_of hex.now) ≡ Ok self.new) (IsStop
+            (add_name self.old pair.lfs pair.pi level (lower_hex_of hex.now))) }
     {
         let Some(bytes) = lower_bytes_of(self.alloc, hex)? else {
             return Err(Stop::Broken(Cause::Name));
@@ -134,7 +138,8 @@ impl Reading {
     }
 
     fn add_parent(&mut self, number: u32, secret: Option<[u8; 32]>, level: u32) -> Result<(), Stop>
-        ensures { MatchResult result (λ _. add_parent self.old number secret level ≡ Ok self.new) (IsStop (add_parent self.old number secret level)) }
+        ensures { MatchResult result (λ _. add_parent self.old number secret level ≡ Ok self.new)
+            (IsStop (add_parent self.old number secret level)) }
     {
         let Some(secret) = secret else {
             return Err(Stop::Broken(Cause::Parent));
@@ -152,7 +157,8 @@ impl Reading {
     }
 
     fn add_guest(&mut self, class: u32, uid: Option<u32>, level: u32) -> Result<(), Stop>
-        ensures { MatchResult result (λ _. add_guest self.old class uid level ≡ Ok self.new) (IsStop (add_guest self.old class uid level)) }
+        ensures { MatchResult result (λ _. add_guest self.old class uid level ≡ Ok self.new)
+            (IsStop (add_guest self.old class uid level)) }
     {
         if !guest_fits(&self.labels, class, level) {
             return Err(Stop::Broken(Cause::Guest));
@@ -166,7 +172,8 @@ impl Reading {
     }
 
     fn add_quota(&mut self, level: u32, nodes: u64, bytes: u64) -> Result<(), Stop>
-        ensures { MatchResult result (λ _. add_quota self.old level nodes bytes ≡ Ok self.new) (IsStop (add_quota self.old level nodes bytes)) }
+        ensures { MatchResult result (λ _. add_quota self.old level nodes bytes ≡ Ok self.new)
+            (IsStop (add_quota self.old level nodes bytes)) }
     {
         if !quota_fits(&self.labels, &self.quotas, level) {
             return Err(Stop::Broken(Cause::Quota));
@@ -179,7 +186,8 @@ impl Reading {
     }
 
     fn add_dir(&mut self, path: &[u8], level: u32) -> Result<(), Stop>
-        ensures { MatchResult result (λ _. add_dir self.old path.now level ≡ Ok self.new) (IsStop (add_dir self.old path.now level)) }
+        ensures { MatchResult result (λ _. add_dir self.old path.now level ≡ Ok self.new)
+            (IsStop (add_dir self.old path.now level)) }
     {
         if !dir_fits(&self.labels, &self.dirs, path, level) {
             return Err(Stop::Broken(Cause::Dir));
@@ -192,7 +200,8 @@ impl Reading {
     }
 
     fn add(&mut self, line: &Line<'_>) -> Result<(), Stop>
-        ensures { MatchResult result (λ _. add self.old (seen line.now) ≡ Ok self.new) (IsStop (add self.old (seen line.now))) }
+        ensures { MatchResult result (λ _. add self.old (seen line.now) ≡ Ok self.new)
+            (IsStop (add self.old (seen line.now))) }
     {
         match *line {
             Line::Version => Ok(()),
@@ -234,7 +243,8 @@ impl Reading {
     }
 
     fn judge_line(&mut self, ended: bool, text: &[u8]) -> Result<(), Stop>
-        ensures { MatchResult result (λ _. judge_line self.old ended text.now ≡ Ok self.new) (IsStop (judge_line self.old ended text.now)) }
+        ensures { MatchResult result (λ _. judge_line self.old ended text.now ≡ Ok self.new)
+            (IsStop (judge_line self.old ended text.now)) }
     {
         if spells(text, "lnfs-policy 1") == self.begun {
             return Err(Stop::Broken(Cause::Version));
@@ -257,7 +267,8 @@ impl Reading {
     /// Reads a line, without its newline. `ended` says whether it had one. An empty line and a comment are
     /// skipped.
     pub fn judge(&mut self, ended: bool, text: &[u8]) -> Result<(), Stop>
-        ensures { MatchResult result (λ _. judge self.old ended text.now ≡ Ok self.new) (IsStop (judge self.old ended text.now)) }
+        ensures { MatchResult result (λ _. judge self.old ended text.now ≡ Ok self.new)
+            (IsStop (judge self.old ended text.now)) }
     {
         if !text.is_empty() && text[0] != b'#' {
             return self.judge_line(ended, text);

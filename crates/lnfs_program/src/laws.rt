@@ -12,8 +12,12 @@ ghost use Rattle.lnfs_program.specs.Writes.{on_out, on_audit, writes_after, fram
 /// Of what is written for events, standard output gets the frames of the replies, and the audit
 /// stream the lines.
 pub fn streams()
-    ensures out { (reply line : List Event → Event → Option (List ℕ)) (journal events : List Event) → on_out (writes_after reply line journal events) ≡ frames_after reply journal events }
-    ensures audit { (reply line : List Event → Event → Option (List ℕ)) (journal events : List Event) → on_audit (writes_after reply line journal events) ≡ lines_after line journal events }
+    ensures out { (reply line : List Event → Event →
+        Option (List ℕ)) (journal events : List Event) →
+        on_out (writes_after reply line journal events) ≡ frames_after reply journal events }
+    ensures audit { (reply line : List Event → Event →
+        Option (List ℕ)) (journal events : List Event) →
+        on_audit (writes_after reply line journal events) ≡ lines_after line journal events }
 {}
 
 /// Under a policy a translation keeps the level, and so dominance in both directions.
@@ -26,7 +30,8 @@ pub fn translation()
         → (source target : Pair) (a b spelled_a spelled_b : List ℕ)
         → translated p.formats p.labels source target a ≡ Ok spelled_a
         → translated p.formats p.labels source target b ≡ Ok spelled_b
-        → dom_by p.formats p.labels target spelled_a spelled_b ≡ dom_by p.formats p.labels source a b }
+        → dom_by p.formats p.labels target spelled_a spelled_b
+        ≡ dom_by p.formats p.labels source a b }
 {
     lnfs_policy::laws::site();
     lnfs_map::laws::translation();

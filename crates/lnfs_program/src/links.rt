@@ -18,7 +18,8 @@ fn listen<N: Net>(net: &mut N, classes: &[u32]) -> Result<(), Stop>
     ensures backs { N.backs net.new ≡ N.backs net.old }
     ensures some { OnErr result (0 < length classes.now) }
     ensures later { Stays (N.faults net.old) (N.faults net.new) }
-    ensures excused { IfErr result (λ stop. (stop ≡ Stop.NetFault) × Rose (N.faults net.old) (N.faults net.new)) }
+    ensures excused { IfErr result (λ stop. (stop ≡ Stop.NetFault)
+        × Rose (N.faults net.old) (N.faults net.new)) }
 {
     for class in classes {
         if net.listen(*class).is_err() {
@@ -35,11 +36,16 @@ fn accept<N: Net>(net: &mut N, classes: &[u32], links: &mut Vec<(u32, N::L)>) ->
     requires room { length classes.now ≤ vec_capacity links.old }
     ensures all { OnOk result (map (λ link. link.0) links.new.items ≡ classes.now) }
     ensures some { OnErr result (IsCut classes.now (map (λ link. link.0) links.new.items)) }
-    ensures new { All (λ link. IsNew (telling N.L.left N.L.taken N.L.read_faults N.L.write_faults link.1)) links.new.items }
-    ensures dealt { Adds (N.dealt net.old) (N.dealt net.new) (map (deal_of (telling N.L.left N.L.taken N.L.read_faults N.L.write_faults)) links.new.items) }
+    ensures new { All (λ link.
+        IsNew (telling N.L.left N.L.taken N.L.read_faults N.L.write_faults link.1))
+        links.new.items }
+    ensures dealt { Adds (N.dealt net.old) (N.dealt net.new)
+        (map (deal_of (telling N.L.left N.L.taken N.L.read_faults N.L.write_faults))
+        links.new.items) }
     ensures backs { N.backs net.new ≡ N.backs net.old }
     ensures later { Stays (N.faults net.old) (N.faults net.new) }
-    ensures excused { IfErr result (λ stop. (stop ≡ Stop.NetFault) × Rose (N.faults net.old) (N.faults net.new)) }
+    ensures excused { IfErr result (λ stop. (stop ≡ Stop.NetFault)
+        × Rose (N.faults net.old) (N.faults net.new)) }
 {
     for class in classes {
         let Ok(link) = net.accept(*class) else {
@@ -54,7 +60,9 @@ fn accept<N: Net>(net: &mut N, classes: &[u32], links: &mut Vec<(u32, N::L)>) ->
 fn hand_back<N: Net>(net: &mut N, links: Vec<(u32, N::L)>)
     requires { Owes (length links.items) (N.dealt net.old) (N.backs net.old) }
     ensures dealt { N.dealt net.new ≡ N.dealt net.old }
-    ensures backs { Adds (N.backs net.old) (N.backs net.new) (map (λ link. telling N.L.left N.L.taken N.L.read_faults N.L.write_faults link.1) links.items) }
+    ensures backs { Adds (N.backs net.old) (N.backs net.new)
+        (map (λ link. telling N.L.left N.L.taken N.L.read_faults N.L.write_faults link.1)
+        links.items) }
     ensures later { Stays (N.faults net.old) (N.faults net.new) }
 {
     let mut left = VecDeque::from_vec(links);
@@ -67,7 +75,9 @@ fn hand_back<N: Net>(net: &mut N, links: Vec<(u32, N::L)>)
 pub fn hang_up<N: Net>(net: &mut N, ends: Vec<LinkEnd<N::L>>)
     requires { Owes (length ends.items) (N.dealt net.old) (N.backs net.old) }
     ensures dealt { N.dealt net.new ≡ N.dealt net.old }
-    ensures backs { Adds (N.backs net.old) (N.backs net.new) (map (λ end. telling N.L.left N.L.taken N.L.read_faults N.L.write_faults end.link) ends.items) }
+    ensures backs { Adds (N.backs net.old) (N.backs net.new)
+        (map (λ end. telling N.L.left N.L.taken N.L.read_faults N.L.write_faults end.link)
+        ends.items) }
     ensures later { Stays (N.faults net.old) (N.faults net.new) }
 {
     let mut left = VecDeque::from_vec(ends);
@@ -89,8 +99,12 @@ pub fn links_of<N: Net>(
     net: &mut N,
     classes: &[u32],
 ) -> Result<Vec<(u32, N::L)>, Stop>
-    ensures came { IfOk result (λ links. Came (telling N.L.left N.L.taken N.L.read_faults N.L.write_faults) classes.now links.items (dealings (N.dealt net.old) (N.dealt net.new) (N.backs net.old) (N.backs net.new))) }
-    ensures stopped { IfErr result (λ stop. Deals (dealings (N.dealt net.old) (N.dealt net.new) (N.backs net.old) (N.backs net.new)) (AreUnserved stop classes.now)) }
+    ensures came { IfOk result (λ links.
+        Came (telling N.L.left N.L.taken N.L.read_faults N.L.write_faults) classes.now links.items
+        (dealings (N.dealt net.old) (N.dealt net.new) (N.backs net.old) (N.backs net.new))) }
+    ensures stopped { IfErr result (λ stop.
+        Deals (dealings (N.dealt net.old) (N.dealt net.new) (N.backs net.old) (N.backs net.new))
+        (AreUnserved stop classes.now)) }
     ensures cause { NetOnly result (N.faults net.old) (N.faults net.new) }
 {
     let mut links = Vec::with_capacity(alloc, classes.len())?;

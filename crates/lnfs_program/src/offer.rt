@@ -32,9 +32,14 @@ fn offer<K: Sink, A: Sink, N: Net, C: Clock + Sync, R: Threads + Wait + Sync>(
 ) -> Result<Status, Stop>
 where
     N::L: Send,
-    ensures offers { Offers (C.may clock.now) policy team.now.links.items result (streams (K.taken out.old) (A.taken audit.old)) (streams (K.taken out.new) (A.taken audit.new)) (dealings (N.dealt net.old) (N.dealt net.new) (N.backs net.old) (N.backs net.new)) }
+    ensures offers { Offers (C.may clock.now) policy team.now.links.items result
+        (streams (K.taken out.old) (A.taken audit.old))
+        (streams (K.taken out.new) (A.taken audit.new))
+        (dealings (N.dealt net.old) (N.dealt net.new) (N.backs net.old) (N.backs net.new)) }
     ensures idle { IsIdleBefore (status_of result) net.old net.new }
-    ensures cause { WritesAndNet result (N.faults net.old) (N.faults net.new) (counts (K.write_faults out.old) (A.write_faults audit.old)) (counts (K.write_faults out.new) (A.write_faults audit.new)) }
+    ensures cause { WritesAndNet result (N.faults net.old) (N.faults net.new)
+        (counts (K.write_faults out.old) (A.write_faults audit.old))
+        (counts (K.write_faults out.new) (A.write_faults audit.new)) }
 {
     match policy.mode() {
         Mode::Enforcing => {}
@@ -69,10 +74,17 @@ pub fn offer_under<F: Files, K: Sink, A: Sink, N: Net, C: Clock + Sync, R: Threa
 ) -> Result<Status, Stop>
 where
     N::L: Send,
-    ensures judges { Judges (F.content files.old) (C.may clock.now) (Some (under name.now (serve team.now.links.items team.now.workers))) result (streams (K.taken out.old) (A.taken audit.old)) (streams (K.taken out.new) (A.taken audit.new)) (dealings (N.dealt net.old) (N.dealt net.new) (N.backs net.old) (N.backs net.new)) }
-    ensures idle { IsIdle (Some (under name.now (serve team.now.links.items team.now.workers))) (status_of result) net.old net.new }
+    ensures judges { Judges (F.content files.old) (C.may clock.now)
+        (Some (under name.now (serve team.now.links.items team.now.workers))) result
+        (streams (K.taken out.old) (A.taken audit.old))
+        (streams (K.taken out.new) (A.taken audit.new))
+        (dealings (N.dealt net.old) (N.dealt net.new) (N.backs net.old) (N.backs net.new)) }
+    ensures idle { IsIdle (Some (under name.now (serve team.now.links.items team.now.workers)))
+        (status_of result) net.old net.new }
     ensures content { F.content files.new ≡ F.content files.old }
-    ensures cause { Gives result (F.faults files.old) (F.faults files.new) (N.faults net.old) (N.faults net.new) (counts (K.write_faults out.old) (A.write_faults audit.old)) (counts (K.write_faults out.new) (A.write_faults audit.new)) }
+    ensures cause { Gives result (F.faults files.old) (F.faults files.new) (N.faults net.old)
+        (N.faults net.new) (counts (K.write_faults out.old) (A.write_faults audit.old))
+        (counts (K.write_faults out.new) (A.write_faults audit.new)) }
 {
     match rules_of(alloc, codecs, files, name)? {
         Ok(policy) => offer(rt, alloc, codecs, policy, team, out, audit, net, clock),

@@ -39,9 +39,14 @@ fn serve_event<M: Mechanism + Drop, K: Sink, A: Sink>(
     audit: &mut A,
 ) -> Result<(), Stop>
     requires fits { Fits event }
-    ensures does { Does result (streams (K.taken out.old) (A.taken audit.old)) (streams (K.taken out.new) (A.taken audit.new)) (answer_writes (answer M.signing vault.old.policy vault.old.journal event) (audit_at M.signing vault.old.policy vault.old.journal event)) }
-    ensures state { OnOk result (vault.new ≡ record vault.old { journal = vault.old.journal ++ event ∷ [] }) }
-    ensures cause { WritesOnly result (counts (K.write_faults out.old) (A.write_faults audit.old)) (counts (K.write_faults out.new) (A.write_faults audit.new)) }
+    ensures does { Does result (streams (K.taken out.old) (A.taken audit.old))
+        (streams (K.taken out.new) (A.taken audit.new))
+        (answer_writes (answer M.signing vault.old.policy vault.old.journal event)
+        (audit_at M.signing vault.old.policy vault.old.journal event)) }
+    ensures state { OnOk result (vault.new ≡ record vault.old
+        { journal = vault.old.journal ++ event ∷ [] }) }
+    ensures cause { WritesOnly result (counts (K.write_faults out.old) (A.write_faults audit.old))
+        (counts (K.write_faults out.new) (A.write_faults audit.new)) }
 {
     let served = vault.serve(codecs, event)?;
     let bytes = frame(alloc, served.reply);
@@ -95,9 +100,13 @@ fn serve_rest<M: Mechanism + Drop, F: Files, K: Sink, A: Sink>(
     audit: &mut A,
 ) -> Result<Status, Stop>
     requires first { vault.old.journal ≡ [] }
-    ensures replays { ReplaysLeft M.signing vault.old.policy (F.left files.old) result (streams (K.taken out.old) (A.taken audit.old)) (streams (K.taken out.new) (A.taken audit.new)) }
+    ensures replays { ReplaysLeft M.signing vault.old.policy (F.left files.old) result
+        (streams (K.taken out.old) (A.taken audit.old))
+        (streams (K.taken out.new) (A.taken audit.new)) }
     ensures content { F.content files.new ≡ F.content files.old }
-    ensures cause { ReadsAndWrites result (F.faults files.old) (F.faults files.new) (counts (K.write_faults out.old) (A.write_faults audit.old)) (counts (K.write_faults out.new) (A.write_faults audit.new)) }
+    ensures cause { ReadsAndWrites result (F.faults files.old) (F.faults files.new)
+        (counts (K.write_faults out.old) (A.write_faults audit.old))
+        (counts (K.write_faults out.new) (A.write_faults audit.new)) }
 {
     let mut reader = TrafficReader::new(alloc);
     let mut buf = [0u8; PIECE];
@@ -134,9 +143,13 @@ pub fn replay<M: Mechanism + Drop, F: Files, K: Sink, A: Sink>(
     out: &mut K,
     audit: &mut A,
 ) -> Result<Status, Stop>
-    ensures replays { ReplaysLeft M.signing policy (F.left files.old) result (streams (K.taken out.old) (A.taken audit.old)) (streams (K.taken out.new) (A.taken audit.new)) }
+    ensures replays { ReplaysLeft M.signing policy (F.left files.old) result
+        (streams (K.taken out.old) (A.taken audit.old))
+        (streams (K.taken out.new) (A.taken audit.new)) }
     ensures content { F.content files.new ≡ F.content files.old }
-    ensures cause { ReadsAndWrites result (F.faults files.old) (F.faults files.new) (counts (K.write_faults out.old) (A.write_faults audit.old)) (counts (K.write_faults out.new) (A.write_faults audit.new)) }
+    ensures cause { ReadsAndWrites result (F.faults files.old) (F.faults files.new)
+        (counts (K.write_faults out.old) (A.write_faults audit.old))
+        (counts (K.write_faults out.new) (A.write_faults audit.new)) }
 {
     let mut vault = Vault::new(alloc, policy, codecs, mechanism)?;
     serve_rest(alloc, codecs, &mut vault, files, out, audit)

@@ -32,11 +32,16 @@ fn judge<F: Files, K: Sink, A: Sink, N: Net, C: Clock + Sync, R: Threads + Wait 
 ) -> Result<Status, Stop>
 where
     N::L: Send,
-    ensures judges { Judges (F.content files.old) (C.may clock.now) (form_of (texts words.now)) result (streams (K.taken out.old) (A.taken audit.old)) (streams (K.taken out.new) (A.taken audit.new)) (dealings (N.dealt net.old) (N.dealt net.new) (N.backs net.old) (N.backs net.new)) }
+    ensures judges { Judges (F.content files.old) (C.may clock.now) (form_of (texts words.now))
+        result (streams (K.taken out.old) (A.taken audit.old))
+        (streams (K.taken out.new) (A.taken audit.new))
+        (dealings (N.dealt net.old) (N.dealt net.new) (N.backs net.old) (N.backs net.new)) }
     ensures idle { IsIdle (form_of (texts words.now)) (status_of result) net.old net.new }
     ensures unread { IsUnread (form_of (texts words.now)) files.old files.new }
     ensures content { F.content files.new ≡ F.content files.old }
-    ensures cause { Gives result (F.faults files.old) (F.faults files.new) (N.faults net.old) (N.faults net.new) (counts (K.write_faults out.old) (A.write_faults audit.old)) (counts (K.write_faults out.new) (A.write_faults audit.new)) }
+    ensures cause { Gives result (F.faults files.old) (F.faults files.new) (N.faults net.old)
+        (N.faults net.new) (counts (K.write_faults out.old) (A.write_faults audit.old))
+        (counts (K.write_faults out.new) (A.write_faults audit.new)) }
 {
     match command_of(alloc, words)? {
         None => Ok(Status::Usage),
@@ -65,12 +70,17 @@ fn tell<F: Files, K: Sink, A: Sink, N: Net, C: Clock + Sync, R: Threads + Wait +
 ) -> Result<Status, Stop>
 where
     N::L: Send,
-    ensures runs { Runs (F.content files.old) (C.may clock.now) (form_of (texts words.now)) (status_of result) (streams (K.taken out.old) (A.taken audit.old)) (streams (K.taken out.new) (A.taken audit.new)) (dealings (N.dealt net.old) (N.dealt net.new) (N.backs net.old) (N.backs net.new)) }
+    ensures runs { Runs (F.content files.old) (C.may clock.now) (form_of (texts words.now))
+        (status_of result) (streams (K.taken out.old) (A.taken audit.old))
+        (streams (K.taken out.new) (A.taken audit.new))
+        (dealings (N.dealt net.old) (N.dealt net.new) (N.backs net.old) (N.backs net.new)) }
     ensures told { IfOk result (λ status. IsSome (told_by status)) }
     ensures idle { IsIdle (form_of (texts words.now)) (status_of result) net.old net.new }
     ensures unread { IsUnread (form_of (texts words.now)) files.old files.new }
     ensures content { F.content files.new ≡ F.content files.old }
-    ensures cause { Gives result (F.faults files.old) (F.faults files.new) (N.faults net.old) (N.faults net.new) (counts (K.write_faults out.old) (A.write_faults audit.old)) (counts (K.write_faults out.new) (A.write_faults audit.new)) }
+    ensures cause { Gives result (F.faults files.old) (F.faults files.new) (N.faults net.old)
+        (N.faults net.new) (counts (K.write_faults out.old) (A.write_faults audit.old))
+        (counts (K.write_faults out.new) (A.write_faults audit.new)) }
 {
     let status = judge(rt, alloc, words, files, out, audit, net, clock, codecs)?;
     let line = status.line(alloc)?;
@@ -92,14 +102,20 @@ fn play<F: Files, K: Sink, A: Sink, N: Net, C: Clock + Sync, R: Threads + Wait +
 ) -> Result<Status, Stop>
 where
     N::L: Send,
-    ensures runs { Runs (F.content files.old) (C.may clock.now) (form_of (texts words.now)) (status_of result) (streams (K.taken out.old) (A.taken audit.old)) (streams (K.taken out.new) (A.taken audit.new)) (dealings (N.dealt net.old) (N.dealt net.new) (N.backs net.old) (N.backs net.new)) }
+    ensures runs { Runs (F.content files.old) (C.may clock.now) (form_of (texts words.now))
+        (status_of result) (streams (K.taken out.old) (A.taken audit.old))
+        (streams (K.taken out.new) (A.taken audit.new))
+        (dealings (N.dealt net.old) (N.dealt net.new) (N.backs net.old) (N.backs net.new)) }
     ensures told { IfOk result (λ status. IsSome (told_by status)) }
     ensures handed { OnOk result ((K.waiting out.new ≡ []) × (A.waiting audit.new ≡ [])) }
-    ensures rests { (HandsOn (K.waiting out.new) (K.write_faults out.old) (K.write_faults out.new)) × (HandsOn (A.waiting audit.new) (A.write_faults audit.old) (A.write_faults audit.new)) }
+    ensures rests { (HandsOn (K.waiting out.new) (K.write_faults out.old) (K.write_faults out.new))
+        × (HandsOn (A.waiting audit.new) (A.write_faults audit.old) (A.write_faults audit.new)) }
     ensures idle { IsIdle (form_of (texts words.now)) (status_of result) net.old net.new }
     ensures unread { IsUnread (form_of (texts words.now)) files.old files.new }
     ensures content { F.content files.new ≡ F.content files.old }
-    ensures cause { Gives result (F.faults files.old) (F.faults files.new) (N.faults net.old) (N.faults net.new) (counts (K.write_faults out.old) (A.write_faults audit.old)) (counts (K.write_faults out.new) (A.write_faults audit.new)) }
+    ensures cause { Gives result (F.faults files.old) (F.faults files.new) (N.faults net.old)
+        (N.faults net.new) (counts (K.write_faults out.old) (A.write_faults audit.old))
+        (counts (K.write_faults out.new) (A.write_faults audit.new)) }
 {
     let told = tell(rt, alloc, words, files, out, audit, net, clock, codecs);
     let handed = hand_on_both(out, audit);
@@ -127,19 +143,27 @@ where
     N::L: Send,
     // the status and the writes are those that are due; where the run gave up, a front of the writes was taken;
     // the links that were dealt are those of a service, and each was handed back
-    ensures runs { Runs (F.content files.old) (C.may clock.now) (form_of (texts words.now)) result (streams (K.taken out.old) (A.taken audit.old)) (streams (K.taken out.new) (A.taken audit.new)) (dealings (N.dealt net.old) (N.dealt net.new) (N.backs net.old) (N.backs net.new)) }
+    ensures runs { Runs (F.content files.old) (C.may clock.now) (form_of (texts words.now)) result
+        (streams (K.taken out.old) (A.taken audit.old))
+        (streams (K.taken out.new) (A.taken audit.new))
+        (dealings (N.dealt net.old) (N.dealt net.new) (N.backs net.old) (N.backs net.new)) }
     // it gives up only where a count rose, or for want of memory
-    ensures reason { HasReason result (F.faults files.old) (F.faults files.new) (N.faults net.old) (N.faults net.new) (counts (K.write_faults out.old) (A.write_faults audit.old)) (counts (K.write_faults out.new) (A.write_faults audit.new)) }
+    ensures reason { HasReason result (F.faults files.old) (F.faults files.new) (N.faults net.old)
+        (N.faults net.new) (counts (K.write_faults out.old) (A.write_faults audit.old))
+        (counts (K.write_faults out.new) (A.write_faults audit.new)) }
     // otherwise the streams hold nothing back; and else neither does, unless a call of it failed
-    ensures handed { IfSome (told_by result) (λ _. (K.waiting out.new ≡ []) × (A.waiting audit.new ≡ [])) }
-    ensures rests { (HandsOn (K.waiting out.new) (K.write_faults out.old) (K.write_faults out.new)) × (HandsOn (A.waiting audit.new) (A.write_faults audit.old) (A.write_faults audit.new)) }
+    ensures handed { IfSome (told_by result) (λ _. (K.waiting out.new ≡ [])
+        × (A.waiting audit.new ≡ [])) }
+    ensures rests { (HandsOn (K.waiting out.new) (K.write_faults out.old) (K.write_faults out.new))
+        × (HandsOn (A.waiting audit.new) (A.write_faults audit.old) (A.write_faults audit.new)) }
     // for words that ask for no service, and where the status comes before one, the net was asked for nothing;
     // without a task no file was opened
     ensures idle { IsIdle (form_of (texts words.now)) result net.old net.new }
     ensures unread { IsUnread (form_of (texts words.now)) files.old files.new }
     // no count falls, and no file changes
     ensures files { F.faults files.old ≤ F.faults files.new }
-    ensures streams { NoneFell (counts (K.write_faults out.old) (A.write_faults audit.old)) (counts (K.write_faults out.new) (A.write_faults audit.new)) }
+    ensures streams { NoneFell (counts (K.write_faults out.old) (A.write_faults audit.old))
+        (counts (K.write_faults out.new) (A.write_faults audit.new)) }
     ensures net { N.faults net.old < 2 ^ 64 → N.faults net.old ≤ N.faults net.new }
     ensures content { F.content files.new ≡ F.content files.old }
 {

@@ -52,7 +52,8 @@ fn name_of(ending: Ending) -> &'static str
 
 /// The line of a link.
 fn link_line(alloc: Global, number: usize, ending: &str, records: u32) -> Result<String, AllocError>
-    ensures { IfOk result (λ line. string_bytes line ≡ codes "link " ++ decimal number ++ 32 ∷ ending.now ++ 32 ∷ decimal records ++ 10 ∷ []) }
+    ensures { IfOk result (λ line. string_bytes line ≡ codes "link " ++ decimal number
+        ++ 32 ∷ ending.now ++ 32 ∷ decimal records ++ 10 ∷ []) }
 {
     let mut line = format!(in alloc; "link {number} ")?;
     line.push_str(ending)?;
@@ -85,7 +86,8 @@ fn put_recording<K: Sink>(out: &mut K, journal: &[Event]) -> Result<(), Stop>
     requires { All Fits journal.now }
     ensures bytes { Puts (K.taken out.old) (K.taken out.new) result (recording_text journal.now) }
     ensures later { K.write_faults out.old ≤ K.write_faults out.new }
-    ensures excused { IfErr result (λ stop. (stop ≡ Stop.WriteFault) × Rose (K.write_faults out.old) (K.write_faults out.new)) }
+    ensures excused { IfErr result (λ stop. (stop ≡ Stop.WriteFault)
+        × Rose (K.write_faults out.old) (K.write_faults out.new)) }
 {
     match put_traffic(out, journal) {
         Ok(()) => Ok(()),
@@ -100,8 +102,11 @@ fn put_lines<K: Sink, A: Sink>(
     out: &mut K,
     audit: &mut A,
 ) -> Result<(), Stop>
-    ensures does { Does result (streams (K.taken out.old) (A.taken audit.old)) (streams (K.taken out.new) (A.taken audit.new)) (map to_audit (map text_at_place lines.now)) }
-    ensures cause { WritesOnly result (counts (K.write_faults out.old) (A.write_faults audit.old)) (counts (K.write_faults out.new) (A.write_faults audit.new)) }
+    ensures does { Does result (streams (K.taken out.old) (A.taken audit.old))
+        (streams (K.taken out.new) (A.taken audit.new))
+        (map to_audit (map text_at_place lines.now)) }
+    ensures cause { WritesOnly result (counts (K.write_faults out.old) (A.write_faults audit.old))
+        (counts (K.write_faults out.new) (A.write_faults audit.new)) }
 {
     for line in lines {
         let text = write_line(alloc, line)?;
@@ -112,8 +117,11 @@ fn put_lines<K: Sink, A: Sink>(
 
 /// Writes lines that have their texts, each by itself.
 fn put_texts<K: Sink, A: Sink>(texts: &[String], out: &mut K, audit: &mut A) -> Result<(), Stop>
-    ensures does { Does result (streams (K.taken out.old) (A.taken audit.old)) (streams (K.taken out.new) (A.taken audit.new)) (map to_audit (map string_bytes texts.now)) }
-    ensures cause { WritesOnly result (counts (K.write_faults out.old) (A.write_faults audit.old)) (counts (K.write_faults out.new) (A.write_faults audit.new)) }
+    ensures does { Does result (streams (K.taken out.old) (A.taken audit.old))
+        (streams (K.taken out.new) (A.taken audit.new))
+        (map to_audit (map string_bytes texts.now)) }
+    ensures cause { WritesOnly result (counts (K.write_faults out.old) (A.write_faults audit.old))
+        (counts (K.write_faults out.new) (A.write_faults audit.new)) }
 {
     for text in texts {
         put_line(out, audit, text.as_bytes())?;
@@ -131,8 +139,11 @@ fn tell_journal<K: Sink, A: Sink>(
     audit: &mut A,
 ) -> Result<(), Stop>
     requires { All Fits journal.now }
-    ensures does { Does result (streams (K.taken out.old) (A.taken audit.old)) (streams (K.taken out.new) (A.taken audit.new)) (to_out (recording_text journal.now) ∷ map to_audit (map text_at_place lines.now)) }
-    ensures cause { WritesOnly result (counts (K.write_faults out.old) (A.write_faults audit.old)) (counts (K.write_faults out.new) (A.write_faults audit.new)) }
+    ensures does { Does result (streams (K.taken out.old) (A.taken audit.old))
+        (streams (K.taken out.new) (A.taken audit.new))
+        (to_out (recording_text journal.now) ∷ map to_audit (map text_at_place lines.now)) }
+    ensures cause { WritesOnly result (counts (K.write_faults out.old) (A.write_faults audit.old))
+        (counts (K.write_faults out.new) (A.write_faults audit.new)) }
 {
     put_recording(out, journal)?;
     put_lines(alloc, lines, out, audit)
@@ -149,14 +160,19 @@ fn tell_session<M: Mechanism + Drop, K: Sink, A: Sink, N: Net>(
     net: &mut N,
 ) -> Result<Status, Stop>
     requires fits { All Fits vault.now.journal }
-    requires lines { lines_in lines.now ≡ lines_of no_extra M.signing vault.now.policy vault.now.journal }
+    requires lines { lines_in lines.now ≡ lines_of no_extra M.signing vault.now.policy
+        vault.now.journal }
     requires owes { Owes (length ends.items) (N.dealt net.old) (N.backs net.old) }
-    ensures plays { Plays (served M.signing vault.now.policy (Some (record { journal = vault.now.journal; ends = map (told_end (telling N.L.left N.L.taken N.L.read_faults N.L.write_faults)) ends.items }))) result (streams (K.taken out.old) (A.taken audit.old)) (streams (K.taken out.new) (A.taken audit.new)) }
+    ensures plays { Plays (served M.signing vault.now.policy
+        (Some (record { journal = vault.now.journal; ends = map (told_end (telling N.L.left N.L.taken N.L.read_faults N.L.write_faults)) ends.items }))) result (streams (K.taken out.old) (A.taken audit.old)) (streams (K.taken out.new) (A.taken audit.new)) }
     ensures memory { OnOk result (All FoundMemory ends.items) }
     ensures dealt { N.dealt net.new ≡ N.dealt net.old }
-    ensures backs { Adds (N.backs net.old) (N.backs net.new) (map (λ end. telling N.L.left N.L.taken N.L.read_faults N.L.write_faults end.link) ends.items) }
+    ensures backs { Adds (N.backs net.old) (N.backs net.new)
+        (map (λ end. telling N.L.left N.L.taken N.L.read_faults N.L.write_faults end.link)
+        ends.items) }
     ensures later { Stays (N.faults net.old) (N.faults net.new) }
-    ensures cause { WritesOnly result (counts (K.write_faults out.old) (A.write_faults audit.old)) (counts (K.write_faults out.new) (A.write_faults audit.new)) }
+    ensures cause { WritesOnly result (counts (K.write_faults out.old) (A.write_faults audit.old))
+        (counts (K.write_faults out.new) (A.write_faults audit.new)) }
 {
     let journal = tell_journal(alloc, vault.journal(), lines, out, audit);
     let texts = link_texts(alloc, &ends);
@@ -180,14 +196,19 @@ fn tell<M: Mechanism + Drop, K: Sink, A: Sink, N: Net>(
     net: &mut N,
 ) -> Result<Status, Stop>
     requires fits { All Fits ended.vault.journal }
-    requires lines { lines_in ended.lines.items ≡ lines_of no_extra M.signing ended.vault.policy ended.vault.journal }
+    requires lines { lines_in ended.lines.items ≡ lines_of no_extra M.signing ended.vault.policy
+        ended.vault.journal }
     requires owes { Owes (length ended.ends.items) (N.dealt net.old) (N.backs net.old) }
-    ensures plays { Plays (served M.signing ended.vault.policy (Some (record { journal = ended.vault.journal; ends = map (told_end (telling N.L.left N.L.taken N.L.read_faults N.L.write_faults)) ended.ends.items }))) result (streams (K.taken out.old) (A.taken audit.old)) (streams (K.taken out.new) (A.taken audit.new)) }
+    ensures plays { Plays (served M.signing ended.vault.policy
+        (Some (record { journal = ended.vault.journal; ends = map (told_end (telling N.L.left N.L.taken N.L.read_faults N.L.write_faults)) ended.ends.items }))) result (streams (K.taken out.old) (A.taken audit.old)) (streams (K.taken out.new) (A.taken audit.new)) }
     ensures memory { OnOk result (All FoundMemory ended.ends.items) }
     ensures dealt { N.dealt net.new ≡ N.dealt net.old }
-    ensures backs { Adds (N.backs net.old) (N.backs net.new) (map (λ end. telling N.L.left N.L.taken N.L.read_faults N.L.write_faults end.link) ended.ends.items) }
+    ensures backs { Adds (N.backs net.old) (N.backs net.new)
+        (map (λ end. telling N.L.left N.L.taken N.L.read_faults N.L.write_faults end.link)
+        ended.ends.items) }
     ensures later { Stays (N.faults net.old) (N.faults net.new) }
-    ensures cause { WritesOnly result (counts (K.write_faults out.old) (A.write_faults audit.old)) (counts (K.write_faults out.new) (A.write_faults audit.new)) }
+    ensures cause { WritesOnly result (counts (K.write_faults out.old) (A.write_faults audit.old))
+        (counts (K.write_faults out.new) (A.write_faults audit.new)) }
 {
     let Ended { vault, ends, lines } = ended;
     tell_session(alloc, &vault, &lines, ends, out, audit, net)
@@ -216,11 +237,16 @@ pub fn serve<
 ) -> Result<Status, Stop>
 where
     N::L: Send,
-    ensures serves { Serves (C.may clock.now) M.signing policy team.now.links.items result (streams (K.taken out.old) (A.taken audit.old)) (streams (K.taken out.new) (A.taken audit.new)) (dealings (N.dealt net.old) (N.dealt net.new) (N.backs net.old) (N.backs net.new)) }
-    ensures cause { WritesAndNet result (N.faults net.old) (N.faults net.new) (counts (K.write_faults out.old) (A.write_faults audit.old)) (counts (K.write_faults out.new) (A.write_faults audit.new)) }
+    ensures serves { Serves (C.may clock.now) M.signing policy team.now.links.items result
+        (streams (K.taken out.old) (A.taken audit.old))
+        (streams (K.taken out.new) (A.taken audit.new))
+        (dealings (N.dealt net.old) (N.dealt net.new) (N.backs net.old) (N.backs net.new)) }
+    ensures cause { WritesAndNet result (N.faults net.old) (N.faults net.new)
+        (counts (K.write_faults out.old) (A.write_faults audit.old))
+        (counts (K.write_faults out.new) (A.write_faults audit.new)) }
 {
     // each reply is the one that its requester would get with what it doesn't dominate purged
-    policy.is_preordered();
+    policy.law_preorder();
     purge::<NoExtra, M>();
     let vault = Vault::new(alloc, policy, codecs, mechanism)?;
     let links = links_of(alloc, net, &team.links)?;

@@ -35,17 +35,29 @@ pub fn start<F: Files, K: Sink, A: Sink, N: Net, C: Clock + Sync, R: Threads + W
 ) -> Result<Status, AllocError>
 where
     N::L: Send,
-    ensures runs { IfOk result (λ status. Runs (F.content files.old) (C.may clock.now) (form_of (texts words.now)) status (streams (K.taken out.old) (A.taken audit.old)) (streams (K.taken out.new) (A.taken audit.new)) (dealings (N.dealt net.old) (N.dealt net.new) (N.backs net.old) (N.backs net.new))) }
-    ensures reason { IfOk result (λ status. HasReason status (F.faults files.old) (F.faults files.new) (N.faults net.old) (N.faults net.new) (counts (K.write_faults out.old) (A.write_faults audit.old)) (counts (K.write_faults out.new) (A.write_faults audit.new))) }
-    ensures handed { IfOk result (λ status. IfSome (told_by status) (λ _. (K.waiting out.new ≡ []) × (A.waiting audit.new ≡ []))) }
-    ensures rests { IfOk result (λ _. (HandsOn (K.waiting out.new) (K.write_faults out.old) (K.write_faults out.new)) × (HandsOn (A.waiting audit.new) (A.write_faults audit.old) (A.write_faults audit.new))) }
-    ensures idle { IfOk result (λ status. IsIdle (form_of (texts words.now)) status net.old net.new) }
+    ensures runs { IfOk result (λ status. Runs (F.content files.old) (C.may clock.now)
+        (form_of (texts words.now)) status (streams (K.taken out.old) (A.taken audit.old))
+        (streams (K.taken out.new) (A.taken audit.new))
+        (dealings (N.dealt net.old) (N.dealt net.new) (N.backs net.old) (N.backs net.new))) }
+    ensures reason { IfOk result (λ status. HasReason status (F.faults files.old)
+        (F.faults files.new) (N.faults net.old) (N.faults net.new)
+        (counts (K.write_faults out.old) (A.write_faults audit.old))
+        (counts (K.write_faults out.new) (A.write_faults audit.new))) }
+    ensures handed { IfOk result (λ status. IfSome (told_by status) (λ _. (K.waiting out.new ≡ [])
+        × (A.waiting audit.new ≡ []))) }
+    ensures rests { IfOk result (λ _.
+        (HandsOn (K.waiting out.new) (K.write_faults out.old) (K.write_faults out.new))
+        × (HandsOn (A.waiting audit.new) (A.write_faults audit.old) (A.write_faults audit.new))) }
+    ensures idle { IfOk result (λ status. IsIdle (form_of (texts words.now)) status net.old
+        net.new) }
     ensures unread { IfOk result (λ _. IsUnread (form_of (texts words.now)) files.old files.new) }
     ensures files { F.faults files.old ≤ F.faults files.new }
-    ensures streams { NoneFell (counts (K.write_faults out.old) (A.write_faults audit.old)) (counts (K.write_faults out.new) (A.write_faults audit.new)) }
+    ensures streams { NoneFell (counts (K.write_faults out.old) (A.write_faults audit.old))
+        (counts (K.write_faults out.new) (A.write_faults audit.new)) }
     ensures net { N.faults net.old < 2 ^ 64 → N.faults net.old ≤ N.faults net.new }
     ensures content { F.content files.new ≡ F.content files.old }
-    ensures nothing { OnErr result ((files.new ≡ files.old) × (out.new ≡ out.old) × (audit.new ≡ audit.old) × (net.new ≡ net.old)) }
+    ensures nothing { OnErr result ((files.new ≡ files.old) × (out.new ≡ out.old)
+        × (audit.new ≡ audit.old) × (net.new ≡ net.old)) }
 {
     let read = move |kind: &Kind, bytes: &[u8]|
         ensures { IfOk result (λ label. label ≡ reads kind.now bytes.now) }

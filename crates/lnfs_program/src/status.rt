@@ -7,6 +7,7 @@ ghost use Rattle.lnfs_program.specs.Ending.{fault_line, map_cause_name, number_o
 use lnfs_policy::Cause;
 use lnfs_types::Text;
 use std::alloc::{AllocError, Global};
+use thiserror::Error;
 
 /// Why some bytes have no translation.
 #[derive(Clone, Copy, Debug, Drop)]
@@ -109,7 +110,8 @@ impl Status {
 }
 
 fn refusal_line(alloc: Global, line: u64, cause: &str) -> Result<String, AllocError>
-    ensures { IfOk result (λ text. string_bytes text ≡ codes "fault 3 policy line " ++ decimal line ++ codes " cause " ++ cause.now ++ 10 ∷ []) }
+    ensures { IfOk result (λ text. string_bytes text ≡ codes "fault 3 policy line " ++ decimal line
+        ++ codes " cause " ++ cause.now ++ 10 ∷ []) }
 {
     let mut text = format!(in alloc; "fault 3 policy line {line} cause ")?;
     text.push_str(cause)?;
@@ -118,15 +120,19 @@ fn refusal_line(alloc: Global, line: u64, cause: &str) -> Result<String, AllocEr
 }
 
 /// Why a run gave up. What the streams took until then is a front of what was due.
-#[derive(Clone, Copy, Debug, Drop)]
+#[derive(Clone, Copy, Debug, Drop, Error)]
 pub enum Stop {
     /// A call of the files failed.
+    #[error("a call of the files failed")]
     ReadFault,
     /// A write failed, or what was written couldn't be handed on.
+    #[error("a write failed")]
     WriteFault,
     /// There was no memory.
+    #[error("out of memory")]
     Memory,
     /// A call of the net failed, before all links were accepted.
+    #[error("a call of the net failed before all links were accepted")]
     NetFault,
 }
 

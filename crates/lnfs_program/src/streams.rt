@@ -21,7 +21,8 @@ pub const PIECE: usize = 65_536;
 pub fn put<K: Sink>(sink: &mut K, bytes: &[u8]) -> Result<(), Stop>
     ensures bytes { Puts (K.taken sink.old) (K.taken sink.new) result bytes.now }
     ensures later { K.write_faults sink.old ≤ K.write_faults sink.new }
-    ensures excused { IfErr result (λ stop. (stop ≡ Stop.WriteFault) × Rose (K.write_faults sink.old) (K.write_faults sink.new)) }
+    ensures excused { IfErr result (λ stop. (stop ≡ Stop.WriteFault)
+        × Rose (K.write_faults sink.old) (K.write_faults sink.new)) }
 {
     match put_all(sink, bytes) {
         Ok(()) => Ok(()),
@@ -33,9 +34,11 @@ pub fn put<K: Sink>(sink: &mut K, bytes: &[u8]) -> Result<(), Stop>
 fn hand_on<K: Sink>(sink: &mut K) -> Result<(), Stop>
     ensures taken { K.taken sink.new ≡ K.taken sink.old }
     ensures handed { OnOk result (K.waiting sink.new ≡ []) }
-    ensures rests { HandsOn (K.waiting sink.new) (K.write_faults sink.old) (K.write_faults sink.new) }
+    ensures rests { HandsOn (K.waiting sink.new) (K.write_faults sink.old)
+        (K.write_faults sink.new) }
     ensures later { K.write_faults sink.old ≤ K.write_faults sink.new }
-    ensures excused { IfErr result (λ stop. (stop ≡ Stop.WriteFault) × Rose (K.write_faults sink.old) (K.write_faults sink.new)) }
+    ensures excused { IfErr result (λ stop. (stop ≡ Stop.WriteFault)
+        × Rose (K.write_faults sink.old) (K.write_faults sink.new)) }
 {
     match sink.flush() {
         Ok(()) => Ok(()),
@@ -48,8 +51,10 @@ pub fn hand_on_both<K: Sink, A: Sink>(out: &mut K, audit: &mut A) -> Result<(), 
     ensures out { K.taken out.new ≡ K.taken out.old }
     ensures audit { A.taken audit.new ≡ A.taken audit.old }
     ensures handed { OnOk result ((K.waiting out.new ≡ []) × (A.waiting audit.new ≡ [])) }
-    ensures rests { (HandsOn (K.waiting out.new) (K.write_faults out.old) (K.write_faults out.new)) × (HandsOn (A.waiting audit.new) (A.write_faults audit.old) (A.write_faults audit.new)) }
-    ensures cause { WritesOnly result (counts (K.write_faults out.old) (A.write_faults audit.old)) (counts (K.write_faults out.new) (A.write_faults audit.new)) }
+    ensures rests { (HandsOn (K.waiting out.new) (K.write_faults out.old) (K.write_faults out.new))
+        × (HandsOn (A.waiting audit.new) (A.write_faults audit.old) (A.write_faults audit.new)) }
+    ensures cause { WritesOnly result (counts (K.write_faults out.old) (A.write_faults audit.old))
+        (counts (K.write_faults out.new) (A.write_faults audit.new)) }
 {
     let first = hand_on(out);
     let second = hand_on(audit);
@@ -60,8 +65,10 @@ pub fn hand_on_both<K: Sink, A: Sink>(out: &mut K, audit: &mut A) -> Result<(), 
 /// Writes a line on the audit stream, behind all that the other stream took: on a terminal that
 /// shows both, it doesn't come before the frame of its event. An empty line is none.
 pub fn put_line<K: Sink, A: Sink>(out: &mut K, audit: &mut A, line: &[u8]) -> Result<(), Stop>
-    ensures does { Does result (streams (K.taken out.old) (A.taken audit.old)) (streams (K.taken out.new) (A.taken audit.new)) (to_audit line.now ∷ []) }
-    ensures cause { WritesOnly result (counts (K.write_faults out.old) (A.write_faults audit.old)) (counts (K.write_faults out.new) (A.write_faults audit.new)) }
+    ensures does { Does result (streams (K.taken out.old) (A.taken audit.old))
+        (streams (K.taken out.new) (A.taken audit.new)) (to_audit line.now ∷ []) }
+    ensures cause { WritesOnly result (counts (K.write_faults out.old) (A.write_faults audit.old))
+        (counts (K.write_faults out.new) (A.write_faults audit.new)) }
 {
     if line.is_empty() {
         return Ok(());
@@ -75,7 +82,8 @@ pub fn show<K: Sink>(out: &mut K, text: &[u8]) -> Result<Status, Stop>
     ensures bytes { Puts (K.taken out.old) (K.taken out.new) result text.now }
     ensures told { IfOk result (λ status. told_by status ≡ Some Status.Ok) }
     ensures later { K.write_faults out.old ≤ K.write_faults out.new }
-    ensures excused { IfErr result (λ stop. (stop ≡ Stop.WriteFault) × Rose (K.write_faults out.old) (K.write_faults out.new)) }
+    ensures excused { IfErr result (λ stop. (stop ≡ Stop.WriteFault)
+        × Rose (K.write_faults out.old) (K.write_faults out.new)) }
 {
     put(out, text)?;
     Ok(Status::Ok)

@@ -46,10 +46,15 @@ fn count<M: Mechanism + Drop>(
     requires fits { Fits event }
     requires replies { tally.old.replies < 2 ^ 63 }
     requires failed { tally.old.failed < 2 ^ 63 }
-    ensures replies { OnOk result (tally.new.replies ≡ tally.old.replies + one_of (answer M.signing vault.old.policy vault.old.journal event)) }
-    ensures failed { OnOk result (tally.new.failed ≡ tally.old.failed + one_of (line_at M.signing vault.old.policy vault.old.journal event)) }
-    ensures frames { (bytes : List ℕ) → Holds256 tally.old.frames bytes → OnOk result (Holds256 tally.new.frames (bytes ++ framed (answer M.signing vault.old.policy vault.old.journal event))) }
-    ensures state { OnOk result (vault.new ≡ record vault.old { journal = vault.old.journal ++ event ∷ [] }) }
+    ensures replies { OnOk result (tally.new.replies ≡ tally.old.replies
+        + one_of (answer M.signing vault.old.policy vault.old.journal event)) }
+    ensures failed { OnOk result (tally.new.failed ≡ tally.old.failed
+        + one_of (line_at M.signing vault.old.policy vault.old.journal event)) }
+    ensures frames { (bytes : List ℕ) → Holds256 tally.old.frames bytes →
+        OnOk result (Holds256 tally.new.frames (bytes
+        ++ framed (answer M.signing vault.old.policy vault.old.journal event))) }
+    ensures state { OnOk result (vault.new ≡ record vault.old
+        { journal = vault.old.journal ++ event ∷ [] }) }
 {
     let served = vault.serve(codecs, event)?;
     if served.reply.is_some() {
@@ -76,9 +81,12 @@ fn count_all<M: Mechanism + Drop>(
     requires replies { tally.old.replies ≡ 0 }
     requires failed { tally.old.failed ≡ 0 }
     requires frames { Holds256 tally.old.frames [] }
-    ensures replies { OnOk result (tally.new.replies ≡ count_after (answer M.signing vault.old.policy) [] events.items) }
-    ensures failed { OnOk result (tally.new.failed ≡ count_after (line_at M.signing vault.old.policy) [] events.items) }
-    ensures frames { OnOk result (Holds256 tally.new.frames (frames_after (answer M.signing vault.old.policy) [] events.items)) }
+    ensures replies { OnOk result (tally.new.replies
+        ≡ count_after (answer M.signing vault.old.policy) [] events.items) }
+    ensures failed { OnOk result (tally.new.failed
+        ≡ count_after (line_at M.signing vault.old.policy) [] events.items) }
+    ensures frames { OnOk result (Holds256 tally.new.frames
+        (frames_after (answer M.signing vault.old.policy) [] events.items)) }
 {
     let mut rest = VecDeque::from_vec(events);
     while let Some(event) = rest.pop_front() {
@@ -96,9 +104,12 @@ fn tally_of<M: Mechanism + Drop>(
     events: Vec<Event>,
 ) -> Result<Tally, AllocError>
     requires { AllByRecursion Fits events.items }
-    ensures replies { IfOk result (λ tally. tally.replies ≡ count_after (answer M.signing policy) [] events.items) }
-    ensures failed { IfOk result (λ tally. tally.failed ≡ count_after (line_at M.signing policy) [] events.items) }
-    ensures frames { IfOk result (λ tally. Holds256 tally.frames (frames_after (answer M.signing policy) [] events.items)) }
+    ensures replies { IfOk result (λ tally. tally.replies
+        ≡ count_after (answer M.signing policy) [] events.items) }
+    ensures failed { IfOk result (λ tally. tally.failed
+        ≡ count_after (line_at M.signing policy) [] events.items) }
+    ensures frames { IfOk result (λ tally. Holds256 tally.frames
+        (frames_after (answer M.signing policy) [] events.items)) }
 {
     let mut vault = Vault::new(alloc, policy, codecs, mechanism)?;
     let mut tally = Tally {
@@ -130,7 +141,8 @@ fn put_row(text: &mut Vec<u8>, word: &str, value: &[u8]) -> Result<(), AllocErro
 
 /// The four lines of so many events, and of what they came to.
 fn summary_of(alloc: Global, events: u64, tally: Tally) -> Result<Vec<u8>, AllocError>
-    ensures { (frames : List ℕ) → Holds256 tally.frames frames → IfOk result (λ text. text.items ≡ told events tally.replies tally.failed frames) }
+    ensures { (frames : List ℕ) → Holds256 tally.frames frames →
+        IfOk result (λ text. text.items ≡ told events tally.replies tally.failed frames) }
 {
     let mut text = Vec::new(alloc);
     put_row(&mut text, "events ", &decimal(alloc, events)?)?;
@@ -151,9 +163,12 @@ pub fn sum_up<M: Mechanism + Drop, K: Sink>(
     out: &mut K,
 ) -> Result<Status, Stop>
     requires { AllByRecursion Fits events.items }
-    ensures plays { (audit : Option (List ℕ)) → Plays (shown (summary M.signing policy events.items)) result (streams (K.taken out.old) audit) (streams (K.taken out.new) audit) }
+    ensures plays { (audit : Option (List ℕ)) →
+        Plays (shown (summary M.signing policy events.items)) result
+        (streams (K.taken out.old) audit) (streams (K.taken out.new) audit) }
     ensures later { K.write_faults out.old ≤ K.write_faults out.new }
-    ensures excused { IfErr result (λ stop. IsExcused stop ⊥ (Rose (K.write_faults out.old) (K.write_faults out.new)) ⊥) }
+    ensures excused { IfErr result (λ stop. IsExcused stop ⊥
+        (Rose (K.write_faults out.old) (K.write_faults out.new)) ⊥) }
 {
     let number = events.len() as u64;
     let tally = tally_of(alloc, codecs, mechanism, policy, events)?;

@@ -19,9 +19,12 @@ use std::alloc::Global;
 
 /// Shows the canonical text of a policy.
 pub fn check<K: Sink>(alloc: Global, policy: &Policy, out: &mut K) -> Result<Status, Stop>
-    ensures plays { (audit : Option (List ℕ)) → Plays (shown policy.now.text) result (streams (K.taken out.old) audit) (streams (K.taken out.new) audit) }
+    ensures plays { (audit : Option (List ℕ)) →
+        Plays (shown policy.now.text) result (streams (K.taken out.old) audit)
+        (streams (K.taken out.new) audit) }
     ensures later { K.write_faults out.old ≤ K.write_faults out.new }
-    ensures excused { IfErr result (λ stop. IsExcused stop ⊥ (Rose (K.write_faults out.old) (K.write_faults out.new)) ⊥) }
+    ensures excused { IfErr result (λ stop. IsExcused stop ⊥
+        (Rose (K.write_faults out.old) (K.write_faults out.new)) ⊥) }
 {
     let text = write_policy(alloc, policy)?;
     show(out, &text)
@@ -29,9 +32,12 @@ pub fn check<K: Sink>(alloc: Global, policy: &Policy, out: &mut K) -> Result<Sta
 
 /// Shows some bytes in hex.
 fn show_hex<K: Sink>(alloc: Global, bytes: &[u8], out: &mut K) -> Result<Status, Stop>
-    ensures plays { (audit : Option (List ℕ)) → Plays (shown (encode_lower bytes.now ++ 10 ∷ [])) result (streams (K.taken out.old) audit) (streams (K.taken out.new) audit) }
+    ensures plays { (audit : Option (List ℕ)) →
+        Plays (shown (encode_lower bytes.now ++ 10 ∷ [])) result (streams (K.taken out.old) audit)
+        (streams (K.taken out.new) audit) }
     ensures later { K.write_faults out.old ≤ K.write_faults out.new }
-    ensures excused { IfErr result (λ stop. IsExcused stop ⊥ (Rose (K.write_faults out.old) (K.write_faults out.new)) ⊥) }
+    ensures excused { IfErr result (λ stop. IsExcused stop ⊥
+        (Rose (K.write_faults out.old) (K.write_faults out.new)) ⊥) }
 {
     let mut text = hex::encode(alloc, bytes)?;
     text.push_str("\n")?;
@@ -61,9 +67,12 @@ pub fn translate<K: Sink>(
     bytes: &[u8],
     out: &mut K,
 ) -> Result<Status, Stop>
-    ensures plays { (audit : Option (List ℕ)) → Plays (spelled (translated policy.now.formats policy.now.labels source target bytes.now)) result (streams (K.taken out.old) audit) (streams (K.taken out.new) audit) }
+    ensures plays { (audit : Option (List ℕ)) →
+        Plays (spelled (translated policy.now.formats policy.now.labels source target bytes.now))
+        result (streams (K.taken out.old) audit) (streams (K.taken out.new) audit) }
     ensures later { K.write_faults out.old ≤ K.write_faults out.new }
-    ensures excused { IfErr result (λ stop. IsExcused stop ⊥ (Rose (K.write_faults out.old) (K.write_faults out.new)) ⊥) }
+    ensures excused { IfErr result (λ stop. IsExcused stop ⊥
+        (Rose (K.write_faults out.old) (K.write_faults out.new)) ⊥) }
 {
     let table = TranslationTable::new(policy.formats(), codecs, policy.lattice());
     match table.translate(source, target, bytes) {

@@ -32,9 +32,13 @@ fn replay_file<F: Files, K: Sink, A: Sink>(
     out: &mut K,
     audit: &mut A,
 ) -> Result<Status, Stop>
-    ensures performs { Performs (F.content files.old) policy (replay traffic.now) result (streams (K.taken out.old) (A.taken audit.old)) (streams (K.taken out.new) (A.taken audit.new)) }
+    ensures performs { Performs (F.content files.old) policy (replay traffic.now) result
+        (streams (K.taken out.old) (A.taken audit.old))
+        (streams (K.taken out.new) (A.taken audit.new)) }
     ensures content { F.content files.new ≡ F.content files.old }
-    ensures cause { ReadsAndWrites result (F.faults files.old) (F.faults files.new) (counts (K.write_faults out.old) (A.write_faults audit.old)) (counts (K.write_faults out.new) (A.write_faults audit.new)) }
+    ensures cause { ReadsAndWrites result (F.faults files.old) (F.faults files.new)
+        (counts (K.write_faults out.old) (A.write_faults audit.old))
+        (counts (K.write_faults out.new) (A.write_faults audit.new)) }
 {
     match policy.mode() {
         Mode::Enforcing => {}
@@ -55,9 +59,12 @@ fn serve_generated<K: Sink>(
     count: u32,
     out: &mut K,
 ) -> Result<Status, Stop>
-    ensures plays { (audit : Option (List ℕ)) → Plays (enforced policy.mode (generation_due keyed_digest policy seed count)) result (streams (K.taken out.old) audit) (streams (K.taken out.new) audit) }
+    ensures plays { (audit : Option (List ℕ)) →
+        Plays (enforced policy.mode (generation_due keyed_digest policy seed count)) result
+        (streams (K.taken out.old) audit) (streams (K.taken out.new) audit) }
     ensures later { K.write_faults out.old ≤ K.write_faults out.new }
-    ensures excused { IfErr result (λ stop. IsExcused stop ⊥ (Rose (K.write_faults out.old) (K.write_faults out.new)) ⊥) }
+    ensures excused { IfErr result (λ stop. IsExcused stop ⊥
+        (Rose (K.write_faults out.old) (K.write_faults out.new)) ⊥) }
 {
     match policy.mode() {
         Mode::Enforcing => {}
@@ -77,9 +84,13 @@ fn perform<F: Files, K: Sink, A: Sink>(
     out: &mut K,
     audit: &mut A,
 ) -> Result<Status, Stop>
-    ensures performs { Performs (F.content files.old) policy (task_of task.now) result (streams (K.taken out.old) (A.taken audit.old)) (streams (K.taken out.new) (A.taken audit.new)) }
+    ensures performs { Performs (F.content files.old) policy (task_of task.now) result
+        (streams (K.taken out.old) (A.taken audit.old))
+        (streams (K.taken out.new) (A.taken audit.new)) }
     ensures content { F.content files.new ≡ F.content files.old }
-    ensures cause { ReadsAndWrites result (F.faults files.old) (F.faults files.new) (counts (K.write_faults out.old) (A.write_faults audit.old)) (counts (K.write_faults out.new) (A.write_faults audit.new)) }
+    ensures cause { ReadsAndWrites result (F.faults files.old) (F.faults files.new)
+        (counts (K.write_faults out.old) (A.write_faults audit.old))
+        (counts (K.write_faults out.new) (A.write_faults audit.new)) }
 {
     match task {
         PolicyTask::Check => check(alloc, &policy, out),
@@ -107,9 +118,13 @@ pub fn under<F: Files, K: Sink, A: Sink>(
     out: &mut K,
     audit: &mut A,
 ) -> Result<Status, Stop>
-    ensures judges { JudgesAlone (F.content files.old) (Some (under name.now (task_of task.now))) result (streams (K.taken out.old) (A.taken audit.old)) (streams (K.taken out.new) (A.taken audit.new)) }
+    ensures judges { JudgesAlone (F.content files.old) (Some (under name.now (task_of task.now)))
+        result (streams (K.taken out.old) (A.taken audit.old))
+        (streams (K.taken out.new) (A.taken audit.new)) }
     ensures content { F.content files.new ≡ F.content files.old }
-    ensures cause { ReadsAndWrites result (F.faults files.old) (F.faults files.new) (counts (K.write_faults out.old) (A.write_faults audit.old)) (counts (K.write_faults out.new) (A.write_faults audit.new)) }
+    ensures cause { ReadsAndWrites result (F.faults files.old) (F.faults files.new)
+        (counts (K.write_faults out.old) (A.write_faults audit.old))
+        (counts (K.write_faults out.new) (A.write_faults audit.new)) }
 {
     match rules_of(alloc, codecs, files, name)? {
         Ok(policy) => perform(alloc, codecs, policy, task, files, out, audit),

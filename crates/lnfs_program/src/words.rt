@@ -143,7 +143,8 @@ fn translation_of<'a>(
     target: Option<Pair>,
     hex: &str,
 ) -> Result<Option<Command<'a>>, AllocError>
-    ensures { IfOk result (λ found. option_map named found ≡ translation policy.now source target (bytes_in hex.now)) }
+    ensures { IfOk result (λ found. option_map named found
+        ≡ translation policy.now source target (bytes_in hex.now)) }
 {
     let Some(source) = source else {
         return Ok(None);
@@ -166,7 +167,8 @@ fn translation_of<'a>(
 
 /// Generated events under the policy of a name, where the words spell a seed and how many there are.
 fn generation_of<'a>(policy: &'a str, seed: &str, count: &str) -> Option<Command<'a>>
-    ensures { option_map named result ≡ generation policy.now (seed_in seed.now) (count_in count.now) }
+    ensures { option_map named result ≡ generation policy.now (seed_in seed.now)
+        (count_in count.now) }
 {
     let seed = number_up_to(u64::MAX, seed.as_bytes())?;
     let count = number_up_to(MOST_EVENTS, count.as_bytes())?;
@@ -220,7 +222,8 @@ fn service_of<'a>(
     links: &str,
     workers: &str,
 ) -> Result<Option<Command<'a>>, AllocError>
-    ensures { IfOk result (λ found. option_map named found ≡ service policy.now (classes_in links.now) (workers_in workers.now)) }
+    ensures { IfOk result (λ found. option_map named found
+        ≡ service policy.now (classes_in links.now) (workers_in workers.now)) }
 {
     let Some(links) = classes_of(alloc, links)? else {
         return Ok(None);

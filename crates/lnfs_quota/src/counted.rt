@@ -16,8 +16,10 @@ impl Quota {
     ///
     /// `AllocError` where there is no memory.
     pub fn counted(alloc: Global, homes: &[Level]) -> Result<Quota, AllocError>
-        ensures { IfOk result (λ quota. (nodes : List Node) → map (λ n. n.id.level) nodes ≡ map (λ l. l.0) homes.now →
-            AllByRecursion (λ n. bytes_of n n.kind ≡ 0) nodes → AllByRecursion IsInBounds nodes → AreTotals quota nodes) }
+        ensures { IfOk result (λ quota. (nodes : List Node) →
+            map (λ n. n.id.level) nodes ≡ map (λ l. l.0) homes.now →
+            AllByRecursion (λ n. bytes_of n n.kind ≡ 0) nodes → AllByRecursion IsInBounds nodes →
+            AreTotals quota nodes) }
     {
         let mut quota = Quota::new(alloc)?;
         for home in homes {

@@ -9,5 +9,5 @@ mod counted;
 mod laws;
 mod quota;
 
-pub use laws::{fitting, totals, usage};
+pub use laws::{law_fitting, law_totals, usage};
 pub use quota::{Quota, Row};

@@ -58,7 +58,8 @@ pub fn put_write(
     content: &Span<'_>,
 ) -> Result<(), AllocError>
     requires { OpFits (Op.Write id.now offset stable content.now) }
-    ensures { OnOk result (out.new ≡ out.old ++ op_text (Op.Write id.now offset stable content.now)) }
+    ensures { OnOk result (out.new ≡ out.old ++ op_text
+        (Op.Write id.now offset stable content.now)) }
 {
     out.u32(OP_WRITE)?;
     put_state_id(out, id)?;
@@ -125,8 +126,10 @@ pub fn put_open(
     making: &Option<Making>,
     claim: &Claim,
 ) -> Result<(), AllocError>
-    requires { OpFits (Op.Open words.seqid words.access words.deny words.client owner.now making.now claim.now) }
-    ensures { OnOk result (out.new ≡ out.old ++ op_text (Op.Open words.seqid words.access words.deny words.client owner.now making.now claim.now)) }
+    requires { OpFits (Op.Open words.seqid words.access words.deny words.client owner.now making.now
+        claim.now) }
+    ensures { OnOk result (out.new ≡ out.old ++ op_text
+        (Op.Open words.seqid words.access words.deny words.client owner.now making.now claim.now)) }
 {
     out.u32(OP_OPEN)?;
     out.u32(words.seqid)?;

@@ -143,7 +143,8 @@ pub fn put_readdir(
     maxcount: u32,
     asked: &Bitmap,
 ) -> Result<(), AllocError>
-    ensures { OnOk result (out.new ≡ out.old ++ op_text (Op.ReadDir cookie verifier.now dircount maxcount asked.now)) }
+    ensures { OnOk result (out.new ≡ out.old ++ op_text
+        (Op.ReadDir cookie verifier.now dircount maxcount asked.now)) }
 {
     out.u32(OP_READDIR)?;
     out.u64(cookie)?;

@@ -45,7 +45,8 @@ pub fn put_exchange_id(
     implementation: &Option<Implementation>,
 ) -> Result<(), AllocError>
     requires { OpFits (Op.ExchangeId verifier.now owner.now flags implementation.now) }
-    ensures { OnOk result (out.new ≡ out.old ++ op_text (Op.ExchangeId verifier.now owner.now flags implementation.now)) }
+    ensures { OnOk result (out.new ≡ out.old ++ op_text
+        (Op.ExchangeId verifier.now owner.now flags implementation.now)) }
 {
     out.u32(OP_EXCHANGE_ID)?;
     out.fixed(verifier)?;
@@ -67,7 +68,8 @@ pub fn put_sys(
 ) -> Result<(), AllocError>
     requires machine { length machine.now < 2 ^ 32 }
     requires gids { length gids.now < 2 ^ 32 }
-    ensures { OnOk result (out.new ≡ out.old ++ sys_text (record { stamp = stamp; machine = machine.now; uid = uid; gid = gid; gids = gids.now })) }
+    ensures { OnOk result (out.new ≡ out.old ++ sys_text
+        (record { stamp = stamp; machine = machine.now; uid = uid; gid = gid; gids = gids.now })) }
 {
     out.u32(stamp)?;
     out.opaque(machine)?;
@@ -109,7 +111,8 @@ fn put_callback(out: &mut XdrWriter, callback: &Callback) -> Result<(), AllocErr
 fn put_callbacks(out: &mut XdrWriter, callbacks: &[Callback]) -> Result<(), AllocError>
     requires few { length callbacks.now ≤ 16 }
     requires each { All CallbackFits callbacks.now }
-    ensures { OnOk result (out.new ≡ out.old ++ word (length callbacks.now) ++ flat_map callback_text callbacks.now) }
+    ensures { OnOk result (out.new ≡ out.old ++ word (length callbacks.now)
+        ++ flat_map callback_text callbacks.now) }
 {
     out.u32(callbacks.len() as u32)?;
     for callback in callbacks {

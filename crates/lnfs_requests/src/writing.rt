@@ -30,7 +30,8 @@ pub fn write_compound(alloc: Global, c: &Compound<'_>) -> Result<Vec<u8>, AllocE
     requires { CompoundFits c.now }
     ensures text { IfOk result (λ v. v.items ≡ compound_text c.now) }
     // It is read again, whatever operations are read beside the table.
-    ensures again { (x : Further) → IsLawful x → IfOk result (λ v. Tells (compound x) c.now v.items) }
+    ensures again { (x : Further) → IsLawful x →
+        IfOk result (λ v. Tells (compound x) c.now v.items) }
 {
     text_of(alloc, c)
 }

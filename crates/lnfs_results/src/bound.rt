@@ -37,6 +37,7 @@ pub fn reply_bound<E: ExtraGrammar>(op: &Op<'_>, extra: &E) -> u32
 
 /// A law: what may answer an operation is no longer than its bound.
 pub fn answers_are_bounded()
-    ensures { (x : Further) (op : Op) (r : OpResult) → IsLawful x → MayAnswer x op r → ResultFits r → IsLimited r
+    ensures { (x : Further) (op : Op) (r : OpResult) → IsLawful x → MayAnswer x op r →
+        ResultFits r → IsLimited r
         → length (result_text r) ≤ op_bound x op }
 {}

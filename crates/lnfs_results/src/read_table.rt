@@ -66,7 +66,8 @@ fn serves(number: u32) -> bool
 /// What follows the status 0 of the operation of a number.
 #[tactic(auto, unfolding(crate::specs::Grammar::fields))]
 fn fields_of(alloc: Global, reader: &mut XdrReader<'_>, number: u32) -> Result<OpResult, Halt>
-    ensures { ParsesInMemory (λ x. x) result reader.old reader.new (read (fields number) reader.old.rest) }
+    ensures { ParsesInMemory (λ x. x) result reader.old reader.new
+        (read (fields number) reader.old.rest) }
 {
     match number {
         OP_ACCESS => Ok(access_of(reader)?),
@@ -108,7 +109,8 @@ fn fields_of(alloc: Global, reader: &mut XdrReader<'_>, number: u32) -> Result<O
 /// What follows the number of an operation that can succeed.
 #[tactic(auto, unfolding(crate::specs::Grammar::served))]
 fn served_of(alloc: Global, reader: &mut XdrReader<'_>, number: u32) -> Result<OpResult, Halt>
-    ensures { ParsesInMemory (λ x. x) result reader.old reader.new (read (served number) reader.old.rest) }
+    ensures { ParsesInMemory (λ x. x) result reader.old reader.new
+        (read (served number) reader.old.rest) }
 {
     let status = reader.u32()?;
     if status != NFS4_OK {
@@ -120,7 +122,8 @@ fn served_of(alloc: Global, reader: &mut XdrReader<'_>, number: u32) -> Result<O
 /// What follows the number of another, which is a status other than 0.
 #[tactic(auto, unfolding(crate::specs::Grammar::unserved))]
 fn unserved_of(reader: &mut XdrReader<'_>, number: u32) -> Result<OpResult, XdrError>
-    ensures { Parses (λ x. x) result reader.old reader.new (read (unserved number) reader.old.rest) }
+    ensures { Parses (λ x. x) result reader.old reader.new
+        (read (unserved number) reader.old.rest) }
 {
     let status = reader.nonzero()?;
     Ok(OpResult::Failed { number, status })
@@ -129,7 +132,8 @@ fn unserved_of(reader: &mut XdrReader<'_>, number: u32) -> Result<OpResult, XdrE
 /// One result.
 #[tactic(auto, unfolding(crate::specs::Grammar::op_result))]
 pub fn result_of(alloc: Global, reader: &mut XdrReader<'_>) -> Result<OpResult, Halt>
-    ensures { ParsesInMemory (λ x. x) result reader.old reader.new (read op_result reader.old.rest) }
+    ensures { ParsesInMemory (λ x. x) result reader.old reader.new
+        (read op_result reader.old.rest) }
 {
     let number = reader.u32()?;
     if number == OP_SETATTR {

@@ -64,7 +64,8 @@ fn written(alloc: Global, policy: &Policy, codecs: &Codecs) -> Result<Vec<Stored
 
 /// The table of each format in turn.
 fn tables(alloc: Global, policy: &Policy, codecs: &Codecs) -> Result<Vec<Table>, AllocError>
-    ensures { IfOk result (λ tables. tables.items ≡ map (table_of policy.now.labels) policy.now.formats) }
+    ensures { IfOk result (λ tables. tables.items ≡ map (table_of policy.now.labels)
+        policy.now.formats) }
 {
     let mut tables = Vec::new(alloc);
     for format in policy.formats().as_slice() {

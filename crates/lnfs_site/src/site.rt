@@ -102,7 +102,8 @@ impl<'a> Site<'a> {
     /// The level of a label as it was given, in any format of the policy. Where labels are carried alone, any label of at
     /// most 1,024 bytes is level 0. Takes no memory.
     pub fn read_label(&self, lfs: u32, pi: u32, bytes: &[u8]) -> LabelRead
-        ensures { read_of result ≡ (site_of self.now).reading (record { lfs = lfs; pi = pi; bytes = bytes.now }) }
+        ensures { read_of result ≡ (site_of self.now).reading
+            (record { lfs = lfs; pi = pi; bytes = bytes.now }) }
     {
         if self.is_limited() {
             return if bytes.len() <= MAX_SPELLING {
@@ -112,7 +113,7 @@ impl<'a> Site<'a> {
             };
         }
         // Each format reads what it writes, and nothing else.
-        self.policy.is_policy();
+        self.policy.law_policy();
         lnfs_policy::laws::site();
         lnfs_format::laws::formats();
         self.labels.read(lfs, pi, bytes)

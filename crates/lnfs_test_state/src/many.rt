@@ -61,7 +61,7 @@ fn make(alloc: Global, lattice: &Lattice, tree: &mut Tree, name: &[u8]) -> Resul
     requires { FactsFor (dom_of lattice.now) tree.old }
     ensures { IfOk result (λ _. FactsFor (dom_of lattice.now) tree.new) }
 {
-    lattice.is_preordered();
+    lattice.law_preorder();
     let Some(root) = tree.node(ROOT) else {
         return Err(Fail::new("no root"));
     };

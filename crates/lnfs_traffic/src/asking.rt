@@ -91,7 +91,8 @@ fn put_named<'a>(
     asked: Op<'a>,
 ) -> Result<(), AllocError>
     requires { OpFits asked }
-    ensures ops { OnOk result (ops.new.items ≡ ops.old.items ++ Op.Lookup (name pick) ∷ asked.entry ∷ []) }
+    ensures ops { OnOk result (ops.new.items ≡ ops.old.items
+        ++ Op.Lookup (name pick) ∷ asked.entry ∷ []) }
     ensures fits { All OpFits ops.old.items → OnOk result (All OpFits ops.new.items) }
 {
     ops.push(Op::Lookup {
@@ -178,7 +179,9 @@ fn later_ops<'a>(
     content: &'a [u8; 64],
 ) -> Result<Vec<Op<'a>>, AllocError>
     requires { 1 < turn.now.past.events }
-    ensures ops { IfOk result (λ ops. ops.items ≡ later_ops (session_id row.now.level turn.now.past.session) (turn.now.past.events - 1) (client_id row.now.level turn.now.past.client) content.now turn.now.pick) }
+    ensures ops { IfOk result (λ ops. ops.items ≡ later_ops
+        (session_id row.now.level turn.now.past.session) (turn.now.past.events - 1)
+        (client_id row.now.level turn.now.past.client) content.now turn.now.pick) }
     ensures fits { IfOk result (λ ops. All OpFits ops.items) }
 {
     let mut ops = Vec::new(alloc);

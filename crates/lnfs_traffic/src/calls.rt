@@ -23,7 +23,8 @@ fn sys_body(alloc: Global, uid: u32) -> Result<Vec<u8>, AllocError>
 #[tactic(auto, unfolding(crate::specs::CallTexts::auth_text))]
 fn put_auth(out: &mut XdrWriter, flavor: u32, body: &[u8]) -> Result<(), AllocError>
     requires { length body.now < 2 ^ 32 }
-    ensures { OnOk result (out.new ≡ out.old ++ auth_text (record { flavor = flavor; body = body.now })) }
+    ensures { OnOk result (out.new ≡ out.old ++ auth_text
+        (record { flavor = flavor; body = body.now })) }
 {
     out.u32(flavor)?;
     out.opaque(body)
@@ -38,7 +39,8 @@ pub fn write_call(
     uid: u32,
     arguments: &[u8],
 ) -> Result<Vec<u8>, AllocError>
-    ensures { IfOk result (λ v. v.items ≡ call_text xid last_procedure (credential uid) no_verifier arguments.now) }
+    ensures { IfOk result (λ v. v.items ≡ call_text xid last_procedure (credential uid) no_verifier
+        arguments.now) }
 {
     let body = sys_body(alloc, uid)?;
     let mut out = XdrWriter::new(alloc);

@@ -31,7 +31,8 @@ fn fields_of<'a>(reader: &mut XdrReader<'a>) -> Result<Fields<'a>, XdrError>
     ensures stage { IfErr result (λ error. stage_of (read event reader.old.rest) ≡ stage_at error) }
     ensures total { reader.new.total ≡ reader.old.total }
     ensures few { IfErr result (λ error. error ≡ Short → length reader.old.rest < event_limit) }
-    ensures fields { MatchResult result (λ fields. read event reader.old.rest ≡ Ok (event_in fields, reader.new.rest)) (λ _. IsErr (read event reader.old.rest)) }
+    ensures fields { MatchResult result (λ fields. read event reader.old.rest
+        ≡ Ok (event_in fields, reader.new.rest)) (λ _. IsErr (read event reader.old.rest)) }
 {
     let class = reader.u32()?;
     let link = reader.u32()?;
@@ -65,7 +66,8 @@ fn event_of(alloc: Global, fields: &Fields<'_>) -> Result<Event, AllocError>
 
 /// The event at the front of the bytes, where one stands there, and the bytes behind it.
 pub fn next_event(alloc: Global, bytes: &[u8]) -> Result<Option<(Event, &[u8])>, AllocError>
-    ensures { IfOk result (λ found. MatchOption found (IsErr (read event bytes.now)) (λ first. read event bytes.now ≡ Ok (first.0, first.1.now))) }
+    ensures { IfOk result (λ found. MatchOption found (IsErr (read event bytes.now)) (λ first.
+        read event bytes.now ≡ Ok (first.0, first.1.now))) }
 {
     let mut reader = XdrReader::new(bytes);
     let Ok(fields) = fields_of(&mut reader) else {

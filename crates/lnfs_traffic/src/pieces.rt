@@ -70,7 +70,8 @@ fn look(alloc: Global, rest: &[u8], place: u64) -> Result<Found, AllocError>
 
 /// Whether nothing is left behind this place.
 fn ends_at(rest: &[u8], at: u64) -> Result<(), TrafficError>
-    ensures { MatchResult result (λ _. rest.now ≡ []) (λ error. (0 < length rest.now) × (error ≡ Damaged at)) }
+    ensures { MatchResult result (λ _. rest.now ≡ []) (λ error. (0 < length rest.now)
+        × (error ≡ Damaged at)) }
 {
     if rest.is_empty() {
         Ok(())
@@ -145,8 +146,11 @@ impl TrafficReader {
     /// byte would be no number of 64 bits.
     pub fn feed(&mut self, piece: &[u8]) -> Result<(), AllocError>
         ensures ok { OnOk result (self.new ≡ fed_to self.old piece.now) }
-        ensures err { OnErr result ((self.new.place ≡ self.old.place) × (self.new.rest ≡ self.old.rest) × (self.new.held ≤ self.old.held)) }
-        ensures reads { OnOk result ((fed : List ℕ) (events : List Event) → Reads fed events self.old.place self.old.rest → Reads (fed ++ piece.now) events self.new.place self.new.rest) }
+        ensures err { OnErr result ((self.new.place ≡ self.old.place)
+            × (self.new.rest ≡ self.old.rest) × (self.new.held ≤ self.old.held)) }
+        ensures reads { OnOk result ((fed : List ℕ) (events : List Event) →
+            Reads fed events self.old.place self.old.rest →
+            Reads (fed ++ piece.now) events self.new.place self.new.rest) }
     {
         let_go(&mut self.bytes, self.start);
         self.start = 0;

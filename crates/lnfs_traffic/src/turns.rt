@@ -27,7 +27,8 @@ pub struct Turn {
 fn next_in(counts: &mut BTreeMap<u32, u32>, level: u32) -> Result<u32, AllocError>
     requires { last_in counts.old level + 1 < 2 ^ 32 }
     ensures value { IfOk result (λ number. number ≡ last_in counts.old level + 1) }
-    ensures counts { OnOk result ((other : ℕ) → last_in counts.new other ≡ (if level == other then last_in counts.old other + 1 else last_in counts.old other)) }
+    ensures counts { OnOk result ((other : ℕ) → last_in counts.new other
+        ≡ (if level == other then last_in counts.old other + 1 else last_in counts.old other)) }
 {
     let last = match counts.get(&level) {
         Some(last) => *last,
@@ -47,9 +48,12 @@ pub fn next_past(
 ) -> Result<Past, AllocError>
     requires clients { last_in clients.old level + 1 < 2 ^ 32 }
     requires sessions { last_in sessions.old level + 1 < 2 ^ 32 }
-    ensures past { IfOk result (λ next. next ≡ next_past past (last_in clients.old level) (last_in sessions.old level)) }
-    ensures clients { OnOk result ((other : ℕ) → last_in clients.new other ≡ last_after past.events 0 level (last_in clients.old) other) }
-    ensures sessions { OnOk result ((other : ℕ) → last_in sessions.new other ≡ last_after past.events 1 level (last_in sessions.old) other) }
+    ensures past { IfOk result (λ next. next ≡ next_past past (last_in clients.old level)
+        (last_in sessions.old level)) }
+    ensures clients { OnOk result ((other : ℕ) → last_in clients.new other
+        ≡ last_after past.events 0 level (last_in clients.old) other) }
+    ensures sessions { OnOk result ((other : ℕ) → last_in sessions.new other
+        ≡ last_after past.events 1 level (last_in sessions.old) other) }
 {
     match past.events {
         0 => Ok(Past {

@@ -14,7 +14,7 @@ use lnfs_types::Event;
 use std::alloc::{AllocError, Global};
 
 /// Says that two words are, and does nothing.
-fn are_words(_class: u32, _link: u32)
+fn law_words(_class: u32, _link: u32)
     ensures class { _class < 2 ^ 32 }
     ensures link { _link < 2 ^ 32 }
 {}
@@ -25,7 +25,7 @@ fn head_of(event: &Event) -> [u8; 24]
     ensures text { result ++ event.now.message ≡ event_text event.now }
     ensures spelled { Spells an_event event.now (event_text event.now) }
 {
-    are_words(event.class, event.link);
+    law_words(event.class, event.link);
     let mut head = [0; 24];
     head[..4].copy_from_slice(&event.class.to_be_bytes());
     head[4..8].copy_from_slice(&event.link.to_be_bytes());
@@ -74,7 +74,8 @@ fn put_event<K: Sink>(sink: &mut K, event: &Event) -> Result<(), Failed>
 /// Hands events to a sink.
 fn put_events<K: Sink>(sink: &mut K, events: &[Event]) -> Result<(), Failed>
     requires { All Fits events.now }
-    ensures bytes { Puts (K.taken sink.old) (K.taken sink.new) result (flat_map event_text events.now) }
+    ensures bytes { Puts (K.taken sink.old) (K.taken sink.new) result
+        (flat_map event_text events.now) }
     ensures spelled { OnOk result (IsRecording events.now (recording_text events.now)) }
     ensures cause { HasCause (K.write_faults sink.old) (K.write_faults sink.new) result }
     ensures beside { K.beside_sink sink.new ≡ K.beside_sink sink.old }

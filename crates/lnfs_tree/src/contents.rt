@@ -52,7 +52,8 @@ impl NodeStore {
     ///
     /// `Stale` where there is no such node, `IsDir` and `Inval` where it is a directory or a symbolic link.
     pub fn file(&self, id: NodeId) -> Result<&Node, TreeError>
-        ensures { result_map_both (λ n. n.now) (λ e. e) result ≡ file_in (node_at self.now (id_of id)) }
+        ensures { result_map_both (λ n. n.now) (λ e. e) result
+            ≡ file_in (node_at self.now (id_of id)) }
     {
         match self.get(id) {
             Some(node) => match node.kind {
@@ -85,7 +86,8 @@ impl NodeStore {
         at: Moment,
     ) -> Result<(), AllocError>
         requires { offset + length bytes.now ≤ MOST_FILE }
-        ensures ok { OnOk result (self.new ≡ updated (is_node (id_of id)) (with_written offset bytes.now at) self.old) }
+        ensures ok { OnOk result (self.new ≡ updated (is_node (id_of id))
+            (with_written offset bytes.now at) self.old) }
         ensures err { OnErr result (self.new ≡ self.old) }
     {
         let Some(node) = node_mut(&mut self.slots, &self.by_id, id) else {
@@ -126,7 +128,8 @@ impl Tree {
         offset: u64,
         count: u32,
     ) -> Result<Vec<u8>, TreeError>
-        ensures { Gives (λ bytes. bytes.items) (read_found self.now (id_of id) offset count) result }
+        ensures { Gives (λ bytes. bytes.items) (read_found self.now (id_of id) offset count)
+            result }
     {
         let node = self.store.file(id)?;
         Ok(node.bytes.read(alloc, offset, count)?)
@@ -139,7 +142,8 @@ impl Tree {
     /// In this order, and then nothing has changed: `Stale` where there is no such node, `IsDir` of a directory, `Inval`
     /// of a symbolic link, `FBig` where a file may not have so many.
     pub fn set_size(&mut self, id: NodeId, size: u64, at: Moment) -> Result<(), TreeError>
-        ensures does { Does (λ u. u) (set_size_of self.old (id_of id) size at) self.old self.new result }
+        ensures does { Does (λ u. u) (set_size_of self.old (id_of id) size at) self.old self.new
+            result }
         ensures calm { result ≢ Err Memory }
     {
         let _file = self.store.file(id)?;
@@ -165,7 +169,8 @@ impl Tree {
         bytes: &[u8],
         at: Moment,
     ) -> Result<(), TreeError>
-        ensures { Does (λ u. u) (write_of self.old (id_of id) offset bytes.now at) self.old self.new result }
+        ensures { Does (λ u. u) (write_of self.old (id_of id) offset bytes.now at) self.old self.new
+            result }
     {
         let file = self.store.file(id)?;
         if !file.bytes.takes(offset, bytes) {

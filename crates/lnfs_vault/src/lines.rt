@@ -15,7 +15,8 @@ use std::alloc::{AllocError, Global};
 
 /// The letter and the status of the line of a call that is refused as a whole.
 fn letter_of_cause(cause: Cause) -> (&'static [u8; 1], u32)
-    ensures { record { place = 0; number = 0; gate = result.0.now; status = result.1 } ≡ line_of_cause (seen_cause cause) }
+    ensures { record { place = 0; number = 0; gate = result.0.now; status = result.1 }
+        ≡ line_of_cause (seen_cause cause) }
 {
     match cause {
         Cause::Caller { stat } => (b"C", stat),
@@ -26,7 +27,8 @@ fn letter_of_cause(cause: Cause) -> (&'static [u8; 1], u32)
 
 /// The line of a call that is refused as a whole.
 pub fn line_of_cause(alloc: Global, at: u64, cause: Cause) -> Result<AuditLine, AllocError>
-    ensures { IfOk result (λ line. IsLineOf at (Some (line_of_cause (seen_cause cause))) (Some line)) }
+    ensures { IfOk result (λ line. IsLineOf at (Some (line_of_cause (seen_cause cause)))
+        (Some line)) }
 {
     let (gate, status) = letter_of_cause(cause);
     Ok(AuditLine {

@@ -164,7 +164,8 @@ fn run_signed<'a, E: ExtraGrammar>(
     aligned: bool,
     call: &lnfs_rpc::Call<'a>,
 ) -> Result<Task<'a>, AllocError>
-    ensures task { IfOk result (λ task. seen_task task ≡ run_signed E.grammar aligned call.now.args.now) }
+    ensures task { IfOk result (λ task. seen_task task
+        ≡ run_signed E.grammar aligned call.now.args.now) }
     ensures few { IfOk result IsBrief }
 {
     if !aligned {
@@ -184,7 +185,8 @@ fn asked_by<'a, E: ExtraGrammar>(
     call: &lnfs_rpc::Call<'a>,
     caller: Caller,
 ) -> Result<Request<'a>, AllocError>
-    ensures asked { IfOk result (λ asked. seen_asked asked ≡ asked_by E.grammar policy.now (seen_call call.now) caller) }
+    ensures asked { IfOk result (λ asked. seen_asked asked
+        ≡ asked_by E.grammar policy.now (seen_call call.now) caller) }
     ensures form { IfOk result IsFormed }
 {
     let xid = call.xid;
@@ -265,7 +267,8 @@ fn asked_by<'a, E: ExtraGrammar>(
 
 /// The refusal of a record that is no call that is served.
 fn refused<'a, E: ExtraGrammar>(error: CallError) -> Request<'a>
-    ensures asked { (m : Signing) (policy : Policy) (class : ℕ) → seen_asked result ≡ asked_of E.grammar m policy class (Err error) }
+    ensures asked { (m : Signing) (policy : Policy) (class : ℕ) →
+        seen_asked result ≡ asked_of E.grammar m policy class (Err error) }
     ensures form { IsFormed result }
 {
     let (xid, cause) = match error {
@@ -292,7 +295,8 @@ fn read_request<'a, E: ExtraGrammar, M: Mechanism>(
     class: u32,
     message: &'a [u8],
 ) -> Result<Request<'a>, AllocError>
-    ensures asked { IfOk result (λ asked. seen_asked asked ≡ request_with E.grammar M.signing policy.now class message.now) }
+    ensures asked { IfOk result (λ asked. seen_asked asked
+        ≡ request_with E.grammar M.signing policy.now class message.now) }
     ensures form { IfOk result IsFormed }
 {
     match read_call(message) {
@@ -316,7 +320,8 @@ pub fn request_of<'a, E: ExtraGrammar, M: Mechanism>(
     class: u32,
     message: &'a [u8],
 ) -> Result<Request<'a>, AllocError>
-    ensures asked { IfOk result (λ asked. seen_asked asked ≡ request_with E.grammar M.signing policy.now class message.now) }
+    ensures asked { IfOk result (λ asked. seen_asked asked
+        ≡ request_with E.grammar M.signing policy.now class message.now) }
     ensures read { IfOk result (λ asked. IsAsked (seen_asked asked)) }
     ensures form { IfOk result IsFormed }
 {

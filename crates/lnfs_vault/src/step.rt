@@ -57,8 +57,10 @@ fn refuse<M: Mechanism>(
     wrapping: &Wrapping<'_>,
     cause: Cause,
 ) -> Result<Said, AllocError>
-    ensures reply { IfOk result (λ said. said.reply ≡ Some (refusal_text M.signing (seen_wrapping wrapping.now) xid (seen_cause cause))) }
-    ensures line { IfOk result (λ said. IsLineOf at (Some (line_of_cause (seen_cause cause))) said.line) }
+    ensures reply { IfOk result (λ said. said.reply
+        ≡ Some (refusal_text M.signing (seen_wrapping wrapping.now) xid (seen_cause cause))) }
+    ensures line { IfOk result (λ said. IsLineOf at (Some (line_of_cause (seen_cause cause)))
+        said.line) }
 {
     let reply = refusal(alloc, mechanism, wrapping, xid, cause)?;
     let line = line_of_cause(alloc, at, cause)?;
@@ -70,7 +72,8 @@ fn refuse<M: Mechanism>(
 
 /// The reply of a NULL.
 fn nothing<M: Mechanism>(alloc: Global, mechanism: &M, xid: u32) -> Result<Said, AllocError>
-    ensures { IfOk result (λ said. (said.reply ≡ Some (bare_text M.signing Plain xid)) × (said.line ≡ None)) }
+    ensures { IfOk result (λ said. (said.reply ≡ Some (bare_text M.signing Plain xid))
+        × (said.line ≡ None)) }
 {
     let reply = bare(alloc, mechanism, &Wrapping::Plain, xid)?;
     Ok(Said {
@@ -92,12 +95,17 @@ fn run<X: Extra, M: Mechanism>(
     requires event { Fits arrival.event.now }
     requires read { IsRead run.now.compound }
     requires few { length run.now.compound.ops ≤ 32 }
-    requires facts { BothStand X.extra.Fact (dominance site.now) (begins_at call.now.level.0 arrival.event.now.moment) (both engine.old.store (X.rows engine.old.extra)) }
+    requires facts { BothStand X.extra.Fact (dominance site.now)
+        (begins_at call.now.level.0 arrival.event.now.moment)
+        (both engine.old.store (X.rows engine.old.extra)) }
     requires sizes { Sizes engine.old.store }
     ensures { IfOk result (λ said.
-        Says arrival.entry.at (both engine.new.store (X.rows engine.new.extra)) (done_for X.extra M.signing site.now (both engine.old.store (X.rows engine.old.extra)) arrival.entry.event.now (seen_call call.now) (run_task run.now.arguments.now run.now.compound)) said) }
+        Says arrival.entry.at (both engine.new.store (X.rows engine.new.extra))
+        (done_for X.extra M.signing site.now (both engine.old.store (X.rows engine.old.extra))
+        arrival.entry.event.now (seen_call call.now)
+        (run_task run.now.arguments.now run.now.compound)) said) }
 {
-    site.policy().is_preordered();
+    site.policy().law_preorder();
     let size = arrival.event.message.len() as u32;
     // no session grants a longer response, whatever the operations could answer
     let room = room_of(&run.compound, &engine.extra).min(MOST_SIZE as usize);
@@ -133,7 +141,10 @@ fn make_context<X: Extra, M: Mechanism>(
 ) -> Result<Said, AllocError>
     requires { length asked.now.label ≤ MAX_SPELLING }
     ensures { (p : any_policy) (event : any_event) → IfOk result (λ said.
-        Says at (both engine.new.store (X.rows engine.new.extra)) (done_for X.extra M.signing p (both engine.old.store (X.rows engine.old.extra)) event (seen_call call.now) (make_task asked.now.parent (record { lfs = asked.now.lfs; pi = asked.now.pi; label = asked.now.label }))) said) }
+        Says at (both engine.new.store (X.rows engine.new.extra))
+        (done_for X.extra M.signing p (both engine.old.store (X.rows engine.old.extra)) event
+        (seen_call call.now) (make_task asked.now.parent
+        (record { lfs = asked.now.lfs; pi = asked.now.pi; label = asked.now.label }))) said) }
 {
     let made = engine.store.make_context(call.level, asked.parent);
     let number = match made {
@@ -170,11 +181,15 @@ fn end_context<X: Extra, M: Mechanism>(
     call: &Call<'_>,
     context: InContext,
 ) -> Result<Said, AllocError>
-    requires { has_context engine.old.store.contexts call.now.level.0 context.parent context.number ≡ true }
+    requires { has_context engine.old.store.contexts call.now.level.0 context.parent context.number
+        ≡ true }
     ensures { (p : any_policy) (event : any_event) → IfOk result (λ said.
-        Says at (both engine.new.store (X.rows engine.new.extra)) (done_for X.extra M.signing p (both engine.old.store (X.rows engine.old.extra)) event (seen_call call.now) (end_task context.number)) said) }
+        Says at (both engine.new.store (X.rows engine.new.extra))
+        (done_for X.extra M.signing p (both engine.old.store (X.rows engine.old.extra)) event
+        (seen_call call.now) (end_task context.number)) said) }
 {
-    let _there = engine
+    // The context is there, so that there is no error.
+    let _done = engine
         .store
         .end_context(call.level, context.parent, context.number);
     let reply = bare(alloc, mechanism, &call.wrapping, call.xid)?;
@@ -186,7 +201,8 @@ fn end_context<X: Extra, M: Mechanism>(
 
 /// Whether the context that a call comes in is there, if it comes in one.
 fn is_there(store: &Store, call: &Call<'_>) -> bool
-    ensures { result ≡ is_there store.now.contexts (seen_call call.now).level (seen_call call.now).context }
+    ensures { result ≡ is_there store.now.contexts (seen_call call.now).level
+        (seen_call call.now).context }
 {
     match call.context {
         Some(context) => store.has_context(call.level, context.parent, context.number),
@@ -210,7 +226,9 @@ fn answer<X: Extra, M: Mechanism>(
     requires holds { Holds X.extra site.now (both engine.old.store (X.rows engine.old.extra)) }
     requires sizes { Sizes engine.old.store }
     ensures { IfOk result (λ said.
-        Says arrival.entry.at (both engine.new.store (X.rows engine.new.extra)) (step_of X.extra M.signing site.now (both engine.old.store (X.rows engine.old.extra)) arrival.entry.event.now (asked (seen_call call.now) (seen_task task.now))) said) }
+        Says arrival.entry.at (both engine.new.store (X.rows engine.new.extra))
+        (step_of X.extra M.signing site.now (both engine.old.store (X.rows engine.old.extra))
+        arrival.entry.event.now (asked (seen_call call.now) (seen_task task.now))) said) }
 {
     let JournaledEvent { at, .. } = arrival;
     if !is_there(&engine.store, call) {
@@ -244,7 +262,9 @@ pub fn say<X: Extra, M: Mechanism>(
     requires holds { Holds X.extra site.now (both engine.old.store (X.rows engine.old.extra)) }
     requires sizes { Sizes engine.old.store }
     ensures { IfOk result (λ said.
-        Says arrival.entry.at (both engine.new.store (X.rows engine.new.extra)) (step_with X.extra M.signing site.now (both engine.old.store (X.rows engine.old.extra)) arrival.entry.event.now) said) }
+        Says arrival.entry.at (both engine.new.store (X.rows engine.new.extra))
+        (step_with X.extra M.signing site.now (both engine.old.store (X.rows engine.old.extra))
+        arrival.entry.event.now) said) }
 {
     match request_of(
         alloc,

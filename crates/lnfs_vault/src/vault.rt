@@ -50,7 +50,8 @@ pub struct Served {
 
 /// The engine of a site before all events.
 fn first_engine<X: Extra>(alloc: Global, site: &Site<'_>, extra: X) -> Result<Engine<X>, AllocError>
-    ensures store { IfOk result (λ engine. engine.store ≡ only_tree (rows_of (first_world site.now))) }
+    ensures store { IfOk result (λ engine. engine.store
+        ≡ only_tree (rows_of (first_world site.now))) }
     ensures extra { IfOk result (λ engine. engine.extra ≡ extra) }
 {
     let tree = first_tree(alloc, site)?;
@@ -71,7 +72,9 @@ fn attempt<X: Extra, M: Mechanism>(
     requires holds { Holds X.extra site.now (both engine.old.store (X.rows engine.old.extra)) }
     requires sizes { Sizes engine.old.store }
     ensures says { IfOk result (λ served.
-        SaysServed (length journal.old.items + 1) (both engine.new.store (X.rows engine.new.extra)) (step_with X.extra M.signing site.now (both engine.old.store (X.rows engine.old.extra)) event) served) }
+        SaysServed (length journal.old.items + 1) (both engine.new.store (X.rows engine.new.extra))
+        (step_with X.extra M.signing site.now (both engine.old.store (X.rows engine.old.extra))
+        event) served) }
     ensures ok { OnOk result (journal.new.items ≡ journal.old.items ++ event ∷ []) }
     ensures err { OnErr result (journal.new.items ≡ journal.old.items) }
 {
@@ -133,7 +136,8 @@ impl<M: Mechanism + Drop, X: Extra> VaultOf<M, X> {
         extra: X,
     ) -> Result<VaultOf<M, X>, AllocError>
         requires { X.rows extra ≡ [] }
-        ensures { IfOk result (λ vault. vault ≡ record { policy = policy; journal = []; stopped = false }) }
+        ensures { IfOk result (λ vault. vault ≡ record
+            { policy = policy; journal = []; stopped = false }) }
     {
         let labels = Labels::new(alloc, &policy, codecs)?;
         let engine = first_engine(alloc, &Site::new(&policy, &labels), extra)?;
@@ -165,9 +169,13 @@ impl<M: Mechanism + Drop, X: Extra> VaultOf<M, X> {
     /// What a level uses: the nodes whose home it is, then the bytes of the files whose label it is. Both are kept as totals.
     pub fn used(&self, level: Level) -> (u64, u64)
         ensures nodes { self.now.stopped ≡ false →
-            result.0 ≡ nodes_used (state_after X.extra M.signing self.now.policy self.now.journal).world.nodes level.0 }
+            result.0
+            ≡ nodes_used (state_after X.extra M.signing self.now.policy
+            self.now.journal).world.nodes level.0 }
         ensures bytes { self.now.stopped ≡ false →
-            result.1 ≡ bytes_used (state_after X.extra M.signing self.now.policy self.now.journal).world.nodes level.0 }
+            result.1
+            ≡ bytes_used (state_after X.extra M.signing self.now.policy
+            self.now.journal).world.nodes level.0 }
     {
         self.engine.store.used(level)
     }
@@ -180,40 +188,57 @@ impl<M: Mechanism + Drop, X: Extra> VaultOf<M, X> {
     pub fn serve(&mut self, codecs: &Codecs, event: Event) -> Result<Served, AllocError>
         requires { Fits event }
         // The reply and the line are those of the event's step on the state after the journal.
-        ensures reply { IfOk result (λ served. served.reply ≡ reply_with X.extra M.signing self.old.policy self.old.journal event) }
-        ensures line { IfOk result (λ served. IsLineOf (length self.old.journal + 1) (line_with X.extra M.signing self.old.policy self.old.journal event) served.line) }
+        ensures reply { IfOk result (λ served. served.reply
+            ≡ reply_with X.extra M.signing self.old.policy self.old.journal event) }
+        ensures line { IfOk result (λ served. IsLineOf (length self.old.journal + 1)
+            (line_with X.extra M.signing self.old.policy self.old.journal event) served.line) }
         // The reply is the one that its requester would get with every event outside its dominance
         // purged from the journal.
-        ensures answer { IfOk result (λ served. served.reply ≡ answer_with X.extra M.signing self.old.policy self.old.journal event) }
+        ensures answer { IfOk result (λ served. served.reply
+            ≡ answer_with X.extra M.signing self.old.policy self.old.journal event) }
         // A COMPOUND that comes again on its slot, with the arguments that the slot keeps, gets the result of
         // the first time: what an event of the journal got (RFC 8881 section 2.10.6.1).
-        ensures retry { (call : Call) (arguments : List ℕ) (c : Compound) (args : Sequence) (x : Session) (slot : Slot) (first : List ℕ) →
-            ComesOnSlot X.extra M.signing self.old.policy self.old.journal event call arguments c args x slot →
-            slot ≡ record { sequence = args.sequence; kept = Some (record { arguments = arguments; reply = first }) } →
+        ensures retry { (call : Call) (arguments : List ℕ) (c : Compound) (args : Sequence)
+            (x : Session) (slot : Slot) (first : List ℕ) →
+            ComesOnSlot X.extra M.signing self.old.policy self.old.journal event call arguments c
+            args x slot →
+            slot
+            ≡ record { sequence = args.sequence; kept = Some (record { arguments = arguments; reply = first }) } →
             IfOk result (IsRetried X.extra M.signing self.old self.new call arguments first) }
         // So does a CREATE_SESSION, with those that its client's record keeps (RFC 8881 section 18.36.4).
-        ensures created { (call : Call) (arguments : List ℕ) (c : Compound) (args : CreateSession) (client : Client) (first : List ℕ) →
-            ComesToClient X.extra M.signing self.old.policy self.old.journal event call arguments c args client →
-            args.sequence ≡ sequence_before client.sequence → client.kept ≡ Some (record { arguments = arguments; reply = first }) →
+        ensures created { (call : Call) (arguments : List ℕ) (c : Compound) (args : CreateSession)
+            (client : Client) (first : List ℕ) →
+            ComesToClient X.extra M.signing self.old.policy self.old.journal event call arguments c
+            args client →
+            args.sequence ≡ sequence_before client.sequence →
+            client.kept ≡ Some (record { arguments = arguments; reply = first }) →
             IfOk result (IsRetried X.extra M.signing self.old self.new call arguments first) }
         // The reply to a COMPOUND on a slot has no more bytes than its session's responses.
-        ensures room { (call : Call) (arguments : List ℕ) (c : Compound) (args : Sequence) (x : Session) (slot : Slot) →
-            ComesOnSlot X.extra M.signing self.old.policy self.old.journal event call arguments c args x slot →
-            IfOk result (λ served. IfSome served.reply (λ reply. length reply ≤ x.channel.max_response)) }
-        ensures short { IfOk result (λ served. IfSome served.reply (λ reply. length reply ≤ RECORD_LIMIT)) }
+        ensures room { (call : Call) (arguments : List ℕ) (c : Compound) (args : Sequence)
+            (x : Session) (slot : Slot) →
+            ComesOnSlot X.extra M.signing self.old.policy self.old.journal event call arguments c
+            args x slot →
+            IfOk result (λ served. IfSome served.reply (λ reply. length reply
+            ≤ x.channel.max_response)) }
+        ensures short { IfOk result (λ served. IfSome served.reply (λ reply. length reply
+            ≤ RECORD_LIMIT)) }
         ensures at { IfOk result (λ served. served.at ≡ length self.old.journal + 1) }
-        ensures kept { OnOk result (self.new ≡ record self.old { journal = self.old.journal ++ event ∷ [] }) }
+        ensures kept { OnOk result (self.new ≡ record self.old
+            { journal = self.old.journal ++ event ∷ [] }) }
         ensures stops { OnErr result (self.new ≡ record self.old { stopped = true }) }
         ensures stopped { self.old.stopped ≡ true → IsErr result }
         // What stands keeps the facts of every world, and that of the further operations.
-        ensures facts { Holds X.extra self.new.policy (state_after X.extra M.signing self.new.policy self.new.journal) }
+        ensures facts { Holds X.extra self.new.policy
+            (state_after X.extra M.signing self.new.policy self.new.journal) }
         // Labels go up alone: a node that stands before and after has a label afterwards that dominates the
         // one that it had.
-        ensures labels { LabelsRise (dominance self.old.policy) (state_after X.extra M.signing self.old.policy self.old.journal).world (state_after X.extra M.signing self.new.policy self.new.journal).world }
+        ensures labels { LabelsRise (dominance self.old.policy)
+            (state_after X.extra M.signing self.old.policy self.old.journal).world
+            (state_after X.extra M.signing self.new.policy self.new.journal).world }
     {
         purge::<X, M>();
         sessions::<X, M>();
-        self.policy.is_preordered();
+        self.policy.law_preorder();
         if self.stopped {
             return Err(AllocError);
         }
@@ -245,7 +270,8 @@ impl<M: Mechanism + Drop> VaultOf<M, NoExtra> {
         codecs: &Codecs,
         mechanism: M,
     ) -> Result<Vault<M>, AllocError>
-        ensures { IfOk result (λ vault. vault ≡ record { policy = policy; journal = []; stopped = false }) }
+        ensures { IfOk result (λ vault. vault ≡ record
+            { policy = policy; journal = []; stopped = false }) }
     {
         VaultOf::with_extra(alloc, policy, codecs, mechanism, NoExtra)
     }

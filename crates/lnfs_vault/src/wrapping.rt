@@ -24,7 +24,8 @@ fn mic_in<M: Mechanism>(
     mechanism: &M,
     wrapping: &Wrapping<'_>,
 ) -> Result<Option<[u8; SIGNATURE]>, AllocError>
-    ensures { IfOk result (λ mic. verifier_by mic ≡ verifier_in M.signing (seen_wrapping wrapping.now)) }
+    ensures { IfOk result (λ mic. verifier_by mic ≡ verifier_in M.signing
+        (seen_wrapping wrapping.now)) }
 {
     match wrapping {
         Wrapping::Plain => Ok(None),
@@ -62,7 +63,9 @@ fn begin_accepted<M: Mechanism>(
     results: usize,
 ) -> Result<XdrWriter, AllocError>
     ensures { IfOk result (λ out.
-        out ≡ head_room ++ reply_text xid (accepted (verifier_in M.signing (seen_wrapping wrapping.now)) stat) []) }
+        out ≡ head_room
+        ++ reply_text xid (accepted (verifier_in M.signing (seen_wrapping wrapping.now)) stat)
+        []) }
 {
     let mic = mic_in(alloc, mechanism, wrapping)?;
     let head = Head::Accepted {
@@ -110,8 +113,10 @@ pub fn end_results<M: Mechanism>(
     built: Vec<u8>,
 ) -> Result<ReplyRecord, AllocError>
     requires { IsBegun (seen_wrapping wrapping.now) built.items }
-    ensures { (results : List ℕ) → built.items ≡ results_begun M.signing (seen_wrapping wrapping.now) xid ++ results →
-        IfOk result (λ reply. reply ≡ answer_text M.signing (seen_wrapping wrapping.now) xid results) }
+    ensures { (results : List ℕ) →
+        built.items ≡ results_begun M.signing (seen_wrapping wrapping.now) xid ++ results →
+        IfOk result (λ reply. reply ≡ answer_text M.signing (seen_wrapping wrapping.now) xid
+        results) }
 {
     match wrapping {
         Wrapping::Plain => Ok(ReplyRecord::new(built)),
@@ -147,7 +152,8 @@ pub fn refusal<M: Mechanism>(
     xid: u32,
     cause: Cause,
 ) -> Result<ReplyRecord, AllocError>
-    ensures { IfOk result (λ reply. reply ≡ refusal_text M.signing (seen_wrapping wrapping.now) xid (seen_cause cause)) }
+    ensures { IfOk result (λ reply. reply ≡ refusal_text M.signing (seen_wrapping wrapping.now) xid
+        (seen_cause cause)) }
 {
     let results = results_of(alloc, cause)?;
     let mic = mic_in(alloc, mechanism, wrapping)?;

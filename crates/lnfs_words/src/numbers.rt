@@ -26,7 +26,9 @@ fn is_plain(word: &[u8]) -> bool
 
 fn value_of(digits: &[u8]) -> Option<u64>
     requires { list_all is_ascii_digit digits.now ≡ true }
-    ensures { result ≡ (if nat_lt (digits_value 10 digits.now) (2 ^ 64) then Some (digits_value 10 digits.now) else None) }
+    ensures { result
+        ≡ (if nat_lt (digits_value 10 digits.now) (2 ^ 64) then Some (digits_value 10 digits.now)
+        else None) }
 {
     let mut value: u64 = 0;
     for digit in digits {

@@ -49,7 +49,8 @@ impl<'a> Parts<'a> {
 
     /// The next part.
     pub fn next(&mut self) -> Option<&'a [u8]>
-        ensures { MatchOption result ((self.old ≡ []) × (self.new ≡ [])) (λ part. self.old ≡ part.now ∷ self.new) }
+        ensures { MatchOption result ((self.old ≡ []) × (self.new ≡ [])) (λ part. self.old
+            ≡ part.now ∷ self.new) }
     {
         let rest = self.rest?;
         match place_of(rest, self.separator) {
@@ -96,7 +97,8 @@ impl<'a> Parts<'a> {
 
     /// The parts that are left, where there are four.
     pub fn four(mut self) -> Option<(&'a [u8], &'a [u8], &'a [u8], &'a [u8])>
-        ensures { option_map (λ p. (p.0.now, p.1.now, p.2.now, p.3.now)) result ≡ four_of self.entry }
+        ensures { option_map (λ p. (p.0.now, p.1.now, p.2.now, p.3.now)) result
+            ≡ four_of self.entry }
     {
         match (
             self.next(),

@@ -34,7 +34,8 @@ fn move_to_front(bytes: &mut [u8], start: usize, end: usize)
 fn make_room(bytes: &mut Vec<u8>, start: usize, end: usize) -> Result<(), AllocError>
     requires order { start ≤ end }
     requires within { end ≤ length bytes.old.items }
-    ensures kept { OnOk result (take (end - start) bytes.new.items ≡ drop start (take end bytes.old.items)) }
+    ensures kept { OnOk result (take (end - start) bytes.new.items
+        ≡ drop start (take end bytes.old.items)) }
     ensures room { OnOk result (end - start < length bytes.new.items) }
     ensures err { OnErr result (bytes.new.items ≡ bytes.old.items) }
 {
@@ -113,7 +114,8 @@ impl ReadBuffer {
     /// Bytes that are there are a part of one record, whose rest is awaited: they are moved to the front, so
     /// that each is moved once at most.
     pub fn read_on<L: Link>(&mut self, link: &mut L) -> Option<Ending>
-        ensures read { ReadOn result (L.left link.old) (L.left link.new) (L.read_faults link.old) (L.read_faults link.new) self.old self.new }
+        ensures read { ReadOn result (L.left link.old) (L.left link.new) (L.read_faults link.old)
+            (L.read_faults link.new) self.old self.new }
         ensures same { IfSome result (λ ending. self.new ≡ self.old) }
         ensures later { L.read_faults link.old ≤ L.read_faults link.new }
         ensures taken { L.taken link.new ≡ L.taken link.old }

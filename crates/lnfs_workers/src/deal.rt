@@ -8,7 +8,8 @@ use std::collections::VecDeque;
 /// Takes the first item of a list, if it has one.
 #[tactic(auto, using(crate::proofs::Dealt::first_removed))]
 pub fn take_first<T: Drop>(items: &mut Vec<T>) -> Option<T>
-    ensures { MatchOption result (items.old.items ≡ []) (λ x. items.old.items ≡ x ∷ items.new.items) }
+    ensures { MatchOption result (items.old.items ≡ []) (λ x. items.old.items
+        ≡ x ∷ items.new.items) }
 {
     if items.is_empty() {
         return None;
@@ -62,7 +63,9 @@ pub fn deal<T: Drop>(
     count: usize,
 ) -> Result<VecDeque<VecDeque<T>>, AllocError>
     requires { 0 < count }
-    ensures hands { IfOk result (λ hands. AllAt (λ m hand. Hand (λ n x. slice_get items.items n ≡ Some x) (length items.items) count m hand.items) 0 hands.items) }
+    ensures hands { IfOk result (λ hands. AllAt (λ m hand.
+        Hand (λ n x. slice_get items.items n ≡ Some x) (length items.items) count m hand.items) 0
+        hands.items) }
     ensures count { IfOk result (λ hands. length hands.items ≡ count) }
 {
     let mut hands = empty_hands(alloc, count)?;

@@ -64,7 +64,9 @@ impl<B: Room, M: Mechanism + Drop, X: Extra> Desk<B, M, X> {
         requires short { length arrival.message ≤ RECORD_LIMIT }
         requires secs { arrival.moment.secs ≤ 9223372036854775807 }
         requires nanos { arrival.moment.nanos < 1000000000 }
-        ensures ok { IfOk result.1 (λ reply. result.0 ≡ part place.link (place.entries ++ entry (record { class = arrival.class; link = place.link; moment = arrival.moment; message = arrival.message }) reply ∷ [])) }
+        ensures ok { IfOk result.1 (λ reply. result.0
+            ≡ part place.link (place.entries ++ entry
+            (record { class = arrival.class; link = place.link; moment = arrival.moment; message = arrival.message }) reply ∷ [])) }
         ensures short { IfOk result.1 (λ reply. IfSome reply (λ r. length r ≤ RECORD_LIMIT)) }
         ensures err { OnErr result.1 (result.0 ≡ place) }
     {
@@ -98,7 +100,8 @@ impl<B: Room, M: Mechanism + Drop, X: Extra> Desk<B, M, X> {
     pub fn learn(&mut self, history: &History<B>, place: LinkView<B>)
         ensures vault { self.new.vault ≡ self.old.vault }
         ensures lines { self.new.lines ≡ self.old.lines }
-        ensures whole { place.entries ≡ of place.link (entries_of X.extra M.signing B.policy self.old.vault.journal) }
+        ensures whole { place.entries ≡ of place.link
+            (entries_of X.extra M.signing B.policy self.old.vault.journal) }
     {
         history.learn(&mut self.keeper, place);
     }
@@ -107,7 +110,8 @@ impl<B: Room, M: Mechanism + Drop, X: Extra> Desk<B, M, X> {
     pub fn look(&mut self, history: &History<B>)
         ensures vault { self.new.vault ≡ self.old.vault }
         ensures lines { self.new.lines ≡ self.old.lines }
-        ensures others { (link : ℕ) → B.links ≤ link → of link (entries_of X.extra M.signing B.policy self.old.vault.journal) ≡ [] }
+        ensures others { (link : ℕ) → B.links ≤ link →
+            of link (entries_of X.extra M.signing B.policy self.old.vault.journal) ≡ [] }
     {
         history.look(&mut self.keeper);
     }
@@ -125,7 +129,8 @@ pub fn serve_record<B: Room, M: Mechanism + Drop, X: Extra>(
     requires short { length arrival.message ≤ RECORD_LIMIT }
     requires secs { arrival.moment.secs ≤ 9223372036854775807 }
     requires nanos { arrival.moment.nanos < 1000000000 }
-    ensures ok { IfOk result.1 (λ reply. result.0 ≡ part place.link (place.entries ++ entry (record { class = arrival.class; link = place.link; moment = arrival.moment; message = arrival.message }) reply ∷ [])) }
+    ensures ok { IfOk result.1 (λ reply. result.0 ≡ part place.link (place.entries
+        ++ entry (record { class = arrival.class; link = place.link; moment = arrival.moment; message = arrival.message }) reply ∷ [])) }
     ensures short { IfOk result.1 (λ reply. IfSome reply (λ r. length r ≤ RECORD_LIMIT)) }
     ensures err { OnErr result.1 (result.0 ≡ place) }
 {

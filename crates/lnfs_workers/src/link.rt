@@ -39,8 +39,10 @@ fn over<B: Room, L: Link + Drop>(
     records: u32,
     place: LinkView<B>,
 ) -> Done<B, L>
-    ensures end { result.end ≡ record { class = class; link = result.end.link; ending = ending; records = records } }
-    ensures link { telling L.left L.taken L.read_faults L.write_faults result.end.link ≡ telling L.left L.taken L.read_faults L.write_faults link }
+    ensures end { result.end
+        ≡ record { class = class; link = result.end.link; ending = ending; records = records } }
+    ensures link { telling L.left L.taken L.read_faults L.write_faults result.end.link
+        ≡ telling L.left L.taken L.read_faults L.write_faults link }
     ensures place { result.place ≡ place }
 {
     link.close();
@@ -73,7 +75,8 @@ fn serve_link<
 ) -> Done<B, L>
     requires { place.entries ≡ [] }
     ensures number { result.place.link ≡ place.link }
-    ensures served { IsServed (telling L.left L.taken L.read_faults L.write_faults) (C.may shared.now.clock.now) class link result.end result.place.entries }
+    ensures served { IsServed (telling L.left L.taken L.read_faults L.write_faults)
+        (C.may shared.now.clock.now) class link result.end result.place.entries }
 {
     let mut incoming = Incoming::new(shared.alloc);
     let mut records = 0;
@@ -127,7 +130,9 @@ pub fn serve_links<
     links: VecDeque<Waiting<B, L>>,
 ) -> Result<VecDeque<Done<B, L>>, AllocError>
     requires { All (λ one. one.place.entries ≡ []) links.items }
-    ensures { IfOk result (λ done. Each (IsDone (telling L.left L.taken L.read_faults L.write_faults) (C.may shared.now.clock.now)) links.items done.items) }
+    ensures { IfOk result (λ done.
+        Each (IsDone (telling L.left L.taken L.read_faults L.write_faults)
+        (C.may shared.now.clock.now)) links.items done.items) }
 {
     let mut turns = Turns::new(worker);
     let mut done = VecDeque::new(shared.alloc);

@@ -46,7 +46,8 @@ fn with_places<B: Room, L: Drop>(
 ) -> Result<Vec<Waiting<B, L>>, AllocError>
     requires first { keeper.old.made ≡ 0 }
     requires few { length links.items ≤ 64 }
-    ensures waiting { IfOk result (λ all. EachAt (λ n link one. (one.class ≡ link.0) × (one.link ≡ link.1) × (one.place ≡ part n [])) 0 links.items all.items) }
+    ensures waiting { IfOk result (λ all. EachAt (λ n link one. (one.class ≡ link.0)
+        × (one.link ≡ link.1) × (one.place ≡ part n [])) 0 links.items all.items) }
     ensures keeper { OnOk result (keeper.new ≡ known keeper.old.log (length links.items)) }
 {
     let mut left = links;
@@ -120,14 +121,19 @@ fn fan_out<
     jobs: Vec<Job<B, L>>,
 ) -> Result<Vec<Result<VecDeque<Done<B, L>>, AllocError>>, AllocError>
     requires { All (λ job. All (λ one. one.place.entries ≡ []) job.links.items) jobs.items }
-    ensures { IfOk result (λ all. Each (λ job one. IfOk one (λ done. Each (IsDone (telling L.left L.taken L.read_faults L.write_faults) (C.may shared.now.clock.now)) job.links.items done.items)) jobs.items all.items) }
+    ensures { IfOk result (λ all. Each (λ job one.
+        IfOk one (λ done.
+        Each (IsDone (telling L.left L.taken L.read_faults L.write_faults)
+        (C.may shared.now.clock.now)) job.links.items done.items)) jobs.items all.items) }
 {
     may_share(codecs);
     may_share(shared.history);
     may_share(shared.desk);
     let serve = move |job: Job<B, L>| -> Result<VecDeque<Done<B, L>>, AllocError>
         requires { All (λ one. one.place.entries ≡ []) job.links.items }
-        ensures { IfOk result (λ done. Each (IsDone (telling L.left L.taken L.read_faults L.write_faults) (C.may shared.entry.now.clock.now)) job.links.items done.items) }
+        ensures { IfOk result (λ done.
+            Each (IsDone (telling L.left L.taken L.read_faults L.write_faults)
+            (C.may shared.entry.now.clock.now)) job.links.items done.items) }
     {
         let Job { worker, links } = job;
         serve_links(rt, codecs, shared, worker, links)
@@ -152,7 +158,9 @@ fn serve_hands<
 ) -> Result<VecDeque<VecDeque<Done<B, L>>>, AllocError>
     requires few { length hands.items ≤ 16 }
     requires entries { All (λ links. All (λ one. one.place.entries ≡ []) links.items) hands.items }
-    ensures { IfOk result (λ all. Each (λ links done. Each (IsDone (telling L.left L.taken L.read_faults L.write_faults) (C.may shared.now.clock.now)) links.items done.items) hands.items all.items) }
+    ensures { IfOk result (λ all. Each (λ links done.
+        Each (IsDone (telling L.left L.taken L.read_faults L.write_faults)
+        (C.may shared.now.clock.now)) links.items done.items) hands.items all.items) }
 {
     let jobs = numbered(shared.alloc, hands)?;
     let served = fan_out(rt, codecs, shared, jobs)?;
@@ -170,14 +178,20 @@ fn settle<B: Room, M: Mechanism + Drop, X: Extra, C: Clock, L: Link + Drop>(
     mut hands: VecDeque<VecDeque<Done<B, L>>>,
 ) -> Result<Ended<M, X, L>, AllocError>
     requires some { 0 < length hands.items }
-    requires hands { AllAt (λ m hand. Hand (λ n one. (one.place.link ≡ n) × Comes (telling L.left L.taken L.read_faults L.write_faults) (C.may clock.now) links.now.value.items n one.end one.place.entries)
+    requires hands { AllAt (λ m hand. Hand (λ n one. (one.place.link ≡ n)
+        × Comes (telling L.left L.taken L.read_faults L.write_faults) (C.may clock.now)
+        links.now.value.items n one.end one.place.entries)
         (length links.now.value.items) (length hands.items) m hand.items) 0 hands.items }
     ensures vault { IfOk result (λ ended. ended.vault ≡ desk.vault) }
     ensures lines { IfOk result (λ ended. ended.lines ≡ desk.lines) }
     ensures fits { OnOk result (All Fits desk.vault.journal) }
-    ensures ends { IfOk result (λ ended. AllAt (λ n end. Comes (telling L.left L.taken L.read_faults L.write_faults) (C.may clock.now) links.now.value.items n end (of n (entries_of X.extra M.signing B.policy desk.vault.journal))) 0 ended.ends.items) }
+    ensures ends { IfOk result (λ ended. AllAt (λ n end.
+        Comes (telling L.left L.taken L.read_faults L.write_faults) (C.may clock.now)
+        links.now.value.items n end
+        (of n (entries_of X.extra M.signing B.policy desk.vault.journal))) 0 ended.ends.items) }
     ensures count { IfOk result (λ ended. length ended.ends.items ≡ length links.now.value.items) }
-    ensures others { OnOk result ((link : ℕ) → B.links ≤ link → of link (entries_of X.extra M.signing B.policy desk.vault.journal) ≡ []) }
+    ensures others { OnOk result ((link : ℕ) → B.links ≤ link →
+        of link (entries_of X.extra M.signing B.policy desk.vault.journal) ≡ []) }
 {
     let mut ends = Vec::new(alloc);
     while let Some(one) = take_next(&mut hands) {
@@ -223,7 +237,8 @@ fn seated<B: Room, L: Drop>(
     requires first { keeper.old.made ≡ 0 }
     requires links { length links.items ≤ 64 }
     requires some { 0 < workers }
-    ensures hands { IfOk result (λ hands. AllAt (λ m hand. Hand (Waits links.items) (length links.items) workers m hand.items) 0 hands.items) }
+    ensures hands { IfOk result (λ hands. AllAt (λ m hand.
+        Hand (Waits links.items) (length links.items) workers m hand.items) 0 hands.items) }
     ensures count { IfOk result (λ hands. length hands.items ≡ workers) }
     ensures keeper { OnOk result (keeper.new ≡ known keeper.old.log (length links.items)) }
 {
@@ -253,11 +268,17 @@ fn serve_seated<
 ) -> Result<Ended<M, X, L>, AllocError>
     requires some { 0 < length hands.items }
     requires few { length hands.items ≤ 16 }
-    requires hands { AllAt (λ m hand. Hand (Waits links.now.value.items) (length links.now.value.items) (length hands.items) m hand.items) 0 hands.items }
+    requires hands { AllAt (λ m hand. Hand (Waits links.now.value.items)
+        (length links.now.value.items) (length hands.items) m hand.items) 0 hands.items }
     ensures policy { IfOk result (λ ended. ended.vault.policy ≡ B.policy) }
-    ensures ends { IfOk result (λ ended. EachAt (λ n link end. IsServed (telling L.left L.taken L.read_faults L.write_faults) (C.may clock.now) link.0 link.1 end (of n (entries_of X.extra M.signing B.policy ended.vault.journal))) 0 links.now.value.items ended.ends.items) }
-    ensures others { IfOk result (λ ended. (link : ℕ) → B.links ≤ link → of link (entries_of X.extra M.signing B.policy ended.vault.journal) ≡ []) }
-    ensures lines { IfOk result (λ ended. lines_in ended.lines.items ≡ lines_of X.extra M.signing B.policy ended.vault.journal) }
+    ensures ends { IfOk result (λ ended. EachAt (λ n link end.
+        IsServed (telling L.left L.taken L.read_faults L.write_faults) (C.may clock.now) link.0
+        link.1 end (of n (entries_of X.extra M.signing B.policy ended.vault.journal))) 0
+        links.now.value.items ended.ends.items) }
+    ensures others { IfOk result (λ ended. (link : ℕ) → B.links ≤ link →
+        of link (entries_of X.extra M.signing B.policy ended.vault.journal) ≡ []) }
+    ensures lines { IfOk result (λ ended. lines_in ended.lines.items
+        ≡ lines_of X.extra M.signing B.policy ended.vault.journal) }
     ensures fits { IfOk result (λ ended. All Fits ended.vault.journal) }
 {
     let desk = Mutex::new(desk);
@@ -300,9 +321,14 @@ fn serve_named<
     requires some { 0 < workers }
     requires few { workers ≤ 16 }
     ensures policy { IfOk result (λ ended. ended.vault.policy ≡ vault.policy) }
-    ensures ends { IfOk result (λ ended. EachAt (λ n link end. IsServed (telling L.left L.taken L.read_faults L.write_faults) (C.may clock.now) link.0 link.1 end (of n (entries_of X.extra M.signing vault.policy ended.vault.journal))) 0 links.items ended.ends.items) }
-    ensures others { IfOk result (λ ended. (link : ℕ) → length links.items ≤ link → of link (entries_of X.extra M.signing vault.policy ended.vault.journal) ≡ []) }
-    ensures lines { IfOk result (λ ended. lines_in ended.lines.items ≡ lines_of X.extra M.signing vault.policy ended.vault.journal) }
+    ensures ends { IfOk result (λ ended. EachAt (λ n link end.
+        IsServed (telling L.left L.taken L.read_faults L.write_faults) (C.may clock.now) link.0
+        link.1 end (of n (entries_of X.extra M.signing vault.policy ended.vault.journal))) 0
+        links.items ended.ends.items) }
+    ensures others { IfOk result (λ ended. (link : ℕ) → length links.items ≤ link →
+        of link (entries_of X.extra M.signing vault.policy ended.vault.journal) ≡ []) }
+    ensures lines { IfOk result (λ ended. lines_in ended.lines.items
+        ≡ lines_of X.extra M.signing vault.policy ended.vault.journal) }
     ensures fits { IfOk result (λ ended. All Fits ended.vault.journal) }
 {
     let given = Snapshot::of(&links);
@@ -348,11 +374,16 @@ pub fn serve_all<
     ensures policy { IfOk result (λ ended. ended.vault.policy ≡ vault.policy) }
     // What each link gave and got is its part of the one journal: its records, which bear its class and
     // moments of the clock, and the frames of the replies that are due to them after all events before.
-    ensures ends { IfOk result (λ ended. EachAt (λ n link end. IsServed (telling L.left L.taken L.read_faults L.write_faults) (C.may clock.now) link.0 link.1 end (of n (entries_of X.extra M.signing vault.policy ended.vault.journal))) 0 links.items ended.ends.items) }
+    ensures ends { IfOk result (λ ended. EachAt (λ n link end.
+        IsServed (telling L.left L.taken L.read_faults L.write_faults) (C.may clock.now) link.0
+        link.1 end (of n (entries_of X.extra M.signing vault.policy ended.vault.journal))) 0
+        links.items ended.ends.items) }
     // Each event of the journal is of one of the links.
-    ensures others { IfOk result (λ ended. (link : ℕ) → length links.items ≤ link → of link (entries_of X.extra M.signing vault.policy ended.vault.journal) ≡ []) }
+    ensures others { IfOk result (λ ended. (link : ℕ) → length links.items ≤ link →
+        of link (entries_of X.extra M.signing vault.policy ended.vault.journal) ≡ []) }
     // The lines are those of the whole journal.
-    ensures lines { IfOk result (λ ended. lines_in ended.lines.items ≡ lines_of X.extra M.signing vault.policy ended.vault.journal) }
+    ensures lines { IfOk result (λ ended. lines_in ended.lines.items
+        ≡ lines_of X.extra M.signing vault.policy ended.vault.journal) }
     // Each event is within the bounds of one.
     ensures fits { IfOk result (λ ended. All Fits ended.vault.journal) }
 {

@@ -62,7 +62,8 @@ pub fn next_record(incoming: &mut Incoming) -> Result<Option<Octets>, Ending>
 
 /// Reads once. Says where the service ends.
 pub fn read_on<L: Link>(link: &mut L, incoming: &mut Incoming) -> Option<Ending>
-    ensures read { ReadOn result (L.left link.old) (L.left link.new) (L.read_faults link.old) (L.read_faults link.new) incoming.old incoming.new }
+    ensures read { ReadOn result (L.left link.old) (L.left link.new) (L.read_faults link.old)
+        (L.read_faults link.new) incoming.old incoming.new }
     ensures later { L.read_faults link.old ≤ L.read_faults link.new }
     ensures taken { L.taken link.new ≡ L.taken link.old }
     ensures write_faults { L.write_faults link.new ≡ L.write_faults link.old }

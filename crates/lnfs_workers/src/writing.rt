@@ -15,7 +15,8 @@ pub fn put_reply<L: Link>(link: &mut L, reply: Option<ReplyRecord>) -> Result<()
     requires { IfSome reply (λ r. length r ≤ RECORD_LIMIT) }
     ensures front { AppendsPart (L.taken link.old) (L.taken link.new) (framed reply) }
     ensures whole { OnOk result (Appends (L.taken link.old) (L.taken link.new) (framed reply)) }
-    ensures ending { IfErr result (IsOfWriting (L.write_faults link.old) (L.write_faults link.new)) }
+    ensures ending { IfErr result (IsOfWriting (L.write_faults link.old)
+        (L.write_faults link.new)) }
     ensures later { L.write_faults link.old ≤ L.write_faults link.new }
     ensures left { L.left link.new ≡ L.left link.old }
     ensures read_faults { L.read_faults link.new ≡ L.read_faults link.old }

@@ -16,18 +16,23 @@ ghost use Rattle.lnfs_world.specs.Usage.{bytes_of};
 /// What each change comes to that a subject may make.
 pub fn changes()
     // What a level that dominates the subject sees afterwards is determined by what it saw before.
-    ensures determined { (dom : ℕ → ℕ → Bool) → IsPreorderWithBottom dom → (level s : ℕ) (c : Change) (w : World) →
+    ensures determined { (dom : ℕ → ℕ → Bool) → IsPreorderWithBottom dom →
+        (level s : ℕ) (c : Change) (w : World) →
         dom level s ≡ true → Facts dom w → is_within dom s w c ≡ true →
         erased dom level (apply c w) ≡ erased dom level (apply c (erased dom level w)) }
     // What any other level sees stays.
-    ensures unseen { (dom : ℕ → ℕ → Bool) → IsPreorderWithBottom dom → (level s : ℕ) (c : Change) (w : World) →
+    ensures unseen { (dom : ℕ → ℕ → Bool) → IsPreorderWithBottom dom →
+        (level s : ℕ) (c : Change) (w : World) →
         dom level s ≡ false → Facts dom w → is_within dom s w c ≡ true →
         erased dom level (apply c w) ≡ erased dom level w }
-    ensures facts { (dom : ℕ → ℕ → Bool) → IsPreorderWithBottom dom → (s : ℕ) (c : Change) (w : World) →
+    ensures facts { (dom : ℕ → ℕ → Bool) → IsPreorderWithBottom dom →
+        (s : ℕ) (c : Change) (w : World) →
         Facts dom w → is_within dom s w c ≡ true → Facts dom (apply c w) }
-    ensures tame { (dom : ℕ → ℕ → Bool) (s : ℕ) (c : Change) (w : World) → is_within dom s w c ≡ true → Tame w (apply c w) }
+    ensures tame { (dom : ℕ → ℕ → Bool) (s : ℕ) (c : Change) (w : World) →
+        is_within dom s w c ≡ true → Tame w (apply c w) }
     // Labels go up alone.
-    ensures labels { (dom : ℕ → ℕ → Bool) → IsPreorderWithBottom dom → (s : ℕ) (c : Change) (w : World) →
+    ensures labels { (dom : ℕ → ℕ → Bool) → IsPreorderWithBottom dom →
+        (s : ℕ) (c : Change) (w : World) →
         Facts dom w → is_within dom s w c ≡ true → LabelsRise dom w (apply c w) }
 {}
 
@@ -36,34 +41,44 @@ pub fn changes()
 pub fn erasure()
     ensures below { (dom : ℕ → ℕ → Bool) → IsPreorderWithBottom dom → (level s : ℕ) (w : World) →
         dom level s ≡ true → erased dom s (erased dom level w) ≡ erased dom s w }
-    ensures names { (dom : ℕ → ℕ → Bool) → IsPreorderWithBottom dom → (level : ℕ) (w : World) (i : Id) → Facts dom w →
+    ensures names { (dom : ℕ → ℕ → Bool) → IsPreorderWithBottom dom →
+        (level : ℕ) (w : World) (i : Id) → Facts dom w →
         sees dom level w.nodes i ≡ dominates_label dom level (label_at w.nodes i) }
     // A level that dominates a node's home sees its kind, label and verifier.
-    ensures outer { (dom : ℕ → ℕ → Bool) (level : ℕ) (w : World) (i : Id) → dom level i.level ≡ true →
-        option_map outer_of (node_at (erased dom level w).nodes i) ≡ option_map outer_of (node_at w.nodes i) }
+    ensures outer { (dom : ℕ → ℕ → Bool) (level : ℕ) (w : World) (i : Id) →
+        dom level i.level ≡ true →
+        option_map outer_of (node_at (erased dom level w).nodes i)
+        ≡ option_map outer_of (node_at w.nodes i) }
     // And nothing more, unless it dominates the label.
-    ensures inner { (dom : ℕ → ℕ → Bool) (level : ℕ) (n : Node) → dom level n.label ≡ false → (shrunk dom level n).inner ≡ blank }
+    ensures inner { (dom : ℕ → ℕ → Bool) (level : ℕ) (n : Node) → dom level n.label ≡ false →
+        (shrunk dom level n).inner ≡ blank }
 {}
 
 /// Directories are a tree in every world with the facts.
 pub fn tree()
-    ensures tree { (dom : ℕ → ℕ → Bool) (w : World) → Facts dom w → Tree (directory_at w.nodes) w.entries }
+    ensures tree { (dom : ℕ → ℕ → Bool) (w : World) → Facts dom w →
+        Tree (directory_at w.nodes) w.entries }
     // No directory lies above itself.
     ensures loops { (dom : ℕ → ℕ → Bool) (w : World) (d : Id) (steps : ℕ) → Facts dom w →
-        directory_at w.nodes d ≡ Some true → way_up (parent_of w.entries) (suc steps) d ≡ Some d → ⊥ }
+        directory_at w.nodes d ≡ Some true → way_up (parent_of w.entries) (suc steps) d ≡ Some d →
+        ⊥ }
     // A walk up, whose steps are limited by what its subject sees, finds what lies above each directory
     // that it sees, and nothing else.
-    ensures walk { (dom : ℕ → ℕ → Bool) → IsPreorderWithBottom dom → (s : ℕ) (w : World) (moved target : Id) → Facts dom w →
+    ensures walk { (dom : ℕ → ℕ → Bool) → IsPreorderWithBottom dom →
+        (s : ℕ) (w : World) (moved target : Id) → Facts dom w →
         directory_at w.nodes target ≡ Some true → sees dom s w.nodes target ≡ true →
         (goes_under dom s w moved target ≡ true) ↔ LeadsTo (parent_of w.entries) target moved }
     // So does a walk of as many steps as there are nodes, to any directory.
-    ensures whole { (dom : ℕ → ℕ → Bool) (w : World) (moved target : Id) → Facts dom w → directory_at w.nodes target ≡ Some true →
-        (is_above (length w.nodes) (parent_of w.entries) moved target ≡ true) ↔ LeadsTo (parent_of w.entries) target moved }
+    ensures whole { (dom : ℕ → ℕ → Bool) (w : World) (moved target : Id) → Facts dom w →
+        directory_at w.nodes target ≡ Some true →
+        (is_above (length w.nodes) (parent_of w.entries) moved target ≡ true)
+        ↔ LeadsTo (parent_of w.entries) target moved }
 {}
 
 /// The first world has the facts, and no bytes, whatever directories are to stand.
 pub fn first()
-    ensures facts { (dom : ℕ → ℕ → Bool) → IsPreorderWithBottom dom → (stored : Option Stored) (dirs : List FirstDir) →
+    ensures facts { (dom : ℕ → ℕ → Bool) → IsPreorderWithBottom dom →
+        (stored : Option Stored) (dirs : List FirstDir) →
         Facts dom (first_tree dom stored dirs) }
     // No node has bytes.
     ensures empty { (dom : ℕ → ℕ → Bool) (stored : Option Stored) (dirs : List FirstDir) →

@@ -51,7 +51,7 @@ module _ (rows : List Row) (t : Rows) (h : Held) (name : List ℕ) (a : files.Is
 pub charge_node-requires : goal.charge_node-requires
 charge_node-requires c =
     let rows = c.args.quota.now in
-    let listed : c.args.dir.now.facts.label.0 < MAX_LEVELS = home_listed rows c.args.tree.now c.args.dir.now c.args.name.now c.requires.there c.requires.counts (c.totals.ensures.held_bounds rows c.args.tree.now.nodes) in
+    let listed : c.args.dir.now.facts.label.0 < MAX_LEVELS = home_listed rows c.args.tree.now c.args.dir.now c.args.name.now c.requires.there c.requires.counts (c.law_totals.ensures.held_bounds rows c.args.tree.now.nodes) in
     let many : length rows ≡ MAX_LEVELS = c.requires.counts.levels in
     record { known = omega arith; fits = c.has_room.ensures.rises c.if-not-has_room.false }
 
@@ -181,9 +181,9 @@ returns-in-Ok-open-clause-counts c =
     let rows = c.args.quota.now in
     subst (λ (rows : List Row). AreTotals rows c.insert.new.self.nodes) (sym c.charge_node.ensures)
     (counts_in rows (site_of c.args.opener.now.site.now).dom c.args.tree.now c.insert.new.self c.args.dir.now c.args.name.now c.requires.there c.in_ok-fresh.fresh c.args.opener.now.caller.now.moment c.args.dir.now.facts.label.0 c.in-Ok.made
-    (c.totals.ensures.touched_alike rows) (c.totals.ensures.made rows) c.requires.counts c.requires.facts (ap (λ (l : Level). l.0) c.in_ok-fresh.ensures.home)
-    (home_listed rows c.args.tree.now c.args.dir.now c.args.name.now c.requires.there c.requires.counts (c.totals.ensures.held_bounds rows c.args.tree.now.nodes))
-    (label_of_fresh rows c.args.tree.now c.args.dir.now c.args.name.now c.requires.there c.requires.counts (c.totals.ensures.held_bounds rows c.args.tree.now.nodes) c.args.wanted.label c.requires.listed c.level_or-label.result c.in_ok-fresh.fresh.label c.level_or-label.ensures c.in_ok-fresh.ensures.label)
+    (c.law_totals.ensures.touched_alike rows) (c.law_totals.ensures.made rows) c.requires.counts c.requires.facts (ap (λ (l : Level). l.0) c.in_ok-fresh.ensures.home)
+    (home_listed rows c.args.tree.now c.args.dir.now c.args.name.now c.requires.there c.requires.counts (c.law_totals.ensures.held_bounds rows c.args.tree.now.nodes))
+    (label_of_fresh rows c.args.tree.now c.args.dir.now c.args.name.now c.requires.there c.requires.counts (c.law_totals.ensures.held_bounds rows c.args.tree.now.nodes) c.args.wanted.label c.requires.listed c.level_or-label.result c.in_ok-fresh.fresh.label c.level_or-label.ensures c.in_ok-fresh.ensures.label)
     c.in-Ok.ensures.does)
 
 pub returns-in-Memory-error-clause-tree : goal.returns-in-Memory-error-clause-tree
@@ -200,7 +200,7 @@ returns-in-Memory-error-clause-counts c =
     let rows = c.args.quota.now in
     subst (λ (rows : List Row). AreTotals rows c.insert.new.self.nodes) (sym c.charge_node.ensures)
     (counts_in rows (site_of c.args.opener.now.site.now).dom c.args.tree.now c.insert.new.self c.args.dir.now c.args.name.now c.requires.there c.in_ok-fresh.fresh c.args.opener.now.caller.now.moment c.args.dir.now.facts.label.0 c.in-Ok.made
-    (c.totals.ensures.touched_alike rows) (c.totals.ensures.made rows) c.requires.counts c.requires.facts (ap (λ (l : Level). l.0) c.in_ok-fresh.ensures.home)
-    (home_listed rows c.args.tree.now c.args.dir.now c.args.name.now c.requires.there c.requires.counts (c.totals.ensures.held_bounds rows c.args.tree.now.nodes))
-    (label_of_fresh rows c.args.tree.now c.args.dir.now c.args.name.now c.requires.there c.requires.counts (c.totals.ensures.held_bounds rows c.args.tree.now.nodes) c.args.wanted.label c.requires.listed c.level_or-label.result c.in_ok-fresh.fresh.label c.level_or-label.ensures c.in_ok-fresh.ensures.label)
+    (c.law_totals.ensures.touched_alike rows) (c.law_totals.ensures.made rows) c.requires.counts c.requires.facts (ap (λ (l : Level). l.0) c.in_ok-fresh.ensures.home)
+    (home_listed rows c.args.tree.now c.args.dir.now c.args.name.now c.requires.there c.requires.counts (c.law_totals.ensures.held_bounds rows c.args.tree.now.nodes))
+    (label_of_fresh rows c.args.tree.now c.args.dir.now c.args.name.now c.requires.there c.requires.counts (c.law_totals.ensures.held_bounds rows c.args.tree.now.nodes) c.args.wanted.label c.requires.listed c.level_or-label.result c.in_ok-fresh.fresh.label c.level_or-label.ensures c.in_ok-fresh.ensures.label)
     c.in-Ok.ensures.does)

@@ -29,9 +29,9 @@ move_up-requires c =
     let h = c.args.held.now in
     let x = is_there t _ h c.requires.held in
     let held : AreBytesHeld rows h.facts.label.0 c.args.bytes =
-    is_counted rows t h _ x (λ n holds. sym (c.requires.bytes t n holds)) c.requires.counts (c.totals.ensures.held_bytes rows t.nodes) (c.totals.ensures.held_bounds rows t.nodes) in
-    let few : c.args.bytes ≤ MOST_FILE = subst (λ (b : ℕ). b ≤ MOST_FILE) (sym (c.requires.bytes t x.0 x.1)) (c.totals.ensures.held_bounds rows t.nodes x.0.id x.0 c.requires.counts x.1.node_is).bytes in
-    let room : (row_at rows c.args.level.0).bytes + MOST_FILE < 2 ^ 64 = c.fitting.ensures rows t.nodes c.args.level.0 c.requires.counts c.requires.facts.1.rise in
+    is_counted rows t h _ x (λ n holds. sym (c.requires.bytes t n holds)) c.requires.counts (c.law_totals.ensures.held_bytes rows t.nodes) (c.law_totals.ensures.held_bounds rows t.nodes) in
+    let few : c.args.bytes ≤ MOST_FILE = subst (λ (b : ℕ). b ≤ MOST_FILE) (sym (c.requires.bytes t x.0 x.1)) (c.law_totals.ensures.held_bounds rows t.nodes x.0.id x.0 c.requires.counts x.1.node_is).bytes in
+    let room : (row_at rows c.args.level.0).bytes + MOST_FILE < 2 ^ 64 = c.law_fitting.ensures rows t.nodes c.args.level.0 c.requires.counts c.requires.facts.1.rise in
     let many : length rows ≡ MAX_LEVELS = c.requires.counts.levels in
     let listed : c.args.level.0 < MAX_LEVELS = c.requires.listed in
     record {
@@ -68,7 +68,7 @@ returns-in-Ok-clause-counts c =
     (subst (λ (label : ℕ). AreTotals (moved rows label level c.args.bytes) u.nodes) (sym x.1.tells.label)
     (subst (λ (bytes : ℕ). AreTotals (moved rows n.label level bytes) u.nodes) (sym (c.requires.bytes t n x.1))
     (subst (λ (r : Rows). AreTotals (moved rows n.label level (bytes_of n n.kind)) r.nodes) (sym done.1)
-    (c.totals.ensures.relabelled rows n.id level (attributes_changed at.moment n.inner) n (world_of t) c.requires.counts x.1.node_is c.requires.listed (same_bytes n (attributes_changed at.moment n.inner) refl)))))
+    (c.law_totals.ensures.relabelled rows n.id level (attributes_changed at.moment n.inner) n (world_of t) c.requires.counts x.1.node_is c.requires.listed (same_bytes n (attributes_changed at.moment n.inner) refl)))))
 
 pub returns-in-Ok-clause-levels : goal.returns-in-Ok-clause-levels
 returns-in-Ok-clause-levels c = ap (λ (rows : List Row). length rows) c.move_up.ensures ∙ moved_levels c.args.quota.now c.args.held.now.facts.label.0 c.args.level.0 c.args.bytes

@@ -50,4 +50,4 @@ returns-clause-counts c =
     let inner : Inner = attributes_changed at.moment (record n.inner { stored = Some (stored_of c.args.spelled) }) in
     let done : u ≡ ran (Touch n.id inner ∷ []) t = set_so t u (id_of h.id) n at.moment (found t n h x.1) (λ (x : Inner). record x { stored = Some (stored_of c.args.spelled) }) c.respell-done.result c.respell-done.ensures.calm c.respell-done.ensures.does in
     touched_totals c.args.quota.now t u n.id inner done
-    (c.totals.ensures.touched_alike c.args.quota.now n.id inner n (world_of t) c.requires.counts x.1.node_is (same_bytes n inner refl))
+    (c.law_totals.ensures.touched_alike c.args.quota.now n.id inner n (world_of t) c.requires.counts x.1.node_is (same_bytes n inner refl))

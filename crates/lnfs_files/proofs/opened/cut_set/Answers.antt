@@ -16,7 +16,7 @@ left_out sized n e = grind (arith, e)
 
 pub returns : goal.returns
 returns c =
-    bitmap_told c.if-sized.set c.are_words.ensures (λ attr. c.args.sized && attr == SIZE) (λ n lt.
+    bitmap_told c.if-sized.set c.law_words.ensures (λ attr. c.args.sized && attr == SIZE) (λ n lt.
     elim c.if-sized.branch [
       | then-sized b ↦ ap (λ (set : Bitmap). has_attr set n) b.set-is ∙ b.insert.ensures n ∙ put c.args.sized (has_attr c.empty-set.result n) n b.if-sized.true (c.empty-set.ensures n)
       | else-sized b ↦ ap (λ (set : Bitmap). has_attr set n) b.set-is ∙ c.empty-set.ensures n ∙ left_out c.args.sized n b.if-sized.false

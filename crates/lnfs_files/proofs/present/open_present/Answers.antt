@@ -21,7 +21,7 @@ put_size-requires-clause-resizes c =
     let t = c.args.tree.now in
     let h = c.args.held.now in
     record {
-      held = is_counted c.args.quota.now t h _ c.requires.there (λ n holds. held_bytes t n h holds c.in_default.ensures.file) c.requires.counts (c.totals.ensures.held_bytes c.args.quota.now t.nodes) (c.totals.ensures.held_bounds c.args.quota.now t.nodes);
+      held = is_counted c.args.quota.now t h _ c.requires.there (λ n holds. held_bytes t n h holds c.in_default.ensures.file) c.requires.counts (c.law_totals.ensures.held_bytes c.args.quota.now t.nodes) (c.law_totals.ensures.held_bounds c.args.quota.now t.nodes);
       fits = λ grows. absurd (grind (arith, grows));
     }
 

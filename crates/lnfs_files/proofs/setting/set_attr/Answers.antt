@@ -20,7 +20,7 @@ set_wanted-requires c = record {
   facts = c.requires.facts;
   counts = c.requires.counts;
   held = c.in-Ok-node_held.ensures;
-  listed = held_listed c.in-Ok.wanted.label (wanted_listed (site_of c.args.site.now) c.are_listed.ensures c.args.given.now (wanted_of c.in-Ok.wanted) (sym (rw c.in-Ok.is at c.in_ok-wanted.ensures)));
+  listed = held_listed c.in-Ok.wanted.label (wanted_listed (site_of c.args.site.now) c.law_listed.ensures c.args.given.now (wanted_of c.in-Ok.wanted) (sym (rw c.in-Ok.is at c.in_ok-wanted.ensures)));
   file = is_file c.in-Ok.wanted.size (kind_of c.in-Ok-node_held.held.facts.kind) (c.in_default.ensures ∙ ap (λ (b : Bool). size_refusal b (kind_of c.in-Ok-node_held.held.facts.kind)) c.is_some.ensures);
 }
 

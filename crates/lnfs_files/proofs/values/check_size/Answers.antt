@@ -18,7 +18,7 @@ pub byte_room-requires : goal.byte_room-requires
 byte_room-requires c =
     let t = c.args.tree.now in
     let h = c.args.held.now in
-    record { held = is_counted c.args.quota.now t h _ (is_there t _ h c.requires.held) (λ n holds. held_bytes t n h holds c.requires.file) c.requires.counts (c.totals.ensures.held_bytes c.args.quota.now t.nodes) (c.totals.ensures.held_bounds c.args.quota.now t.nodes) }
+    record { held = is_counted c.args.quota.now t h _ (is_there t _ h c.requires.held) (λ n holds. held_bytes t n h holds c.requires.file) c.requires.counts (c.law_totals.ensures.held_bytes c.args.quota.now t.nodes) (c.law_totals.ensures.held_bounds c.args.quota.now t.nodes) }
 
 pub returns-clause-resizes : goal.returns-clause-resizes
 returns-clause-resizes c = c.byte_room.ensures.resizes c.if-not-byte_room.false

@@ -27,4 +27,4 @@ returns-clause-counts c = λ rows totals.
     let inner : Inner = attributes_changed at.moment (record n.inner { mode = c.args.mode }) in
     let done : u ≡ ran (Touch n.id inner ∷ []) t = set_so t u (id_of c.args.id) n at.moment x.1 (λ (x : Inner). record x { mode = c.args.mode }) c.set_mode-done.result c.set_mode-done.ensures.calm c.set_mode-done.ensures.does in
     touched_totals rows t u n.id inner done
-    (c.totals.ensures.touched_alike rows n.id inner n (world_of t) totals (found_itself t (id_of c.args.id) n x.1) (same_bytes n inner refl))
+    (c.law_totals.ensures.touched_alike rows n.id inner n (world_of t) totals (found_itself t (id_of c.args.id) n x.1) (same_bytes n inner refl))

@@ -35,9 +35,9 @@ returns-clause-counts c =
     let done : u ≡ ran (Touch n.id inner ∷ []) t =
     sized_so t u (id_of h.id) n c.args.moment (found t n h holds) c.args.size (held_kind t n h holds c.requires.file) (up_to c.args.size MOST_FILE c.requires.fits) c.set_size-done.result c.set_size-done.ensures.calm c.set_size-done.ensures.does in
     subst (λ (rows : List Row). AreTotals rows u.nodes) (sym c.resize.ensures)
-    (sized_totals rows t u n h holds c.args.moment c.args.size c.requires.file done (c.totals.ensures.touched rows n.id inner n (world_of t) c.requires.counts holds.node_is
+    (sized_totals rows t u n h holds c.args.moment c.args.size c.requires.file done (c.law_totals.ensures.touched rows n.id inner n (world_of t) c.requires.counts holds.node_is
     (subst (λ (b : ℕ). b ≤ MOST_FILE) (sym (sized_bytes n c.args.moment c.args.size (held_kind t n h holds c.requires.file))) c.requires.fits)
-    (subst (λ (i : Id). i.number ≤ LAST_NUMBER) holds.id c.is_numbered.ensures)))
+    (subst (λ (i : Id). i.number ≤ LAST_NUMBER) holds.id c.law_numbered.ensures)))
 
 pub returns-clause-levels : goal.returns-clause-levels
 returns-clause-levels c = ap (λ (rows : List Row). length rows) c.resize.ensures ∙ resized_levels c.args.quota.now c.args.held.now.facts.label.0 c.args.held.now.facts.size c.args.size

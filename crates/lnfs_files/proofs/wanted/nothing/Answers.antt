@@ -7,4 +7,4 @@ use Rattle.lnfs_files.proofs.wanted.nothing.Goals as goal
 pub returns : goal.returns
 returns c =
     ap (λ (set : Bitmap). let x : Wanted = record { sized = false; mode = None; label = None; set = set } in x)
-    (bitmap_told c.empty-set.result c.are_words.ensures (λ n. false) (λ n lt. c.empty-set.ensures n))
+    (bitmap_told c.empty-set.result c.law_words.ensures (λ n. false) (λ n lt. c.empty-set.ensures n))

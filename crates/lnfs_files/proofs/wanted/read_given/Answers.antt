@@ -27,7 +27,7 @@ returns-in-Err-label_of-clause-tests c = λ p next.
 
 pub returns-clause-listed : goal.returns-clause-listed
 returns-clause-listed c =
-    held_listed c.in-Ok-label_of.label (label_listed (site_of c.args.site.now) c.are_listed.ensures c.in-Ok.values.label (option_map given_of c.in-Ok-label_of.label) (sym c.in-Ok-label_of.ensures))
+    held_listed c.in-Ok-label_of.label (label_listed (site_of c.args.site.now) c.law_listed.ensures c.in-Ok.values.label (option_map given_of c.in-Ok-label_of.label) (sym c.in-Ok-label_of.ensures))
 
 pub returns-clause-tests : goal.returns-clause-tests
 returns-clause-tests c = λ p next.

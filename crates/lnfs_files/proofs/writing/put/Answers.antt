@@ -33,7 +33,7 @@ byte_room-requires c =
     let t = c.args.tree.now in
     let h = c.args.held.now in
     let old = c.in-Ok.file.now in
-    record { held = is_counted c.args.quota.now t h _ (is_there t _ h c.requires.held) (λ n holds. file_bytes n old (file_is t n h old holds c.in-Ok.ensures) ∙ sym c.len-old.ensures.value) c.requires.counts (c.totals.ensures.held_bytes c.args.quota.now t.nodes) (c.totals.ensures.held_bounds c.args.quota.now t.nodes) }
+    record { held = is_counted c.args.quota.now t h _ (is_there t _ h c.requires.held) (λ n holds. file_bytes n old (file_is t n h old holds c.in-Ok.ensures) ∙ sym c.len-old.ensures.value) c.requires.counts (c.law_totals.ensures.held_bytes c.args.quota.now t.nodes) (c.law_totals.ensures.held_bounds c.args.quota.now t.nodes) }
 
 pub resize-requires : goal.resize-requires
 resize-requires c =
@@ -94,7 +94,7 @@ returns-in-Ok-write-clause-counts c =
     (subst (λ (label : ℕ). AreTotals (resized c.args.quota.now label c.len-old.result c.in-Some.size) u.nodes) (sym x.1.tells.label)
     (subst (λ (size : ℕ). AreTotals (resized c.args.quota.now n.label size c.in-Some.size) u.nodes) (sym old)
     (subst (λ (size : ℕ). AreTotals (resized c.args.quota.now n.label (length n.inner.content) size) u.nodes) (sym f.1)
-    (written_totals c.args.quota.now t u n c.requires.counts x.1.node_is is.kind at args (λ inner few. c.totals.ensures.touched c.args.quota.now n.id inner n (world_of t) c.requires.counts x.1.node_is few (subst (λ (i : Id). i.number ≤ LAST_NUMBER) x.1.id c.is_numbered.ensures)) f.0 done))))
+    (written_totals c.args.quota.now t u n c.requires.counts x.1.node_is is.kind at args (λ inner few. c.law_totals.ensures.touched c.args.quota.now n.id inner n (world_of t) c.requires.counts x.1.node_is few (subst (λ (i : Id). i.number ≤ LAST_NUMBER) x.1.id c.law_numbered.ensures)) f.0 done))))
 
 pub unreachable-requires-in_default-error : goal.unreachable-requires-in_default-error
 unreachable-requires-in_default-error c =

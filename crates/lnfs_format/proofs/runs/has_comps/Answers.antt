@@ -6,4 +6,4 @@ pub returns-in-Some : goal.returns-in-Some
 returns-in-Some c = some_comp c.args.label.now.comps c.in-Some._comp c.in-Some.ensures.member
 
 pub returns-in-None : goal.returns-in-None
-returns-in-None c = no_comp c.args.label.now.comps c.is_label.ensures.comps (λ k l. c.in-None.ensures k (omega arith) l)
+returns-in-None c = no_comp c.args.label.now.comps c.law_label.ensures.comps (λ k l. c.in-None.ensures k (omega arith) l)

@@ -28,6 +28,6 @@ returns-clause-serves g c =
     let e = c.in_ok-ended.ensures in
     serves_told (g.C.Clock.may c.args.clock.now) g.M.Mechanism.signing c.args.policy c.args.team.now.links.items (telling g.N.L.Source.left g.N.L.Sink.taken g.N.L.Source.read_faults g.N.L.Sink.write_faults)
     c.in_ok-links.links.items c.in_ok-ended.ended.ends.items c.in_ok-ended.ended.vault.journal (rw c.deref.ensures.value at c.in_ok-links.ensures.came)
-    (c.purge.ensures.replies c.args.policy c.is_preordered.ensures)
+    (c.purge.ensures.replies c.args.policy c.law_preorder.ensures)
     (rw policy at e.ends) (rw policy at e.others) (rw (e.policy, policy) at c.tell.ensures.plays)
     c.tell.ensures.memory c.tell.ensures.dealt c.tell.ensures.backs c.tell.ensures.cause

@@ -26,6 +26,6 @@ pub returns : goal.returns
 returns c =
     let dom = dom_of c.args.lattice.now in
     let fresh = c.empty_file.result in
-    c.in_ok-node.ensures.keeps dom c.is_preordered.ensures c.requires
+    c.in_ok-node.ensures.keeps dom c.law_preorder.ensures c.requires
     (told_label c.args.tree.now.entries c.args.tree.now.nodes root c.in-Some.root 0 c.in-Some.ensures (lowest c) ∙ ap Some (sym c.empty_file.ensures.home))
-    (ap (λ (l : ℕ). dom l fresh.home.0) (c.empty_file.ensures.label ∙ sym c.empty_file.ensures.home) ∙ c.is_preordered.ensures.reflexive fresh.home.0)
+    (ap (λ (l : ℕ). dom l fresh.home.0) (c.empty_file.ensures.label ∙ sym c.empty_file.ensures.home) ∙ c.law_preorder.ensures.reflexive fresh.home.0)

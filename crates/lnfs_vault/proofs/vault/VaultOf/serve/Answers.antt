@@ -57,7 +57,7 @@ returns-clause-short g c =
     let journal = c.self.inside.journal.items in
     let rows = g.X.ExtraRows.rows in
     let says = said X m p c.new-site.result journal c.args.event (length journal + 1) (both c.self.inside.engine.store (rows c.self.inside.engine.extra)) (both c.attempt.new.engine.store (rows c.attempt.new.engine.extra)) c.in_ok-served.served c.new-site.ensures (c.self.invariant.1 c.if-self.false) c.in_ok-served.ensures.says in
-    subst (λ (reply : Option (List ℕ)). IfSome reply (λ bytes. length bytes ≤ RECORD_LIMIT)) (sym says.reply) (c.purge.ensures.short p c.is_preordered.ensures journal c.args.event)
+    subst (λ (reply : Option (List ℕ)). IfSome reply (λ bytes. length bytes ≤ RECORD_LIMIT)) (sym says.reply) (c.purge.ensures.short p c.law_preorder.ensures journal c.args.event)
 
 pub returns-clause-answer : goal.returns-clause-answer
 unfolding reply_with
@@ -68,7 +68,7 @@ returns-clause-answer g c =
     let journal = c.self.inside.journal.items in
     let rows = g.X.ExtraRows.rows in
     let says = said X m p c.new-site.result journal c.args.event (length journal + 1) (both c.self.inside.engine.store (rows c.self.inside.engine.extra)) (both c.attempt.new.engine.store (rows c.attempt.new.engine.extra)) c.in_ok-served.served c.new-site.ensures (c.self.invariant.1 c.if-self.false) c.in_ok-served.ensures.says in
-    subst (λ (k : Kept). c.in_ok-served.served.reply ≡ answer_with X m k.policy k.journal c.args.event) c.self.view_is (says.reply ∙ c.purge.ensures.replies p c.is_preordered.ensures journal c.args.event)
+    subst (λ (k : Kept). c.in_ok-served.served.reply ≡ answer_with X m k.policy k.journal c.args.event) c.self.view_is (says.reply ∙ c.purge.ensures.replies p c.law_preorder.ensures journal c.args.event)
 
 pub returns-clause-at : goal.returns-clause-at
 returns-clause-at g c = subst (λ (k : Kept). c.in_ok-served.served.at ≡ length k.journal + 1) c.self.view_is c.in_ok-served.ensures.says.place
@@ -78,7 +78,7 @@ returns-clause-retry g c = λ call arguments compound args x slot first comes sa
     let X = g.X.ExtraRows.extra in
     let m = g.M.Mechanism.signing in
     let old = c.args.self.now in
-    let lattice = subst (λ (k : Kept). IsPreorderWithBottom (dominance k.policy)) c.self.view_is c.is_preordered.ensures in
+    let lattice = subst (λ (k : Kept). IsPreorderWithBottom (dominance k.policy)) c.self.view_is c.law_preorder.ensures in
     let kept : rows.Kept = record { arguments = arguments; reply = first } in
     let names = comes.names in
     let there = session_under-at args.session (state_after X m old.policy old.journal).world.sessions x names.session in
@@ -94,7 +94,7 @@ returns-clause-created g c = λ call arguments compound args client first comes 
     let X = g.X.ExtraRows.extra in
     let m = g.M.Mechanism.signing in
     let old = c.args.self.now in
-    let lattice = subst (λ (k : Kept). IsPreorderWithBottom (dominance k.policy)) c.self.view_is c.is_preordered.ensures in
+    let lattice = subst (λ (k : Kept). IsPreorderWithBottom (dominance k.policy)) c.self.view_is c.law_preorder.ensures in
     let origin = c.sessions.ensures.origin_created old.policy lattice old.journal (client_named args.client) client (record { arguments = arguments; reply = first }) comes.record_of kept in
     retried X m old _ c.args.event call arguments first c.in_ok-served.served (returns-clause-reply g c) (returns-clause-line g c)
     (ap (λ (k : Kept). k.policy) c.self.view_is)
@@ -105,5 +105,5 @@ returns-clause-created g c = λ call arguments compound args client first comes 
 pub returns-clause-room : goal.returns-clause-room
 returns-clause-room g c = λ call arguments compound args x slot comes.
     let old = c.args.self.now in
-    let lattice = subst (λ (k : Kept). IsPreorderWithBottom (dominance k.policy)) c.self.view_is c.is_preordered.ensures in
+    let lattice = subst (λ (k : Kept). IsPreorderWithBottom (dominance k.policy)) c.self.view_is c.law_preorder.ensures in
     rw (returns-clause-reply g c) (c.sessions.ensures.room old.policy lattice old.journal c.args.event call arguments compound args x slot comes)

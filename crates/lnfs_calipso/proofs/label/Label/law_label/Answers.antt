@@ -2,7 +2,7 @@ use Rattle.std.proofs.Common.{subst, arith}
 use Rattle.lnfs_calipso.specs.Label.{Label, IsLabel}
 use Rattle.lnfs_calipso.specs.Bitmap.{is_marked}
 use Rattle.lnfs_calipso.proofs.Members.{compartments-are}
-use Rattle.lnfs_calipso.proofs.label.Label.is_label.Goals as goal
+use Rattle.lnfs_calipso.proofs.label.Label.law_label.Goals as goal
 
 pub returns : goal.returns
 returns c =

@@ -15,7 +15,7 @@ use Rattle.lnfs_quota.specs.Totals.{AreTotals, IsInBounds, home_share, label_sha
 use Rattle.lnfs_quota.proofs.Counting.{sum-made, sum-dropped, sum-updated, sum-updated_alike, sum-held}
 use Rattle.lnfs_quota.proofs.Bounded.{bounds_found, bounds_made, bounds_left, bounds_updated, bounds_touched, bounds_kept, bounds_relabelled}
 use Rattle.lnfs_quota.proofs.Kept.{charged_levels, credited_levels, resized_levels, moved_levels, home_own, label_own, label_empty, label_alike, unused_row, sums_of, totals_of, sums-charged, sums-credited, sums-resized, sums-moved}
-use Rattle.lnfs_quota.proofs.laws.totals.Goals as goal
+use Rattle.lnfs_quota.proofs.laws.law_totals.Goals as goal
 
 nothing_more : (total : ℕ) (b : Bool) → total + cond b 0 0 ≡ total
 nothing_more total b = grind arith

@@ -2,7 +2,7 @@ use Rattle.std.proofs.Common.{◌≡◌, ◌≤◌, arith}
 use Rattle.lnfs_world.specs.Usage.{bytes_used}
 use Rattle.lnfs_quota.specs.Quota.{row_at}
 use Rattle.lnfs_quota.proofs.FewBytes.{bytes_few}
-use Rattle.lnfs_quota.proofs.laws.fitting.Goals as goal
+use Rattle.lnfs_quota.proofs.laws.law_fitting.Goals as goal
 
 pub returns : goal.returns
 returns c rows nodes level totals rising =

@@ -3,7 +3,7 @@ use Rattle.lnfs_calipso.specs.Label.{Label}
 use Rattle.lnfs_calipso.specs.declared.lattice.TheConstants.{MAX_LEVELS}
 use Rattle.lnfs_policy.specs.Policy.{Policy}
 use Rattle.lnfs_files.proofs.Listed.{reading_is}
-use Rattle.lnfs_files.proofs.listing.are_listed.Goals as goal
+use Rattle.lnfs_files.proofs.listing.law_listed.Goals as goal
 
 pub returns : goal.returns
 returns c spelled level e =
