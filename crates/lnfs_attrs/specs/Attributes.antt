@@ -1,6 +1,7 @@
 -- The table of attributes (RFC 8881 section 5, RFC 7862 section 12.2.4).
 use Rattle.std.specs.Prelude.{◌≡◌, ℕ, Bool, true, false, not, ◌&&◌, ◌||◌, List, [], ◌∷◌, ◌++◌, ◌==◌, if◌then◌else◌}
 use Rattle.std.specs.List.{flat_map, list_any}
+use Rattle.lnfs_types.specs.declared.limits.TheConstants.{LEASE}
 use Rattle.lnfs_xdr.specs.Canon.{word, long, opaque}
 use Rattle.lnfs_attrs.specs.Bitmaps.{has_attr}
 use Rattle.lnfs_attrs.specs.declared.bitmap.Bitmap.{Bitmap}
@@ -48,7 +49,7 @@ table =
     ∷ (8, outer, λ v. long 0 ++ long 0)
     ∷ (9, outer, λ v. word 1)
     -- lease_time, rdattr_error
-    ∷ (10, outer, λ v. word 90)
+    ∷ (10, outer, λ v. word LEASE)
     ∷ (11, outer, λ v. word v.error)
     -- filehandle, fileid
     ∷ (19, outer, λ v. opaque v.handle)

@@ -98,8 +98,6 @@ pub const SUPPORTED_WORDS: [u32; 3] = [0x00180fff, 0x00b0817a, 0x00010800];
 pub const OUTER_WORDS: [u32; 3] = [0x00180fe7, 0x00800170, 0x00010800];
 /// The words of `suppattr_exclcreat`: the attributes that can be set.
 pub const SETTABLE_WORDS: [u32; 3] = [0x00000010, 0x00000002, 0x00010000];
-/// The seconds of a lease.
-pub const LEASE: u32 = 90;
 /// Owner and group of every object.
 pub const NOBODY: [u8; 6] = *b"nobody";
 /// The most bytes of a label in a list that is read.

@@ -13,4 +13,5 @@ pub mod OnNames
 pub mod FirstBounds
 pub mod Counting
 pub mod NamesCounts
+pub mod Told
 mod Items

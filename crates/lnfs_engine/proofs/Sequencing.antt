@@ -1,11 +1,11 @@
 -- The ends of a SEQUENCE, by what the clients answered.
-use Rattle.std.proofs.Common.{◌≡◌, ◌-◌, ℕ, List, [], Some, Ok, Err, refl, sym, ap, ◌∙◌, subst, arith}
+use Rattle.std.proofs.Common.{◌≡◌, ◌-◌, ℕ, List, [], Option, Some, None, Ok, Err, refl, sym, ap, ◌∙◌, subst, arith}
 use Rattle.std.specs.Prelude.{◌==◌, nat_le, slice_get, option_map}
 use Rattle.std.proofs.lemmas.Bool.Decides.{nat_tests}
 use Rattle.lnfs_types.specs.declared.event.Moment.{Moment}
 use Rattle.lnfs_arguments.specs.declared.types.Op.TheVariants as ops
 use Rattle.lnfs_arguments.specs.declared.types.Sequence.{Sequence}
-use Rattle.lnfs_world.specs.World.{Id, Session, World, session_at}
+use Rattle.lnfs_world.specs.World.{Id, Client, Session, World, client_at, session_at}
 use Rattle.lnfs_world.specs.Outcome.{Site, Place, Outcome, begins_at, done_to}
 use Rattle.lnfs_world.specs.Change.{apply_all}
 use Rattle.lnfs_operations.specs.declared.Gate.{Gate}
@@ -13,7 +13,7 @@ use Rattle.lnfs_operations.specs.declared.Gate.TheVariants as gates
 use Rattle.lnfs_operations.specs.Chain.{Answer, Done, Refused, Refusal, refuse, done}
 use Rattle.lnfs_operations.specs.Identifiers.{session_named, session_under}
 use Rattle.lnfs_operations.specs.Keeping.{next_sequence}
-use Rattle.lnfs_operations.specs.Sequence.{Sent, Sequenced, New, Again, in_session, on_slot, under_session, sequence}
+use Rattle.lnfs_operations.specs.Sequence.{Sent, Sequenced, New, Again, in_session, renewing, renewal, begun_in, on_slot, under_session, sequence}
 use Rattle.lnfs_operations.proofs.Chains.{demand_any, where_any, in_order_any}
 use Rattle.lnfs_operations.proofs.SessionLaws.{session_at-id, session_under-at}
 use Rattle.lnfs_operations.specs.Served as Keep
@@ -21,6 +21,7 @@ use Rattle.lnfs_operations.specs.Served.{reply_of, sequence_reply, row}
 use Rattle.lnfs_session.specs.declared.rows.ClientRef.{ClientRef}
 use Rattle.lnfs_session.specs.declared.sequence.SlotRef.{SlotRef}
 use Rattle.lnfs_session.specs.Listed.{id_of, session_id_of}
+use Rattle.lnfs_session.specs.Standing.{Lists, standing, lists_of}
 use Rattle.lnfs_session.specs.Arrived as arrival
 use Rattle.lnfs_session.specs.Arrived.{Arrived, arrived, answered_as}
 use Rattle.lnfs_operations.specs.declared.Refusal as code
@@ -31,19 +32,19 @@ use Rattle.lnfs_engine.specs.Results.{sequence_result}
 
 module _ (args : Sequence) (sent : Sent) (p : Place) (w : World) (P : Outcome (Answer Sequenced) → Type 0)
     (refused : (gate : Gate) (status : ℕ) → P (refuse p gate status)) (again : (reply : List ℕ) → P (done p (Again reply) []))
-    (new : (x : Session) → x.id.level ≡ p.subject → session_at w.sessions x.id ≡ Some x → P (done (in_session p x) (New x) [])) where
+    (new : (x : Session) → x.id.level ≡ p.subject → session_at w.sessions x.id ≡ Some x → P (begun_in p w x)) where
   -- what holds of each end holds of the outcome
   pub sequence_any : P (sequence args sent p w)
   sequence_any =
       demand_any P ((session_named args.session).level == p.subject) _ _ (refused _ _) (λ own.
-      where_any P (session_under args.session w.sessions) (under_session args sent p) _ (λ x found.
+      where_any P (session_under args.session w.sessions) (under_session args sent p w) _ (λ x found.
       let at = session_under-at args.session w.sessions x found in
       let id : x.id ≡ session_named args.session = session_at-id (session_named args.session) w.sessions x at in
       let level : x.id.level ≡ p.subject = grind (arith, nat_tests, own, id) in
       demand_any P (nat_le sent.size x.channel.max_request) _ _ (refused _ _) (λ short.
       demand_any P (nat_le sent.count x.channel.max_operations) _ _ (refused _ _) (λ few.
-      where_any P (slice_get x.slots args.slot) (on_slot args sent p x) _ (λ slot there.
-      in_order_any P p slot.sequence (next_sequence slot.sequence) slot.kept args.sequence sent.arguments (λ reply. done p (Again reply) []) (done (in_session p x) (New x) [])
+      where_any P (slice_get x.slots args.slot) (on_slot args sent p w x) _ (λ slot there.
+      in_order_any P p slot.sequence (next_sequence slot.sequence) slot.kept args.sequence sent.arguments (λ reply. done p (Again reply) []) (begun_in p w x)
       (λ status. refused gates.Session status) (λ k kept. again k.reply) (λ next. new x level (ap (session_at w.sessions) id ∙ at)))
       (refused _ _))))
       (refused _ _))
@@ -53,7 +54,7 @@ module _ (args : Sequence) (sent : Sent) (p : Place) (w : World) (P : Outcome (A
 -- a new request stands in a session that is there
 pub record IsNew (args : Sequence) (p : Place) (w : World) (o : Outcome (Answer Sequenced)) (id : Id) (slot : ℕ) (client : Id) (room highest : ℕ) : Type 0 where
   pub session : Session
-  pub outcome : o ≡ done (in_session p session) (New session) []
+  pub outcome : o ≡ begun_in p w session
   pub level : session.id.level ≡ p.subject
   pub found : session_at w.sessions session.id ≡ Some session
   pub told : arrived args (New session) ≡ arrival.New id slot client room highest
@@ -80,26 +81,27 @@ is_refused args sent p w why =
 -- ---- what it comes to
 
 module _ (site : Site) (args : Sequence) (sent : Sent) (p : Place) (w : World) where
-  -- an outcome that changes nothing
-  turned : (o : Outcome (Answer Sequenced)) → sequence args sent p w ≡ o → o.changes ≡ [] → Acts (row site sent (ops.Sequence args) p w) (reply_of (ops.Sequence args) (sequence_reply args) o.answer) o.place w w
-  turned o is none = record {
+  turned : (o : Outcome (Answer Sequenced)) (v : World) → sequence args sent p w ≡ o → v ≡ done_to w o → Acts (row site sent (ops.Sequence args) p w) (reply_of (ops.Sequence args) (sequence_reply args) o.answer) o.place w v
+  turned o v is after = record {
     answer = ap (λ (x : Outcome (Answer Sequenced)). reply_of (ops.Sequence args) (sequence_reply args) x.answer) is;
     place = ap (λ (x : Outcome (Answer Sequenced)). x.place) is;
-    world = sym (ap (done_to w) is ∙ ap (λ cs. apply_all cs w) none);
+    world = after ∙ sym (ap (done_to w) is);
   }
 
-  pub acts_new : (id : Id) (slot : ℕ) (client : Id) (room highest : ℕ) (n : IsNew args p w (sequence args sent p w) id slot client room highest) → Acts (row site sent (ops.Sequence args) p w) (own_of (ops.Sequence args) (Keep.Slot slot args.sequence) (Ok (sequence_result args highest))) (in_session p n.session) w w
-  acts_new id slot client room highest n =
+  pub acts_new : (id : Id) (slot : ℕ) (client : Id) (room highest : ℕ) (n : IsNew args p w (sequence args sent p w) id slot client room highest) (v : World) → v ≡ apply_all (renewing p.moment (client_at w.clients client)) w → Acts (row site sent (ops.Sequence args) p w) (own_of (ops.Sequence args) (Keep.Slot slot args.sequence) (Ok (sequence_result args highest))) (in_session p n.session) w v
+  acts_new id slot client room highest n v renewed =
       let told = n.told in
       let at : args.slot ≡ slot = cc in
       let top : n.session.channel.max_requests - 1 ≡ highest = cc in
-      subst (λ r. Acts (row site sent (ops.Sequence args) p w) r (in_session p n.session) w w) (λ i. own_of (ops.Sequence args) (Keep.Slot (at i) args.sequence) (Ok (sequence_result args (top i)))) (turned (done (in_session p n.session) (New n.session) []) n.outcome refl)
+      let own : record { level = n.session.id.level; number = n.session.client } ≡ client = cc in
+      let after : v ≡ apply_all (renewal p w n.session) w = renewed ∙ (λ i. apply_all (renewing p.moment (client_at w.clients (sym own i))) w) ∙ (λ i. apply_all (renewing p.moment (client_at w.clients (record { level = n.level i; number = n.session.client }))) w) in
+      subst (λ r. Acts (row site sent (ops.Sequence args) p w) r (in_session p n.session) w v) (λ i. own_of (ops.Sequence args) (Keep.Slot (at i) args.sequence) (Ok (sequence_result args (top i)))) (turned (begun_in p w n.session) v n.outcome after)
 
   pub acts_again : (reply : List ℕ) → sequence args sent p w ≡ done p (Again reply) [] → Acts (row site sent (ops.Sequence args) p w) (Keep.Kept reply) p w w
-  acts_again reply is = turned (done p (Again reply) []) is refl
+  acts_again reply is = turned (done p (Again reply) []) w is refl
 
   pub acts_refused : (why : code.Refusal) → sequence args sent p w ≡ refuse p why.gate why.status → Acts (row site sent (ops.Sequence args) p w) (own_of (ops.Sequence args) Keep.Nowhere (Err why)) p w w
-  acts_refused why is = turned (refuse p why.gate why.status) is refl
+  acts_refused why is = turned (refuse p why.gate why.status) w is refl
 
 module _ (level : ℕ) (moment : Moment) (args : Sequence) (w : World) (o : Outcome (Answer Sequenced)) (at : SlotRef) (client : ClientRef) (room highest : ℕ)
     (n : IsNew args (begins_at level moment) w o (session_id_of at.session) at.slot (id_of client) room highest) where
@@ -134,3 +136,12 @@ module _ (level : ℕ) (moment : Moment) (args : Sequence) (w : World) (o : Outc
             ∙ ap (λ (x : Id). option_map (λ (y : Session). y.channel.max_response) (session_at w.sessions x)) (sym id)
             ∙ ap (option_map (λ (x : Session). x.channel.max_response)) n.found ∙ ap Some most;
       }
+
+-- what a renewal leaves of the world beside the clients, and of the sessions
+pub renewed_stands : (moment : Moment) (o : Option Client) (rest : World) (lists : Lists) → standing rest (lists_of (apply_all (renewing moment o) (standing rest lists))) ≡ apply_all (renewing moment o) (standing rest lists)
+renewed_stands moment None rest lists = refl
+renewed_stands moment (Some c) rest lists = refl
+
+pub renewed_sessions : (moment : Moment) (o : Option Client) (rest : World) (lists : Lists) → (lists_of (apply_all (renewing moment o) (standing rest lists))).sessions ≡ lists.sessions
+renewed_sessions moment None rest lists = refl
+renewed_sessions moment (Some c) rest lists = refl

@@ -69,6 +69,13 @@ module _ (begin : ℕ) (old new : List ℕ) (site : Site) (sent : Sent) (op same
       (λ came says keeper rest. performs_at begin old new keeper site sent op same p q (before rest) (after rest) answer came is (did rest) (says begin Nowhere))
       said
 
+  -- of worlds of which something is told
+  pub told_where : (Told : World → Type 0) (before after : World → World) → ((rest : World) → Told rest → Acts (row site sent same p (before rest)) (own_of same Nowhere answer) q (before rest) (after rest)) →
+      IfOk result (λ came. (keeper : code.Keeper) (rest : World) → Told rest → Performs begin old new keeper keeper q (after rest) (turn site sent op p (before rest)) came)
+  told_where Told before after did = IfOk-weaker result (Said old new op answer) (λ came. (keeper : code.Keeper) (rest : World) → Told rest → Performs begin old new keeper keeper q (after rest) (turn site sent op p (before rest)) came)
+      (λ came says keeper rest tells. performs_at begin old new keeper site sent op same p q (before rest) (after rest) answer came is (did rest tells) (says begin Nowhere))
+      said
+
   -- which stay as they are but for the tree
   pub told_on : (tree : Rows) → ((rest : World) → Acts (row site sent same p (with_tree rest tree)) (own_of same Nowhere answer) q (with_tree rest tree) (with_tree rest tree)) →
       IfOk result (λ came. (keeper : code.Keeper) (rest : World) → Performs begin old new keeper keeper q (with_tree rest tree) (turn site sent op p (with_tree rest tree)) came)

@@ -17,6 +17,7 @@ ghost use Rattle.lnfs_quota.specs.declared.quota.Row.{Row};
 ghost use Rattle.lnfs_quota.specs.Totals.{AreTotals};
 ghost use Rattle.lnfs_nodes.specs.Trees.{with_tree};
 ghost use Rattle.lnfs_files.specs.Worlds.{with_files};
+ghost use Rattle.lnfs_files.specs.Leases.{Leases};
 ghost use Rattle.lnfs_files.specs.Openings.{args_of};
 ghost use Rattle.lnfs_engine.specs.declared.place.Keeper as code;
 ghost use Rattle.lnfs_engine.specs.Places.{place_of, IsOnFiles, IsMoved};
@@ -25,17 +26,19 @@ ghost use Rattle.lnfs_engine.specs.Nodes.{told_as};
 ghost use Rattle.lnfs_engine.specs.Performs.{site_in, sent_of, turn, Performs};
 ghost use Rattle.lnfs_engine.specs.Names.{Serves, landed};
 
+use crate::leases::is_lease_over;
 use crate::nodes::{plain, wrote};
 use crate::place::{Place, Request, caller_of};
 use crate::reply::{Answer, Came, say};
 use lnfs_arguments::{Op, StateId};
 use lnfs_attrs::{Bitmap, RawAttrs};
 use lnfs_files::{Opened, Opening, close, commit, open, read, set_attr, write};
-use lnfs_open::Opens;
+use lnfs_open::{ClientKey, Opens};
 use lnfs_operations::Refusal;
 use lnfs_operations::numbers::FILE_SYNC4;
 use lnfs_quota::Quota;
 use lnfs_results::OpResult;
+use lnfs_session::Clients;
 use lnfs_tree::Tree;
 use lnfs_world::numbers::LAST_SEQUENCE;
 use lnfs_xdr::XdrWriter;
@@ -75,20 +78,23 @@ fn take_opened(place: &mut Place, told: Result<Opened, Refusal>) -> Answer
 }
 
 /// Answers an OPEN.
-fn on_open(
+fn on_open<F: Fn(ClientKey) -> bool>(
     request: &Request<'_>,
     tree: &mut Tree,
     opens: &mut Opens,
     quota: &mut Quota,
     place: &mut Place,
     args: &Opening<'_>,
+    over: &F,
 ) -> Result<Answer, AllocError>
+    requires told { F.IsAlwaysCallable over.now }
     requires facts { NodeFacts (site_in request.now).dom tree.old.nodes tree.old.entries
         tree.old.lasts }
     requires opens { AllByRecursion (λ o. is_good_open (site_in request.now).dom
         (label_at tree.old.nodes) o ≡ true) opens.old.opens }
     requires counts { AreTotals quota.old tree.old.nodes }
     ensures serves { IfOk result (λ answer. (rest : World) →
+        Leases (F.post over.now) rest place.old.moment →
         Serves (λ o. results.Open o.id o.info 0 o.set 0)
         (opening.open_file (site_in request.now) (args_of args.now) (place_of place.old)
         (with_files rest tree.old opens.old)) answer (place_of place.new)
@@ -107,6 +113,7 @@ fn on_open(
         &caller,
         place.client,
         args,
+        over,
     )?;
     Ok(take_opened(place, told))
 }
@@ -161,16 +168,19 @@ struct Written<'a> {
 }
 
 /// Answers a WRITE.
-fn on_write(
+fn on_write<F: Fn(ClientKey) -> bool>(
     request: &Request<'_>,
     tree: &mut Tree,
     opens: &Opens,
     quota: &mut Quota,
     place: &Place,
     args: &Written<'_>,
+    over: &F,
 ) -> Result<Answer, AllocError>
+    requires told { F.IsAlwaysCallable over.now }
     requires counts { AreTotals quota.old tree.old.nodes }
     ensures serves { IfOk result (λ answer. (rest : World) →
+        Leases (F.post over.now) rest place.now.moment →
         let written : writing.Arguments = record
         { id = args.now.id.now; offset = args.now.offset; stable = args.now.stable; content = args.now.content.now } in
         Serves (λ many. results.Write many numbers.FILE_SYNC4 (zeros 8))
@@ -193,6 +203,7 @@ fn on_write(
         args.offset,
         args.stable,
         args.content,
+        over,
     )?;
     Ok(tell_written(told))
 }
@@ -227,7 +238,7 @@ fn tell_set(told: Result<Bitmap, Refusal>) -> Answer
 }
 
 /// Answers a SETATTR.
-fn on_set_attr(
+fn on_set_attr<F: Fn(ClientKey) -> bool>(
     request: &Request<'_>,
     tree: &mut Tree,
     opens: &Opens,
@@ -235,11 +246,14 @@ fn on_set_attr(
     place: &Place,
     id: &StateId,
     given: &RawAttrs,
+    over: &F,
 ) -> Result<Answer, AllocError>
+    requires told { F.IsAlwaysCallable over.now }
     requires facts { NodeFacts (site_in request.now).dom tree.old.nodes tree.old.entries
         tree.old.lasts }
     requires counts { AreTotals quota.old tree.old.nodes }
     ensures serves { IfOk result (λ answer. (rest : World) →
+        Leases (F.post over.now) rest place.now.moment →
         Serves (results.SetAttr 0) (setting.set_attr (site_in request.now) id.now given.now
         (place_of place.now) (with_files rest tree.old opens.now)) answer (place_of place.now)
         (with_files rest tree.old opens.now) (with_files rest tree.new opens.now)) }
@@ -257,6 +271,7 @@ fn on_set_attr(
         place.client,
         id,
         given,
+        over,
     )?;
     Ok(tell_set(told))
 }
@@ -270,44 +285,51 @@ struct ReadFrom<'a> {
 }
 
 /// Serves a READ, and appends its result.
-fn on_read(
+fn on_read<F: Fn(ClientKey) -> bool>(
     request: &Request<'_>,
     tree: &mut Tree,
     opens: &Opens,
     place: &Place,
     op: &Op<'_>,
     args: &ReadFrom<'_>,
+    over: &F,
     out: &mut XdrWriter,
 ) -> Result<Came, AllocError>
+    requires told { F.IsAlwaysCallable over.now }
     requires op { op.now ≡ ops.Read args.now.id.now args.now.offset args.now.count }
     requires facts { NodeFacts (site_in request.now).dom tree.old.nodes tree.old.entries
         tree.old.lasts }
     ensures performs { IfOk result (λ came. (keeper : code.Keeper) (rest : World) →
+        Leases (F.post over.now) rest place.now.moment →
         Performs request.now.begin out.old out.new keeper keeper (place_of place.now)
         (with_files rest tree.new opens.now) (turn (site_in request.now) (sent_of request.now)
         op.now (place_of place.now) (with_files rest tree.old opens.now)) came) }
-    ensures counts { (rows : List Row) → AreTotals rows tree.old.nodes →
+    ensures counts { (rows : List Row) (rest : World) →
+        Leases (F.post over.now) rest place.now.moment → AreTotals rows tree.old.nodes →
         AreTotals rows tree.new.nodes }
 {
     let caller = caller_of(place);
     let site = request.site;
     let (client, offset, count) = (place.client, args.offset, args.count);
     let answer = read(
-        site, tree, opens, &caller, client, args.id, offset, count, out,
+        site, tree, opens, &caller, client, args.id, offset, count, over, out,
     )?;
     wrote(out, op, answer)
 }
 
-/// Serves an operation on files and their opens, and appends its result.
-pub fn on_files(
+/// Serves an operation on files and their opens, and appends its result. `over` tells of clients whether their leases are
+/// over.
+fn serve_files<F: Fn(ClientKey) -> bool>(
     request: &Request<'_>,
     tree: &mut Tree,
     opens: &mut Opens,
     quota: &mut Quota,
     place: &mut Place,
     op: &Op<'_>,
+    over: &F,
     out: &mut XdrWriter,
 ) -> Result<Came, AllocError>
+    requires told { F.IsAlwaysCallable over.now }
     requires own { IsOnFiles op.now }
     requires facts { NodeFacts (site_in request.now).dom tree.old.nodes tree.old.entries
         tree.old.lasts }
@@ -315,11 +337,13 @@ pub fn on_files(
         (label_at tree.old.nodes) o ≡ true) opens.old.opens }
     requires counts { AreTotals quota.old tree.old.nodes }
     ensures performs { IfOk result (λ came. (keeper : code.Keeper) (rest : World) →
+        Leases (F.post over.now) rest place.old.moment →
         Performs request.now.begin out.old out.new keeper keeper (place_of place.new)
         (with_files rest tree.new opens.new) (turn (site_in request.now) (sent_of request.now)
         op.now (place_of place.old) (with_files rest tree.old opens.old)) came) }
     ensures moved { IfOk result (λ came. IsMoved (place_of place.old) (place_of place.new)) }
-    ensures counts { AreTotals quota.new tree.new.nodes }
+    ensures counts { (rest : World) → Leases (F.post over.now) rest place.old.moment →
+        AreTotals quota.new tree.new.nodes }
 {
     match op {
         Op::Open {
@@ -337,7 +361,7 @@ pub fn on_files(
                 making,
                 claim,
             };
-            let answer = on_open(request, tree, opens, quota, place, &args)?;
+            let answer = on_open(request, tree, opens, quota, place, &args, over)?;
             say(out, op, answer)
         }
         Op::Close { id, .. } => {
@@ -350,7 +374,7 @@ pub fn on_files(
                 offset: *offset,
                 count: *count,
             };
-            on_read(request, tree, opens, place, op, &args, out)
+            on_read(request, tree, opens, place, op, &args, over, out)
         }
         Op::Write {
             id,
@@ -364,7 +388,7 @@ pub fn on_files(
                 stable: *stable,
                 content: content.as_slice(),
             };
-            let answer = on_write(request, tree, opens, quota, place, &args)?;
+            let answer = on_write(request, tree, opens, quota, place, &args, over)?;
             say(out, op, answer)
         }
         Op::Commit { .. } => {
@@ -372,9 +396,39 @@ pub fn on_files(
             say(out, op, answer)
         }
         Op::SetAttr { id, attrs } => {
-            let answer = on_set_attr(request, tree, opens, quota, place, id, attrs)?;
+            let answer = on_set_attr(request, tree, opens, quota, place, id, attrs, over)?;
             say(out, op, answer)
         }
         _ => unreachable!(),
     }
+}
+
+/// Serves an operation on files and their opens, and appends its result. The leases are those of the clients.
+pub fn on_files(
+    request: &Request<'_>,
+    clients: &Clients,
+    tree: &mut Tree,
+    opens: &mut Opens,
+    quota: &mut Quota,
+    place: &mut Place,
+    op: &Op<'_>,
+    out: &mut XdrWriter,
+) -> Result<Came, AllocError>
+    requires own { IsOnFiles op.now }
+    requires facts { NodeFacts (site_in request.now).dom tree.old.nodes tree.old.entries
+        tree.old.lasts }
+    requires opens { AllByRecursion (λ o. is_good_open (site_in request.now).dom
+        (label_at tree.old.nodes) o ≡ true) opens.old.opens }
+    requires counts { AreTotals quota.old tree.old.nodes }
+    ensures performs { IfOk result (λ came. (keeper : code.Keeper) (rest : World) →
+        rest.clients ≡ clients.now.clients →
+        Performs request.now.begin out.old out.new keeper keeper (place_of place.new)
+        (with_files rest tree.new opens.new) (turn (site_in request.now) (sent_of request.now)
+        op.now (place_of place.old) (with_files rest tree.old opens.old)) came) }
+    ensures moved { IfOk result (λ came. IsMoved (place_of place.old) (place_of place.new)) }
+    ensures counts { AreTotals quota.new tree.new.nodes }
+{
+    let moment = place.moment;
+    let over = |client: ClientKey| is_lease_over(clients, client, moment);
+    serve_files(request, tree, opens, quota, place, op, &over, out)
 }

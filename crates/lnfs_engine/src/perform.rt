@@ -146,7 +146,7 @@ fn serve(
         keeper.new) }
 {
     match op {
-        Op::Sequence(args) => sequence(&store.clients, request, args, op, place, keeper, out),
+        Op::Sequence(args) => sequence(&mut store.clients, request, args, op, place, keeper, out),
         Op::ExchangeId { .. }
         | Op::CreateSession(_)
         | Op::DestroySession { .. }
@@ -164,8 +164,9 @@ fn serve(
         | Op::Write { .. }
         | Op::Commit { .. }
         | Op::SetAttr { .. } => {
+            let clients = &store.clients;
             let (tree, opens, quota) = (&mut store.tree, &mut store.opens, &mut store.quota);
-            on_files(request, tree, opens, quota, place, op, out)
+            on_files(request, clients, tree, opens, quota, place, op, out)
         }
         _ => on_nodes(request, &mut store.tree, &store.quota, place, op, out),
     }

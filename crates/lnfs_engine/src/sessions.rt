@@ -93,9 +93,10 @@ fn make_session(
     level: u32,
     args: &CreateSession,
     bytes: &[u8],
+    secs: u64,
 ) -> Result<Option<Answer>, AllocError>
     ensures acts { IfOk result (λ answer. (site : Site) (size count : ℕ) (moment : Moment)
-        (rest : World) →
+        (rest : World) → moment.secs ≡ secs →
         let sent : Sent = record { arguments = bytes.now; size = size; count = count } in
         let op = ops.CreateSession args.now in
         let before = standing (with_opens rest opens.old) clients.old in
@@ -105,7 +106,7 @@ fn make_session(
         (made_of op keeper clients.new args.now answer) (begins_at level moment) before after) }
     ensures plain { IfOk result (λ answer. MatchOption answer (Unit {0}) IsPlain) }
 {
-    match clients.create_session(level, args, bytes) {
+    match clients.create_session(level, args, bytes, secs) {
         Ok(
             Created::New {
                 session,
@@ -145,7 +146,8 @@ pub fn create_session(
 {
     let level = place.subject.0;
     let created = created_keeper(clients, level, args);
-    match make_session(clients, opens, level, args, request.bytes)? {
+    let secs = place.moment.secs;
+    match make_session(clients, opens, level, args, request.bytes, secs)? {
         Some(answer) => {
             *keeper = created;
             say(out, op, answer)
@@ -154,9 +156,9 @@ pub fn create_session(
     }
 }
 
-/// Serves a SEQUENCE, the first operation of its COMPOUND.
+/// Serves a SEQUENCE, the first operation of its COMPOUND. Where that is new, the lease of its client begins again.
 pub fn sequence(
-    clients: &Clients,
+    clients: &mut Clients,
     request: &Request<'_>,
     args: &Sequence,
     op: &Op<'_>,
@@ -168,9 +170,9 @@ pub fn sequence(
     requires first { Starts (place_of place.old) keeper.old }
     ensures performs { IfOk result (λ came. (rest : World) →
         Performs request.now.begin out.old out.new keeper.old keeper.new (place_of place.new)
-        (standing rest clients.now) (turn (site_in request.now) (sent_of request.now) op.now
-        (place_of place.old) (standing rest clients.now)) came) }
-    ensures stands { IfOk result (λ came. Stands (place_of place.new) clients.now.sessions
+        (standing rest clients.new) (turn (site_in request.now) (sent_of request.now) op.now
+        (place_of place.old) (standing rest clients.old)) came) }
+    ensures stands { IfOk result (λ came. Stands (place_of place.new) clients.new.sessions
         keeper.new) }
 {
     let count = request.compound.count;
@@ -191,6 +193,7 @@ pub fn sequence(
                 client,
                 room,
             });
+            clients.renew(client, place.moment.secs);
             say_sequence(out, op, args, highest)
         }
         Ok(Seq::Replay(kept)) => repeat(out, request.begin, kept),

@@ -12,6 +12,7 @@ mod SetAttrs
 mod Writes
 pub mod Ends
 pub mod FileReads
+pub mod Passing
 pub mod Opens
 pub mod Openable
 pub mod Makes

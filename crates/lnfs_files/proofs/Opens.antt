@@ -1,5 +1,5 @@
 -- An open that is added or joined, as OPEN does it.
-use Rattle.std.proofs.Common.{◌≡◌, refl, ap, sym, subst, ◌∙◌, ℕ, Bool, true, false, cond, [], ◌∷◌, ◌++◌, Option, Some, None, Result, Ok, Err}
+use Rattle.std.proofs.Common.{◌≡◌, refl, ap, sym, subst, ◌∙◌, ℕ, Bool, true, false, cond, List, [], ◌∷◌, ◌++◌, Option, Some, None, Result, Ok, Err}
 use Rattle.std.specs.Prelude.{◌==◌, ◌&&◌, if◌then◌else◌}
 use Rattle.lnfs_arguments.specs.declared.stateid.StateId.{StateId}
 use Rattle.lnfs_arguments.specs.declared.stateid.Cinfo.{Cinfo}
@@ -8,6 +8,7 @@ use Rattle.lnfs_attrs.specs.declared.bitmap.Bitmap.{Bitmap}
 use Rattle.lnfs_attrs.specs.declared.numbers.TheConstants.{SIZE}
 use Rattle.lnfs_world.specs.World.{Id, Node, Open, World}
 use Rattle.lnfs_world.specs.Change.{Change, Touch, AddOpen, SetOpen, apply, apply_all}
+use Rattle.lnfs_world.specs.Leases.{over_at}
 use Rattle.lnfs_world.specs.Effects.{data_changed}
 use Rattle.lnfs_world.specs.Outcome.{Place, Outcome}
 use Rattle.lnfs_operations.specs.declared.Gate.TheVariants.{Quota}
@@ -15,13 +16,13 @@ use Rattle.lnfs_operations.specs.Chain.{Answer, Done, refuse, demand}
 use Rattle.lnfs_operations.specs.Shown.{bitmap_of}
 use Rattle.lnfs_operations.specs.StateIds.{state_of}
 use Rattle.lnfs_operations.specs.Open as operation
-use Rattle.lnfs_operations.specs.Open.{Arguments, Wanted, access_of, own_open, opened, opened_with, cut}
+use Rattle.lnfs_operations.specs.Open.{Arguments, Wanted, access_of, own_open, opened, opened_with, passed_over, cut}
 use Rattle.lnfs_tree.specs.Rows.{Rows, id_of}
 use Rattle.lnfs_tree.specs.Changed.{ran}
 use Rattle.lnfs_open.specs.Lists.{Lists}
 use Rattle.lnfs_open.specs.Lists as lists
 use Rattle.lnfs_open.specs.Opening as opening
-use Rattle.lnfs_world.specs.Opens.{joined}
+use Rattle.lnfs_world.specs.Opens.{joined, ended}
 use Rattle.lnfs_open.specs.Opening.{Wish, Opened, Does, Names, opened_by, opened_of, new_open, has_open_left}
 use Rattle.lnfs_open.specs.declared.keys.OpenRef.{OpenRef}
 use Rattle.lnfs_open.specs.declared.keys.OpenError.{OpenError}
@@ -30,20 +31,19 @@ use Rattle.lnfs_files.specs.Worlds.{with_files}
 use Rattle.lnfs_files.specs.Acts.{Succeeds}
 use Rattle.lnfs_files.specs.declared.opened.Opened as code_opened
 use Rattle.lnfs_files.specs.Openings as files
+use Rattle.lnfs_files.specs.Passing.{without, Passes}
+use Rattle.lnfs_files.proofs.Passing.{ended_alone}
 
 -- ---- what is asked of the opens
 
 abbrev pub wished : (level number : ℕ) (args : Arguments) (node : Id) (access : ℕ) → Wish
 wished level number args node access = record { client = record { level = level; number = number }; owner = args.owner; node = node; access = access; deny = args.deny }
 
--- the opens did what is wished, under the level, node and access that the code has
-pub did_wish : (s v : Lists) (r : Result OpenRef OpenError) (level level' number : ℕ) (args : Arguments) (node node' : Id) (access access' : ℕ) → level ≡ level' → node ≡ node' → access ≡ access'
-    → Does (opened_of s (wished level number args node access)) s v r → Does (opened_of s (wished level' number args node' access')) s v r
-did_wish s v r level level' number args node node' access access' a b d =
-    subst (λ (x : Wish). Does (opened_of s x) s v r)
-    (ap (λ (x : ℕ). wished x number args node access) a
-    ∙ ap (λ (x : Id). wished level' number args x access) b
-    ∙ ap (λ (x : ℕ). wished level' number args node' x) d)
+-- a wish is the same under the level and the node that the code has
+pub wished_so : (P : Wish → Type 0) (level level' number : ℕ) (args : Arguments) (node node' : Id) → level ≡ level' → node ≡ node'
+    → P (wished level number args node (access_of args)) → P (wished level' number args node' (access_of args))
+wished_so P level level' number args node node' a b =
+    subst P (ap (λ (x : ℕ). wished x number args node (access_of args)) a ∙ ap (λ (x : Id). wished level' number args x (access_of args)) b)
 
 -- one that is new
 abbrev pub added : Lists → Wish → Opened
@@ -121,19 +121,26 @@ module _ (args : Arguments) (p : Place) (rest : World) (t : Rows) (s : Lists) (c
   abbrev pub with_own : Wanted → Cinfo → Outcome (Answer operation.Opened)
   with_own wanted info = opened args p w client wanted info n (own_open args p w client n.id)
 
-  pub is_opened : (wanted : Wanted) (info : Cinfo) (o : Opened) → opened_of s wish ≡ Ok o → (with_own wanted info ≡ opened_with p wanted n info o.row o.change) × IsOfOpens o.change
+  -- the changes that open one, and end those that give way
+  abbrev gone : List Open
+  gone = passed_over args p w client n
+
+  abbrev changes : Change → List Change
+  changes change = change ∷ ended gone
+
+  pub is_opened : (wanted : Wanted) (info : Cinfo) (o : Opened) → opened_of s wish ≡ Ok o → (with_own wanted info ≡ opened_with p wanted n info o.row (changes o.change)) × IsOfOpens o.change
   is_opened wanted info o e = at (own_open args p w client n.id) e
     where
-      same : (a : Opened) → (let r : Result Opened OpenError = Ok a in r) ≡ Ok o → IsOfOpens a.change → (opened_with p wanted n info a.row a.change ≡ opened_with p wanted n info o.row o.change) × IsOfOpens o.change
+      same : (a : Opened) → (let r : Result Opened OpenError = Ok a in r) ≡ Ok o → IsOfOpens a.change → (opened_with p wanted n info a.row (changes a.change) ≡ opened_with p wanted n info o.row (changes o.change)) × IsOfOpens o.change
       same a e of =
           let is : a ≡ o = cc in
-          (ap (λ (x : Opened). opened_with p wanted n info x.row x.change) is, subst (λ (x : Opened). IsOfOpens x.change) is of)
+          (ap (λ (x : Opened). opened_with p wanted n info x.row (changes x.change)) is, subst (λ (x : Opened). IsOfOpens x.change) is of)
 
-      by : (b : Bool) → (if b then Ok new else Err Full) ≡ Ok o → (demand b (refuse p Quota NFS4ERR_NOSPC) (opened_with p wanted n info new.row new.change) ≡ opened_with p wanted n info o.row o.change) × IsOfOpens o.change
+      by : (b : Bool) → (if b then Ok new else Err Full) ≡ Ok o → (demand b (refuse p Quota NFS4ERR_NOSPC) (opened_with p wanted n info new.row (changes new.change)) ≡ opened_with p wanted n info o.row (changes o.change)) × IsOfOpens o.change
       by true e = same new e (adds new.row)
       by false e = cc
 
-      at : (x : Option Open) → opened_by s wish x ≡ Ok o → (opened args p w client wanted info n x ≡ opened_with p wanted n info o.row o.change) × IsOfOpens o.change
+      at : (x : Option Open) → opened_by s wish x ≡ Ok o → (opened args p w client wanted info n x ≡ opened_with p wanted n info o.row (changes o.change)) × IsOfOpens o.change
       at (Some x) e = same (record { row = joined wish.access wish.deny x; change = SetOpen (joined wish.access wish.deny x) }) e (sets (joined wish.access wish.deny x))
       at None e = by (has_open_left s p.subject) e
 
@@ -141,7 +148,7 @@ module _ (args : Arguments) (p : Place) (rest : World) (t : Rows) (s : Lists) (c
   pub is_full : (wanted : Wanted) (info : Cinfo) (e : OpenError) → opened_of s wish ≡ Err e → (e ≡ Full) × (with_own wanted info ≡ refuse p Quota NFS4ERR_NOSPC)
   is_full wanted info error e = at (own_open args p w client n.id) e
     where
-      by : (b : Bool) → (if b then Ok new else Err Full) ≡ Err error → (error ≡ Full) × (demand b (refuse p Quota NFS4ERR_NOSPC) (opened_with p wanted n info new.row new.change) ≡ refuse p Quota NFS4ERR_NOSPC)
+      by : (b : Bool) → (if b then Ok new else Err Full) ≡ Err error → (error ≡ Full) × (demand b (refuse p Quota NFS4ERR_NOSPC) (opened_with p wanted n info new.row (changes new.change)) ≡ refuse p Quota NFS4ERR_NOSPC)
       by true e = cc
       by false e = (cc, refl)
 
@@ -154,19 +161,23 @@ module _ (args : Arguments) (p : Place) (rest : World) (t : Rows) (s : Lists) (c
   abbrev pub after_cut : Wanted → Rows
   after_cut wanted = cond wanted.sized (ran (Touch n.id (data_changed p.moment [] n.inner) ∷ []) t) t
 
-  cut_so : (wanted : Wanted) (change : Change) → IsOfOpens change → apply_all (cut p wanted n ++ change ∷ []) w ≡ with_files rest (after_cut wanted) (lists.ran change s)
+  cut_so : (wanted : Wanted) (change : Change) → IsOfOpens change → apply_all (cut p wanted n ++ changes change) w ≡ with_files rest (after_cut wanted) (without gone (lists.ran change s))
   cut_so wanted change of = by wanted.sized
     where
-      by : (b : Bool) → apply_all (cond b (Touch n.id (data_changed p.moment [] n.inner) ∷ []) [] ++ change ∷ []) w ≡ with_files rest (cond b (ran (Touch n.id (data_changed p.moment [] n.inner) ∷ []) t) t) (lists.ran change s)
-      by true = of.step rest (ran (Touch n.id (data_changed p.moment [] n.inner) ∷ []) t) s
-      by false = of.step rest t s
+      over : (u : Rows) → apply_all (changes change) (with_files rest u s) ≡ with_files rest u (without gone (lists.ran change s))
+      over u = ap (λ (x : World). apply_all (ended gone) x) (of.step rest u s) ∙ ended_alone gone rest u (lists.ran change s)
+
+      by : (b : Bool) → apply_all (cond b (Touch n.id (data_changed p.moment [] n.inner) ∷ []) [] ++ changes change) w ≡ with_files rest (cond b (ran (Touch n.id (data_changed p.moment [] n.inner) ∷ []) t) t) (without gone (lists.ran change s))
+      by true = over (ran (Touch n.id (data_changed p.moment [] n.inner) ∷ []) t)
+      by false = over t
 
   pub succeeds : (u : Rows) (v : Lists) (wanted : Wanted) (info : Cinfo) (id : OpenRef) (r : code_opened.Opened) (o : Outcome (Answer operation.Opened))
-      → o ≡ with_own wanted info → Does (opened_of s wish) s v (Ok id) → u ≡ after_cut wanted
+      → o ≡ with_own wanted info → Passes wish (over_at rest.clients p.moment) s v id → u ≡ after_cut wanted
       → ((x : Open) → Names id x → r.id ≡ state_of x) → id_of r.node ≡ n.id → r.info ≡ info → r.set ≡ bitmap_of (λ attr. wanted.sized && attr == SIZE)
       → Succeeds (files.opened_of r) (record p { current = Some (id_of r.node) }) rest t u s v o
-  succeeds u v wanted info id r o is does cuts state node told set =
-      let a : Answered s v (opened_of s wish) id = answered s v (opened_of s wish) id does in
+  succeeds u v wanted info id r o is passes cuts state node told set =
+      let mid : Lists = passes.0 in
+      let a : Answered s mid (opened_of s wish) id = answered s mid (opened_of s wish) id passes.1.0 in
       let by = is_opened wanted info a.opened a.is in
       let result : operation.Opened = record { id = state_of a.opened.row; info = info; set = bitmap_of (λ attr. wanted.sized && attr == SIZE) } in
       let same : files.opened_of r ≡ result =
@@ -178,6 +189,7 @@ module _ (args : Arguments) (p : Place) (rest : World) (t : Rows) (s : Lists) (c
         place = ap (λ (i : Id). record p { current = Some i }) (sym node);
         world =
             cut_so wanted a.opened.change by.1
-            ∙ ap (λ (x : Rows). with_files rest x (lists.ran a.opened.change s)) (sym cuts)
-            ∙ ap (λ (x : Lists). with_files rest u x) (sym a.after);
+            ∙ ap (λ (x : Rows). with_files rest x (without gone (lists.ran a.opened.change s))) (sym cuts)
+            ∙ ap (λ (x : Lists). with_files rest u (without gone x)) (sym a.after)
+            ∙ ap (λ (x : Lists). with_files rest u x) (sym passes.1.1);
       })

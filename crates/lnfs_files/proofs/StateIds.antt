@@ -25,6 +25,14 @@ module _ (p : Place) (access bit asked : ℕ) (same : bit ≡ asked) where
   pub mode_on : (bit_and access bit ≡ 0 → ⊥) → None ≡ refusal_in for_use
   mode_on e = let on : has_any access asked ≡ true = grind (arith, same, e) in ap (λ (b : Bool). refusal_in (demand b (refuse p gates.Open NFS4ERR_OPENMODE) (passed p))) (sym on)
 
+-- whether an open denies a use
+module _ (site : Site) (p : Place) (w : World) (n : Node) (way : Way) where
+  pub use_denied : is_denied site p w n way ≡ true → Some (record { gate = gates.Open; status = NFS4ERR_LOCKED }) ≡ refusal_in (where_undenied site p w n way (passed p))
+  use_denied e = ap (λ (b : Bool). refusal_in (demand (not b) (refuse p gates.Open NFS4ERR_LOCKED) (passed p))) (sym e)
+
+  pub use_left : is_denied site p w n way ≡ false → None ≡ refusal_in (where_undenied site p w n way (passed p))
+  use_left e = ap (λ (b : Bool). refusal_in (demand (not b) (refuse p gates.Open NFS4ERR_LOCKED) (passed p))) (sym e)
+
 module _ {R : Type 0} (p : Place) (w : World) (n : Node) (id : StateId) (next : Outcome (Answer R)) where
   abbrev in_state : {A : Type 0} → (a b : Bool) → Outcome (Answer A) → Outcome (Answer A)
   in_state a b x = demand a (refuse p gates.Open NFS4ERR_BAD_STATEID) (demand b (refuse p gates.Open NFS4ERR_OLD_STATEID) x)

@@ -2,7 +2,9 @@ pub mod Worlds
 pub mod Acts
 pub mod Tests
 pub mod Uses
+pub mod Leases
 pub mod Openings
+pub mod Passing
 pub mod Charges
 pub mod Writing
 pub mod Setting

@@ -10,6 +10,7 @@ ghost use Rattle.lnfs_tree.specs.Rows.{id_of, kind_of};
 ghost use Rattle.lnfs_nodes.specs.Trees.{held_in, IsHeld};
 ghost use Rattle.lnfs_nodes.specs.Acts.{failed, placed};
 ghost use Rattle.lnfs_files.specs.Worlds.{with_files};
+ghost use Rattle.lnfs_files.specs.Leases.{Leases};
 ghost use Rattle.lnfs_files.specs.Tests.{passed, refused, refusal_in};
 ghost use Rattle.lnfs_files.specs.Uses.{way_of, asks_of, where_current_usable};
 
@@ -19,7 +20,7 @@ use lnfs_arguments::statuses::{NFS4ERR_ISDIR, NFS4ERR_SYMLINK};
 use lnfs_calipso::Level;
 use lnfs_monitor::Question;
 use lnfs_nodes::{Caller, Held, check_allowed, namespace, node_held};
-use lnfs_open::Opens;
+use lnfs_open::{ClientKey, Opens};
 use lnfs_operations::Refusal;
 use lnfs_site::Site;
 use lnfs_tree::{NodeKind, Tree};
@@ -46,13 +47,14 @@ fn question(way: Way, label: Level) -> Question<'static>
     }
 }
 
-/// The file that the current file handle names, where a state id lets it be used.
+/// The file that the current file handle names, where a state id lets it be used. `over` tells of clients whether their
+/// leases are over.
 ///
 /// # Errors
 ///
 /// In this order: NFS4ERR_NOFILEHANDLE and NFS4ERR_STALE of the current file handle, NFS4ERR_ISDIR and NFS4ERR_SYMLINK
 /// where it is no file, NFS4ERR_ACCESS by the rules of labels, and those of `check_usable`.
-pub fn usable_file(
+pub fn usable_file<F: Fn(ClientKey) -> bool>(
     site: &Site<'_>,
     tree: &Tree,
     opens: &Opens,
@@ -60,8 +62,11 @@ pub fn usable_file(
     client: Option<u32>,
     id: &StateId,
     way: Way,
+    over: &F,
 ) -> Result<Held, Refusal>
-    ensures refused { (p : Place) (rest : World) → p.client ≡ client →
+    requires { F.IsAlwaysCallable over.now }
+    ensures refused { (p : Place) (rest : World) →
+        Leases (F.post over.now) rest caller.now.moment → p.client ≡ client →
         let at = placed p caller.now in
         refused result
         ≡ refusal_in (where_current_usable (site_of site.now) at
@@ -74,6 +79,6 @@ pub fn usable_file(
     check_file(&held)?;
     let question = question(way, held.facts.label);
     check_allowed(site, caller.subject, &question)?;
-    check_usable(site, opens, caller, client, held.id, id, way)?;
+    check_usable(site, opens, caller, client, held.id, id, way, over)?;
     Ok(held)
 }

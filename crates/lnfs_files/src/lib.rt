@@ -5,7 +5,7 @@
 //! and of what an open denies.
 //!
 //! `specs/Worlds.antt` says which world that is, `specs/Acts.antt` what a success and a refusal do to it, `specs/Tests.antt`
-//! how tests are told of.
+//! how tests are told of, `specs/Leases.antt` what is told of leases, which are kept elsewhere.
 #![tactic(auto)]
 
 mod absent;

@@ -14,6 +14,7 @@ ghost use Rattle.lnfs_nodes.specs.Trees.{Holds, held_in, IsHeld};
 ghost use Rattle.lnfs_nodes.specs.Acts.{placed};
 ghost use Rattle.lnfs_quota.specs.Totals.{AreTotals};
 ghost use Rattle.lnfs_files.specs.Worlds.{with_files};
+ghost use Rattle.lnfs_files.specs.Leases.{Leases};
 ghost use Rattle.lnfs_files.specs.Acts.{ActsTo};
 ghost use Rattle.lnfs_files.specs.Charges.{IsListed};
 ghost use Rattle.lnfs_files.specs.Openings.{args_of, wanted_of, opened_of, where_readable, Leads, Finds, IsOrMade};
@@ -79,14 +80,16 @@ fn find_name(tree: &Tree, dir: &Held, name: &[u8]) -> Result<Option<Held>, Refus
 /// # Errors
 ///
 /// `AllocError` where there is no memory. Then nothing is open that wasn't, and a file may have been made.
-fn open_name(
+fn open_name<F: Fn(ClientKey) -> bool>(
     opener: &Opener<'_>,
     tree: &mut Tree,
     opens: &mut Opens,
     quota: &mut Quota,
     wanted: Wanted,
     name: &[u8],
+    over: &F,
 ) -> Result<Result<Opened, Refusal>, AllocError>
+    requires told { F.IsAlwaysCallable over.now }
     requires level { opener.now.client.level ≡ opener.now.caller.now.subject }
     requires facts { NodeFacts (site_of opener.now.site.now).dom tree.old.nodes tree.old.entries
         tree.old.lasts }
@@ -95,6 +98,7 @@ fn open_name(
     requires counts { AreTotals quota.old tree.old.nodes }
     requires listed { IfSome wanted.label (λ given. IsListed given.level.0) }
     ensures acts { IfOk result (λ told. (p : Place) (rest : World) →
+        Leases (F.post over.now) rest opener.now.caller.now.moment →
         let at = placed p opener.now.caller.now in
         ActsTo opened_of (λ o. record at { current = Some (id_of o.node) }) at rest tree.old
         tree.new opens.old opens.new
@@ -116,7 +120,7 @@ fn open_name(
     match found {
         Some(held) => {
             let info = unchanged(&dir);
-            open_present(opener, tree, opens, quota, &wanted, info, &held)
+            open_present(opener, tree, opens, quota, &wanted, info, &held, over)
         }
         None => open_absent(opener, tree, opens, quota, wanted, &dir, name),
     }
@@ -127,16 +131,19 @@ fn open_name(
 /// # Errors
 ///
 /// `AllocError` where there is no memory. Then nothing has changed.
-fn open_handle(
+fn open_handle<F: Fn(ClientKey) -> bool>(
     opener: &Opener<'_>,
     tree: &mut Tree,
     opens: &mut Opens,
     quota: &mut Quota,
     wanted: &Wanted,
+    over: &F,
 ) -> Result<Result<Opened, Refusal>, AllocError>
+    requires told { F.IsAlwaysCallable over.now }
     requires level { opener.now.client.level ≡ opener.now.caller.now.subject }
     requires counts { AreTotals quota.old tree.old.nodes }
     ensures acts { IfOk result (λ told. (p : Place) (rest : World) →
+        Leases (F.post over.now) rest opener.now.caller.now.moment →
         let at = placed p opener.now.caller.now in
         ActsTo opened_of (λ o. record at { current = Some (id_of o.node) }) at rest tree.old
         tree.new opens.old opens.new
@@ -151,7 +158,7 @@ fn open_handle(
         Ok(held) => held,
         Err(why) => return Ok(Err(why)),
     };
-    open_present(opener, tree, opens, quota, wanted, no_change(), &held)
+    open_present(opener, tree, opens, quota, wanted, no_change(), &held, over)
 }
 
 /// Opens what is claimed.
@@ -159,13 +166,15 @@ fn open_handle(
 /// # Errors
 ///
 /// `AllocError` where there is no memory. Then nothing is open that wasn't, and a file may have been made.
-fn open_claimed(
+fn open_claimed<F: Fn(ClientKey) -> bool>(
     opener: &Opener<'_>,
     tree: &mut Tree,
     opens: &mut Opens,
     quota: &mut Quota,
     wanted: Wanted,
+    over: &F,
 ) -> Result<Result<Opened, Refusal>, AllocError>
+    requires told { F.IsAlwaysCallable over.now }
     requires level { opener.now.client.level ≡ opener.now.caller.now.subject }
     requires facts { NodeFacts (site_of opener.now.site.now).dom tree.old.nodes tree.old.entries
         tree.old.lasts }
@@ -174,6 +183,7 @@ fn open_claimed(
     requires counts { AreTotals quota.old tree.old.nodes }
     requires listed { IfSome wanted.label (λ given. IsListed given.level.0) }
     ensures acts { IfOk result (λ told. (p : Place) (rest : World) →
+        Leases (F.post over.now) rest opener.now.caller.now.moment →
         let at = placed p opener.now.caller.now in
         ActsTo opened_of (λ o. record at { current = Some (id_of o.node) }) at rest tree.old
         tree.new opens.old opens.new
@@ -185,13 +195,23 @@ fn open_claimed(
     ensures counts { AreTotals quota.new tree.new.nodes }
 {
     match opener.args.claim {
-        Claim::Name { name } => open_name(opener, tree, opens, quota, wanted, name.as_slice()),
-        Claim::Handle => open_handle(opener, tree, opens, quota, &wanted),
+        Claim::Name { name } => open_name(
+            opener,
+            tree,
+            opens,
+            quota,
+            wanted,
+            name.as_slice(),
+            over,
+        ),
+        Claim::Handle => open_handle(opener, tree, opens, quota, &wanted, over),
     }
 }
 
 /// Opens a file under a client of the subject's level, and makes it before where it isn't there and is to be made.
 /// Answers the state id of the open, which is one that the client and the owner had of the file already, or a new one.
+/// `over` tells of clients whether their leases are over: opens of such clients stand in nobody's way, and those of the
+/// subject's level that would have end (RFC 8881 section 8.4.3).
 ///
 /// Refused in this order: by NFS4ERR_OP_NOT_IN_SESSION where the operation came under no client; by NFS4ERR_INVAL of the
 /// arguments, as `check_words` does; as the name is; by NFS4ERR_ATTRNOTSUPP, NFS4ERR_INVAL and NFS4ERR_BADXDR of the
@@ -204,7 +224,7 @@ fn open_claimed(
 /// # Errors
 ///
 /// `AllocError` where there is no memory. Then nothing is open that wasn't, and a file may have been made.
-pub fn open(
+pub fn open<F: Fn(ClientKey) -> bool>(
     alloc: Global,
     site: &Site<'_>,
     tree: &mut Tree,
@@ -213,13 +233,16 @@ pub fn open(
     caller: &Caller,
     client: Option<u32>,
     args: &Opening<'_>,
+    over: &F,
 ) -> Result<Result<Opened, Refusal>, AllocError>
+    requires told { F.IsAlwaysCallable over.now }
     requires facts { NodeFacts (site_of site.now).dom tree.old.nodes tree.old.entries
         tree.old.lasts }
     requires opens { AllByRecursion (λ o. is_good_open (site_of site.now).dom
         (label_at tree.old.nodes) o ≡ true) opens.old.opens }
     requires counts { AreTotals quota.old tree.old.nodes }
-    ensures acts { IfOk result (λ told. (p : Place) (rest : World) → p.client ≡ client →
+    ensures acts { IfOk result (λ told. (p : Place) (rest : World) →
+        Leases (F.post over.now) rest caller.now.moment → p.client ≡ client →
         let at = placed p caller.now in
         ActsTo opened_of (λ o. record at { current = Some (id_of o.node) }) at rest tree.old
         tree.new opens.old opens.new
@@ -255,5 +278,5 @@ pub fn open(
         },
         args,
     };
-    open_claimed(&opener, tree, opens, quota, wanted)
+    open_claimed(&opener, tree, opens, quota, wanted, over)
 }

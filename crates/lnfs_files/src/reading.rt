@@ -13,6 +13,7 @@ ghost use Rattle.lnfs_operations.specs.Read as operation;
 ghost use Rattle.lnfs_nodes.specs.Acts.{placed};
 ghost use Rattle.lnfs_nodes.specs.Writes.{Writes};
 ghost use Rattle.lnfs_files.specs.Worlds.{with_files};
+ghost use Rattle.lnfs_files.specs.Leases.{Leases};
 
 use crate::files::usable_file;
 use crate::state_ids::Way;
@@ -21,7 +22,7 @@ use lnfs_arguments::numbers::OP_READ;
 use lnfs_arguments::statuses::NFS4_OK;
 use lnfs_content::Content;
 use lnfs_nodes::{Caller, set_accessed};
-use lnfs_open::Opens;
+use lnfs_open::{ClientKey, Opens};
 use lnfs_operations::Refusal;
 use lnfs_results::MOST_DATA;
 use lnfs_site::Site;
@@ -72,12 +73,13 @@ fn put_data(
 }
 
 /// Appends the result with the bytes of the current file from an offset on, so many or up to the most that a READ gives,
-/// and sets its time of access. Refused by those of `usable_file`, and then nothing is appended.
+/// and sets its time of access. `over` tells of clients whether their leases are over. Refused by those of `usable_file`, and
+/// then nothing is appended.
 ///
 /// # Errors
 ///
 /// `AllocError` where there is no memory. Then something may have been appended.
-pub fn read(
+pub fn read<F: Fn(ClientKey) -> bool>(
     site: &Site<'_>,
     tree: &mut Tree,
     opens: &Opens,
@@ -86,9 +88,12 @@ pub fn read(
     id: &StateId,
     offset: u64,
     count: u32,
+    over: &F,
     out: &mut XdrWriter,
 ) -> Result<Result<(), Refusal>, AllocError>
-    ensures writes { IfOk result (λ answer. (p : Place) (rest : World) → p.client ≡ client →
+    requires { F.IsAlwaysCallable over.now }
+    ensures writes { IfOk result (λ answer. (p : Place) (rest : World) →
+        Leases (F.post over.now) rest caller.now.moment → p.client ≡ client →
         let at = placed p caller.now in
         Writes out.old out.new (λ d. results.Read d.eof d.content) at
         (with_files rest tree.old opens.now) (with_files rest tree.new opens.now)
@@ -96,7 +101,7 @@ pub fn read(
         at (with_files rest tree.old opens.now)) answer) }
     ensures kept { OnErr result (tree.new ≡ tree.old) }
 {
-    let held = match usable_file(site, tree, opens, caller, client, id, Way::Reading) {
+    let held = match usable_file(site, tree, opens, caller, client, id, Way::Reading, over) {
         Ok(held) => held,
         Err(why) => return Ok(Err(why)),
     };

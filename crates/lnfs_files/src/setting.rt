@@ -13,6 +13,7 @@ ghost use Rattle.lnfs_nodes.specs.Trees.{Holds, IsHeld, held_in, refusal_of};
 ghost use Rattle.lnfs_nodes.specs.Acts.{placed};
 ghost use Rattle.lnfs_nodes.specs.GivenValues.{wanted_of};
 ghost use Rattle.lnfs_files.specs.Worlds.{with_files};
+ghost use Rattle.lnfs_files.specs.Leases.{Leases};
 ghost use Rattle.lnfs_files.specs.Acts.{Acts};
 ghost use Rattle.lnfs_files.specs.Charges.{IsListed};
 ghost use Rattle.lnfs_files.specs.Setting.{size_refusal, wanted_done};
@@ -24,7 +25,7 @@ use lnfs_arguments::StateId;
 use lnfs_arguments::statuses::{NFS4ERR_INVAL, NFS4ERR_ISDIR};
 use lnfs_attrs::{Bitmap, RawAttrs};
 use lnfs_nodes::{Caller, Held, Wanted, namespace, node_held, read_wanted, set_of};
-use lnfs_open::Opens;
+use lnfs_open::{ClientKey, Opens};
 use lnfs_operations::Refusal;
 use lnfs_quota::Quota;
 use lnfs_site::Site;
@@ -46,7 +47,7 @@ fn size_refused(sized: bool, kind: NodeKind) -> Option<Refusal>
 }
 
 /// Sets what is wanted of a node. Takes no memory.
-fn set_wanted(
+fn set_wanted<F: Fn(ClientKey) -> bool>(
     site: &Site<'_>,
     tree: &mut Tree,
     opens: &Opens,
@@ -56,7 +57,9 @@ fn set_wanted(
     held: &Held,
     id: &StateId,
     wanted: Wanted,
+    over: &F,
 ) -> Result<(), Refusal>
+    requires told { F.IsAlwaysCallable over.now }
     requires facts { NodeFacts (site_of site.now).dom tree.old.nodes tree.old.entries
         tree.old.lasts }
     requires counts { AreTotals quota.old tree.old.nodes }
@@ -64,7 +67,8 @@ fn set_wanted(
         (Ok held.now) }
     requires file { IfSome wanted.size (λ size. kind_of held.now.facts.kind ≡ File) }
     requires listed { IfSome wanted.label (λ given. IsListed given.level.0) }
-    ensures acts { (n : Node) (p : Place) (rest : World) (set : bitmap.Bitmap) → p.client ≡ client →
+    ensures acts { (n : Node) (p : Place) (rest : World) (set : bitmap.Bitmap) →
+        Leases (F.post over.now) rest caller.now.moment → p.client ≡ client →
         Holds tree.old n held.now →
         let at = placed p caller.now in
         Acts (λ it. set) at rest tree.old tree.new opens.now opens.now
@@ -76,7 +80,7 @@ fn set_wanted(
     let Some(given) = wanted.label else {
         let Wanted { size, mode, .. } = wanted;
         return set_values(
-            site, tree, opens, quota, caller, client, held, id, size, mode,
+            site, tree, opens, quota, caller, client, held, id, size, mode, over,
         );
     };
     if site.is_limited() {
@@ -86,7 +90,7 @@ fn set_wanted(
     }
 }
 
-/// Sets attributes of the current file handle, and answers which.
+/// Sets attributes of the current file handle, and answers which. `over` tells of clients whether their leases are over.
 ///
 /// Refused in this order: by NFS4ERR_ATTRNOTSUPP, NFS4ERR_INVAL and NFS4ERR_BADXDR of the attributes that are given,
 /// NFS4ERR_INVAL of a mode, NFS4ERR_WRONG_LFS and NFS4ERR_BADLABEL of a label, NFS4ERR_INVAL where a label isn't set
@@ -97,7 +101,7 @@ fn set_wanted(
 /// # Errors
 ///
 /// `AllocError` where there is no memory. Then nothing has changed.
-pub fn set_attr(
+pub fn set_attr<F: Fn(ClientKey) -> bool>(
     alloc: Global,
     site: &Site<'_>,
     tree: &mut Tree,
@@ -107,11 +111,14 @@ pub fn set_attr(
     client: Option<u32>,
     id: &StateId,
     given: &RawAttrs,
+    over: &F,
 ) -> Result<Result<Bitmap, Refusal>, AllocError>
+    requires told { F.IsAlwaysCallable over.now }
     requires facts { NodeFacts (site_of site.now).dom tree.old.nodes tree.old.entries
         tree.old.lasts }
     requires counts { AreTotals quota.old tree.old.nodes }
-    ensures acts { IfOk result (λ told. (p : Place) (rest : World) → p.client ≡ client →
+    ensures acts { IfOk result (λ told. (p : Place) (rest : World) →
+        Leases (F.post over.now) rest caller.now.moment → p.client ≡ client →
         let at = placed p caller.now in
         Acts (λ set. set) at rest tree.old tree.new opens.now opens.now
         (operation.set_attr (site_of site.now) id.now given.now at
@@ -134,7 +141,9 @@ pub fn set_attr(
     if let Some(why) = size_refused(wanted.size.is_some(), held.facts.kind) {
         return Ok(Err(why));
     }
-    match set_wanted(site, tree, opens, quota, caller, client, &held, id, wanted) {
+    match set_wanted(
+        site, tree, opens, quota, caller, client, &held, id, wanted, over,
+    ) {
         Ok(()) => Ok(Ok(set_of(given))),
         Err(why) => Ok(Err(why)),
     }

@@ -10,6 +10,7 @@ ghost use Rattle.lnfs_tree.specs.Rows.{Rows, id_of, kind_of};
 ghost use Rattle.lnfs_nodes.specs.Trees.{denial, Holds};
 ghost use Rattle.lnfs_nodes.specs.Acts.{failed, placed, checked};
 ghost use Rattle.lnfs_files.specs.Worlds.{with_files};
+ghost use Rattle.lnfs_files.specs.Leases.{Leases};
 ghost use Rattle.lnfs_files.specs.Openings.{args_of, where_openable, where_makable};
 
 use crate::asked::Opening;
@@ -90,17 +91,19 @@ fn may_be_there(making: &Option<Making>, held: &Held) -> bool
 }
 
 /// Whether another's open of a file denies what is asked, or is for what is to be denied. Opens of levels that the
-/// subject doesn't dominate stand in nobody's way.
-fn has_conflict(
+/// subject doesn't dominate stand in nobody's way, and those of clients whose leases are over neither.
+fn has_conflict<F: Fn(ClientKey) -> bool>(
     site: &Site<'_>,
     opens: &Opens,
     caller: &Caller,
     client: ClientKey,
     args: &Opening<'_>,
     node: NodeId,
+    over: &F,
 ) -> bool
-    ensures { (p : Place) (rest : World) (t : Rows) (n : Node) → client.level ≡ caller.now.subject →
-        id_of node ≡ n.id →
+    requires { F.IsAlwaysCallable over.now }
+    ensures { (p : Place) (rest : World) (t : Rows) (n : Node) →
+        Leases (F.post over.now) rest caller.now.moment → client.level ≡ caller.now.subject → id_of node ≡ n.id →
         result ≡ operation.conflicts (site_of site.now) (args_of args.now) (placed p caller.now)
         (with_files rest t opens.now) client.number n }
 {
@@ -111,16 +114,18 @@ fn has_conflict(
         node_key(node),
         args.share(),
         args.deny,
+        over,
     )
 }
 
-/// What refuses the opening of a node that is there. `sized` tells whether it is to be cut.
+/// What refuses the opening of a node that is there. `sized` tells whether it is to be cut, and `over` of clients whether
+/// their leases are over.
 ///
 /// # Errors
 ///
 /// In this order: NFS4ERR_ISDIR and NFS4ERR_SYMLINK where it is no file, NFS4ERR_EXIST where it may not be there,
 /// NFS4ERR_ACCESS by the rules of labels, and NFS4ERR_SHARE_DENIED where another's open stands in the way.
-pub fn check_openable(
+pub fn check_openable<F: Fn(ClientKey) -> bool>(
     site: &Site<'_>,
     opens: &Opens,
     caller: &Caller,
@@ -128,11 +133,14 @@ pub fn check_openable(
     args: &Opening<'_>,
     sized: bool,
     held: &Held,
+    over: &F,
 ) -> Result<(), Refusal>
+    requires told { F.IsAlwaysCallable over.now }
     requires level { client.level ≡ caller.now.subject }
     ensures file { OnOk result (kind_of held.now.facts.kind ≡ File) }
     ensures checked { (p : Place) (rest : World) (t : Rows) (n : Node)
-        (next : Outcome (Answer operation.Opened)) → Holds t n held.now →
+        (next : Outcome (Answer operation.Opened)) →
+        Leases (F.post over.now) rest caller.now.moment → Holds t n held.now →
         let at = placed p caller.now in
         where_openable (site_of site.now) (args_of args.now) at (with_files rest t opens.now)
         client.number sized n next ≡ checked at result (λ it. next) }
@@ -144,7 +152,7 @@ pub fn check_openable(
     let label = held.facts.label;
     check_shared(site, caller.subject, args, label)?;
     check_asked(site, caller.subject, sized, &Question::Write { label })?;
-    if has_conflict(site, opens, caller, client, args, held.id) {
+    if has_conflict(site, opens, caller, client, args, held.id, over) {
         return Err(Refusal {
             gate: Gate::Open,
             status: NFS4ERR_SHARE_DENIED,

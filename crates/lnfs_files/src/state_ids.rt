@@ -7,6 +7,7 @@ ghost use Rattle.lnfs_operations.specs.StateIds as operation;
 ghost use Rattle.lnfs_tree.specs.Rows.{id_of};
 ghost use Rattle.lnfs_nodes.specs.Acts.{failed, placed};
 ghost use Rattle.lnfs_files.specs.Worlds.{with_opens};
+ghost use Rattle.lnfs_files.specs.Leases.{Leases};
 ghost use Rattle.lnfs_files.specs.Tests.{passed, refusal_in};
 ghost use Rattle.lnfs_files.specs.Uses.{special_of, way_of};
 
@@ -14,7 +15,7 @@ use crate::references::{node_key, refer, refused_by};
 use lnfs_arguments::StateId;
 use lnfs_arguments::statuses::{NFS4ERR_LOCKED, NFS4ERR_OPENMODE};
 use lnfs_nodes::Caller;
-use lnfs_open::{OpenError, Opens};
+use lnfs_open::{ClientKey, OpenError, Opens};
 use lnfs_operations::numbers::{OPEN4_SHARE_ACCESS_READ, OPEN4_SHARE_ACCESS_WRITE};
 use lnfs_operations::{Gate, Refusal};
 use lnfs_site::Site;
@@ -76,19 +77,23 @@ pub fn meaning(id: &StateId) -> Option<Special>
     None
 }
 
-/// What refuses a use that an open denies. Those of levels that the subject doesn't dominate deny it nothing.
+/// What refuses a use that an open denies. Those of levels that the subject doesn't dominate deny it nothing, and those of
+/// clients whose leases are over neither.
 ///
 /// # Errors
 ///
 /// NFS4ERR_LOCKED.
-fn check_undenied(
+fn check_undenied<F: Fn(ClientKey) -> bool>(
     site: &Site<'_>,
     opens: &Opens,
     caller: &Caller,
     node: NodeId,
     way: Way,
+    over: &F,
 ) -> Result<(), Refusal>
-    ensures { (p : outcome.Place) (rest : World) (n : Node) → id_of node ≡ n.id →
+    requires { F.IsAlwaysCallable over.now }
+    ensures { (p : outcome.Place) (rest : World) (n : Node) →
+        Leases (F.post over.now) rest caller.now.moment → id_of node ≡ n.id →
         let at = placed p caller.now in
         failed result
         ≡ refusal_in (operation.where_undenied (site_of site.now) at (with_opens rest opens.now)
@@ -96,7 +101,7 @@ fn check_undenied(
 {
     let lattice = site.policy().lattice();
     let node = node_key(node);
-    if opens.conflicts(lattice, caller.subject, None, node, way.bit(), 0) {
+    if opens.conflicts(lattice, caller.subject, None, node, way.bit(), 0, over) {
         Err(Refusal {
             gate: Gate::Open,
             status: NFS4ERR_LOCKED,
@@ -142,14 +147,15 @@ fn check_opened(
     }
 }
 
-/// What refuses a use of a node by a state id (RFC 8881 sections 8.2.2, 8.2.3 and 9.1.2).
+/// What refuses a use of a node by a state id (RFC 8881 sections 8.2.2, 8.2.3 and 9.1.2). `over` tells of clients whether
+/// their leases are over: an open of such a client denies nothing (section 8.4.3).
 ///
 /// # Errors
 ///
 /// NFS4ERR_LOCKED of a special state id where an open denies the use, but to a READ past what is denied;
 /// NFS4ERR_BAD_STATEID of the current one, and of one that names no open of the client and the node; NFS4ERR_OLD_STATEID
 /// of one of an earlier state; NFS4ERR_OPENMODE of an open that isn't for that use.
-pub fn check_usable(
+pub fn check_usable<F: Fn(ClientKey) -> bool>(
     site: &Site<'_>,
     opens: &Opens,
     caller: &Caller,
@@ -157,19 +163,21 @@ pub fn check_usable(
     node: NodeId,
     id: &StateId,
     way: Way,
+    over: &F,
 ) -> Result<(), Refusal>
-    ensures { (p : outcome.Place) (rest : World) (n : Node) → p.client ≡ client →
-        id_of node ≡ n.id →
+    requires { F.IsAlwaysCallable over.now }
+    ensures { (p : outcome.Place) (rest : World) (n : Node) →
+        Leases (F.post over.now) rest caller.now.moment → p.client ≡ client → id_of node ≡ n.id →
         let at = placed p caller.now in
         failed result
         ≡ refusal_in (operation.where_usable (site_of site.now) at (with_opens rest opens.now) n
         id.now (way_of way) (passed at)) }
 {
     match meaning(id) {
-        Some(Special::Anonymous) => check_undenied(site, opens, caller, node, way),
+        Some(Special::Anonymous) => check_undenied(site, opens, caller, node, way, over),
         Some(Special::Bypass) => match way {
             Way::Reading => Ok(()),
-            Way::Writing => check_undenied(site, opens, caller, node, Way::Writing),
+            Way::Writing => check_undenied(site, opens, caller, node, Way::Writing, over),
         },
         Some(Special::Current) => Err(refused_by(OpenError::Bad)),
         None => check_opened(opens, caller, client, node, id, way),

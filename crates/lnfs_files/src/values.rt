@@ -18,6 +18,7 @@ ghost use Rattle.lnfs_open.specs.Lists.{Lists};
 ghost use Rattle.lnfs_nodes.specs.Trees.{Holds, IsHeld, held_in, refusal_of, denial};
 ghost use Rattle.lnfs_nodes.specs.Acts.{failed, placed};
 ghost use Rattle.lnfs_files.specs.Worlds.{with_files};
+ghost use Rattle.lnfs_files.specs.Leases.{Leases};
 ghost use Rattle.lnfs_files.specs.Acts.{Acts};
 ghost use Rattle.lnfs_files.specs.Tests.{passed, refusal_in};
 ghost use Rattle.lnfs_files.specs.Charges.{MayResize};
@@ -32,7 +33,7 @@ use lnfs_arguments::statuses::NFS4ERR_FBIG;
 use lnfs_calipso::Level;
 use lnfs_monitor::Question;
 use lnfs_nodes::{Caller, Held, denied, namespace};
-use lnfs_open::Opens;
+use lnfs_open::{ClientKey, Opens};
 use lnfs_operations::Refusal;
 use lnfs_quota::{Quota, law_totals};
 use lnfs_site::Site;
@@ -63,7 +64,7 @@ fn write_denied(site: &Site<'_>, subject: Level, label: Level, writes: bool) -> 
 
 /// What refuses a size of a file: the use of its state id, NFS4ERR_FBIG where a file may not have so many bytes, and
 /// NFS4ERR_DQUOT where it grows and its level's bytes would pass their limit.
-fn check_size(
+fn check_size<F: Fn(ClientKey) -> bool>(
     site: &Site<'_>,
     tree: &Tree,
     opens: &Opens,
@@ -73,12 +74,15 @@ fn check_size(
     held: &Held,
     id: &StateId,
     size: u64,
+    over: &F,
 ) -> Result<(), Refusal>
+    requires told { F.IsAlwaysCallable over.now }
     requires counts { AreTotals quota.now tree.now.nodes }
     requires held { IsHeld tree.now (held_in tree.now.nodes (option_map id_of caller.now.current))
         (Ok held.now) }
     requires file { kind_of held.now.facts.kind ≡ File }
-    ensures refused { (n : Node) (p : Place) (rest : World) → p.client ≡ client →
+    ensures refused { (n : Node) (p : Place) (rest : World) →
+        Leases (F.post over.now) rest caller.now.moment → p.client ≡ client →
         Holds tree.now n held.now →
         let at = placed p caller.now in
         failed result
@@ -90,7 +94,7 @@ fn check_size(
 {
     // The call says that the file's bytes are counted in its label.
     law_totals();
-    if let Err(why) = check_usable(site, opens, caller, client, held.id, id, Way::Writing) {
+    if let Err(why) = check_usable(site, opens, caller, client, held.id, id, Way::Writing, over) {
         return Err(why);
     }
     if size > MOST_FILE {
@@ -103,7 +107,7 @@ fn check_size(
 }
 
 /// What refuses a size, if one is set.
-fn check_given(
+fn check_given<F: Fn(ClientKey) -> bool>(
     site: &Site<'_>,
     tree: &Tree,
     opens: &Opens,
@@ -113,12 +117,15 @@ fn check_given(
     held: &Held,
     id: &StateId,
     size: Option<u64>,
+    over: &F,
 ) -> Result<(), Refusal>
+    requires told { F.IsAlwaysCallable over.now }
     requires counts { AreTotals quota.now tree.now.nodes }
     requires held { IsHeld tree.now (held_in tree.now.nodes (option_map id_of caller.now.current))
         (Ok held.now) }
     requires file { IfSome size (λ size. kind_of held.now.facts.kind ≡ File) }
-    ensures refused { (n : Node) (p : Place) (rest : World) → p.client ≡ client →
+    ensures refused { (n : Node) (p : Place) (rest : World) →
+        Leases (F.post over.now) rest caller.now.moment → p.client ≡ client →
         Holds tree.now n held.now →
         let at = placed p caller.now in
         failed result
@@ -129,7 +136,9 @@ fn check_given(
         MayResize quota.now held.now.facts.label.0 held.now.facts.size size)) }
 {
     match size {
-        Some(size) => check_size(site, tree, opens, quota, caller, client, held, id, size),
+        Some(size) => check_size(
+            site, tree, opens, quota, caller, client, held, id, size, over,
+        ),
         None => Ok(()),
     }
 }
@@ -204,7 +213,7 @@ fn put_values(
 }
 
 /// Sets the attributes but the label. Takes no memory.
-pub fn set_values(
+pub fn set_values<F: Fn(ClientKey) -> bool>(
     site: &Site<'_>,
     tree: &mut Tree,
     opens: &Opens,
@@ -215,12 +224,15 @@ pub fn set_values(
     id: &StateId,
     size: Option<u64>,
     mode: Option<u32>,
+    over: &F,
 ) -> Result<(), Refusal>
+    requires told { F.IsAlwaysCallable over.now }
     requires counts { AreTotals quota.old tree.old.nodes }
     requires held { IsHeld tree.old (held_in tree.old.nodes (option_map id_of caller.now.current))
         (Ok held.now) }
     requires file { IfSome size (λ size. kind_of held.now.facts.kind ≡ File) }
-    ensures acts { (n : Node) (p : Place) (rest : World) (set : bitmap.Bitmap) → p.client ≡ client →
+    ensures acts { (n : Node) (p : Place) (rest : World) (set : bitmap.Bitmap) →
+        Leases (F.post over.now) rest caller.now.moment → p.client ≡ client →
         Holds tree.old n held.now →
         let at = placed p caller.now in
         Acts (λ it. set) at rest tree.old tree.new opens.now opens.now
@@ -233,7 +245,9 @@ pub fn set_values(
     if let Some(why) = write_denied(site, caller.subject, held.facts.label, writes) {
         return Err(why);
     }
-    check_given(site, tree, opens, quota, caller, client, held, id, size)?;
+    check_given(
+        site, tree, opens, quota, caller, client, held, id, size, over,
+    )?;
     put_values(tree, quota, caller, held, size, mode);
     Ok(())
 }

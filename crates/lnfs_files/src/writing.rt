@@ -15,6 +15,7 @@ ghost use Rattle.lnfs_open.specs.Lists.{Lists};
 ghost use Rattle.lnfs_nodes.specs.Trees.{held_in, IsHeld, Holds};
 ghost use Rattle.lnfs_nodes.specs.Acts.{placed};
 ghost use Rattle.lnfs_files.specs.Worlds.{with_files};
+ghost use Rattle.lnfs_files.specs.Leases.{Leases};
 ghost use Rattle.lnfs_files.specs.Acts.{Acts};
 ghost use Rattle.lnfs_files.specs.Writing.{write_on, fitting_size};
 
@@ -25,7 +26,7 @@ use lnfs_arguments::StateId;
 use lnfs_arguments::statuses::{NFS4ERR_DQUOT, NFS4ERR_FBIG, NFS4ERR_INVAL};
 use lnfs_content::Content;
 use lnfs_nodes::{Caller, Held, argument, namespace};
-use lnfs_open::Opens;
+use lnfs_open::{ClientKey, Opens};
 use lnfs_operations::numbers::FILE_SYNC4;
 use lnfs_operations::{Gate, Refusal};
 use lnfs_quota::{Quota, law_totals};
@@ -117,7 +118,8 @@ fn put(
 }
 
 /// Writes bytes to the current file from an offset on, and answers how many: all. What is between its end and the offset is
-/// zeros, and no bytes change nothing. What is written stands at once, however it was asked.
+/// zeros, and no bytes change nothing. What is written stands at once, however it was asked. `over` tells of clients whether
+/// their leases are over.
 ///
 /// Refused in this order: by NFS4ERR_INVAL of a way to write that there isn't, by those of `usable_file`, and by
 /// NFS4ERR_FBIG and NFS4ERR_DQUOT of a file that grows too large.
@@ -125,7 +127,7 @@ fn put(
 /// # Errors
 ///
 /// `AllocError` where there is no memory. Then nothing has changed.
-pub fn write(
+pub fn write<F: Fn(ClientKey) -> bool>(
     alloc: Global,
     site: &Site<'_>,
     tree: &mut Tree,
@@ -137,9 +139,12 @@ pub fn write(
     offset: u64,
     stable: u32,
     content: &[u8],
+    over: &F,
 ) -> Result<Result<u32, Refusal>, AllocError>
+    requires told { F.IsAlwaysCallable over.now }
     requires counts { AreTotals quota.old tree.old.nodes }
-    ensures acts { IfOk result (λ told. (p : Place) (rest : World) → p.client ≡ client →
+    ensures acts { IfOk result (λ told. (p : Place) (rest : World) →
+        Leases (F.post over.now) rest caller.now.moment → p.client ≡ client →
         let at = placed p caller.now in
         let args : operation.Arguments = record
         { id = id.now; offset = offset; stable = stable; content = content.now } in
@@ -154,7 +159,7 @@ pub fn write(
     if stable > FILE_SYNC4 {
         return Ok(Err(argument(NFS4ERR_INVAL)));
     }
-    match usable_file(site, tree, opens, caller, client, id, Way::Writing) {
+    match usable_file(site, tree, opens, caller, client, id, Way::Writing, over) {
         Ok(held) => put(alloc, site, tree, quota, caller, &held, offset, content),
         Err(why) => Ok(Err(why)),
     }

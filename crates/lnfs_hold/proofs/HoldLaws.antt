@@ -96,7 +96,7 @@ module _ (site : Site) where
       by_number true = by_answer told at.current refl refl
       by_number false = refused gates.Outside NFS4ERR_NOTSUPP (λ e. omega (arith, e))
 
-      any : (number : ℕ) → P (outcome site number arguments at a)
+      pub any : (number : ℕ) → P (outcome site number arguments at a)
       any number = by_number (number == HOLD)
 
 -- ---- what it looks at
@@ -216,10 +216,10 @@ module _ (site : Site) (lattice : IsPreorderWithBottom site.dom) where
     subject = λ p a stands. refl;
   }
 
-  tame : (number : ℕ) (arguments : List ℕ) (p : Place) (a : Both Held) → IsTame holds site.dom 12 p a (further_deed holds site number arguments p a)
-  tame number arguments p a = any site (λ t. IsTame holds site.dom 12 p a (turned p t)) arguments (spot_of p) a
-      (λ node current passed. record { untouched = kept; tame = tame_itself a.world; sizes = λ fit. fit; moved = stays; refused = tt; bound = omega arith })
-      (λ gate status real. record { untouched = kept; tame = tame_itself a.world; sizes = λ fit. fit; moved = stays; refused = (real, refl, refl); bound = omega arith }) number
+  tame : (number : ℕ) (arguments : List ℕ) (p : Place) (a : Both Held) → IsTame holds site 12 p a (further_deed holds site number arguments p a)
+  tame number arguments p a = any site (λ t. IsTame holds site 12 p a (turned p t)) arguments (spot_of p) a
+      (λ node current passed. record { untouched = kept; tame = tame_itself a.world; bounds = λ labels level bounds. bounds; moved = stays; refused = tt; bound = omega arith })
+      (λ gate status real. record { untouched = kept; tame = tame_itself a.world; bounds = λ labels level bounds. bounds; moved = stays; refused = (real, refl, refl); bound = omega arith }) number
     where
       kept : Untouched a.world a.world
       kept = record { clients = refl; sessions = refl; contexts = refl; last_clients = refl; last_sessions = refl; last_contexts = refl; labels = λ i l m here there. cc; new = λ i m none there. absurd cc }

@@ -4,15 +4,17 @@ ghost use Rattle.lnfs_world.specs.World.{Id};
 ghost use Rattle.lnfs_world.specs.Outcome.{Site};
 ghost use Rattle.lnfs_world.specs.Both.{Both};
 ghost use Rattle.lnfs_operations.specs.declared.Gate.TheVariants.{Open};
+ghost use Rattle.lnfs_operations.specs.Carried.{FurtherCarry};
 ghost use Rattle.lnfs_operations.specs.Chain.{Done};
 ghost use Rattle.lnfs_operations.specs.Extra.{Spot, place_at, AreLawful};
 ghost use Rattle.lnfs_hold.specs.declared.TheConstants.{HOLD, NFS4ERR_DENIED};
 ghost use Rattle.lnfs_hold.specs.declared.Held.{Held};
 ghost use Rattle.lnfs_hold.specs.Hold.{readable, is_held, outcome, holds};
 
-/// HOLD meets what further operations owe.
+/// HOLD meets what further operations owe, also where labels are carried alone.
 pub fn hold_is_lawful()
-    ensures { AreLawful holds }
+    ensures laws { AreLawful holds }
+    ensures labels { FurtherCarry holds }
 {}
 
 /// What is held for a level is refused to it a second time.

@@ -14,9 +14,10 @@ ghost use Rattle.lnfs_hold.specs.Hold.{anonymous, is_held, is_seen, readable};
 use lnfs_arguments::statuses::{NFS4ERR_NOFILEHANDLE, NFS4ERR_NOTSUPP};
 use lnfs_arguments::{ExtraGrammar, StateId};
 use lnfs_calipso::Level;
-use lnfs_engine::{Extra, ExtraRan, Spot, Store};
+use lnfs_engine::{Extra, ExtraRan, Spot, Store, is_lease_over};
 use lnfs_files::{Way, usable_file};
 use lnfs_hold::{HOLD, Held, NFS4ERR_DENIED};
+use lnfs_open::ClientKey;
 use lnfs_operations::{ExtraRows, Gate, Refusal};
 use lnfs_site::Site;
 use lnfs_tree::NodeId;
@@ -56,8 +57,10 @@ fn unreadable(store: &Store, at: &Spot<'_>) -> Option<Refusal>
 {
     let caller = at.caller();
     let id = anonymous();
-    let (tree, opens) = (store.tree(), store.opens());
-    match usable_file(at.site, tree, opens, &caller, at.client, &id, Way::Reading) {
+    let (clients, tree, opens) = (store.clients(), store.tree(), store.opens());
+    let (site, client, moment) = (at.site, at.client, at.moment);
+    let over = |key: ClientKey| is_lease_over(clients, key, moment);
+    match usable_file(site, tree, opens, &caller, client, &id, Way::Reading, &over) {
         Ok(_) => None,
         Err(why) => Some(why),
     }

@@ -4,10 +4,9 @@ use Rattle.lnfs_world.specs.World.{Id, Node, World, node_at}
 use Rattle.lnfs_world.specs.Outcome.{Site, Place, Outcome}
 use Rattle.lnfs_world.proofs.Seen.{node_at-id}
 use Rattle.lnfs_arguments.specs.declared.statuses.TheConstants.{NFS4ERR_STALE, NFS4ERR_BADHANDLE}
-use Rattle.lnfs_monitor.specs.Rules.{Home}
 use Rattle.lnfs_operations.specs.declared.Gate.TheVariants.{Argument, Namespace}
 use Rattle.lnfs_operations.specs.Chain.{Answer, refuse, done, demand, where_there}
-use Rattle.lnfs_operations.specs.Judged.{where_allowed}
+use Rattle.lnfs_operations.specs.Judged.{where_home}
 use Rattle.lnfs_operations.specs.FileHandles.{put_fh}
 use Rattle.lnfs_operations.specs.Handles.{handle_named, is_handle, with_node, with_current}
 use Rattle.lnfs_tree.specs.Rows.{Rows, id_of, IsTold}
@@ -53,11 +52,11 @@ about_held {R} P p rest t found h held next = at p.current held
 -- ---- PUTFH
 
 -- behind the test of the handle's bytes
-pub put_named : (site : Site) (p : Place) (w : World) (handle : List ℕ) (i : Id) → Some i ≡ cond (is_handle site handle) (Some (handle_named handle)) None → put_fh site handle p w ≡ where_allowed site p (Home i.level) (where_there (node_at w.nodes i) (λ n. done (record p { current = Some n.id }) tt []) (refuse p Namespace NFS4ERR_STALE))
+pub put_named : (site : Site) (p : Place) (w : World) (handle : List ℕ) (i : Id) → Some i ≡ cond (is_handle site handle) (Some (handle_named handle)) None → put_fh site handle p w ≡ where_home site p i.level (where_there (node_at w.nodes i) (λ n. done (record p { current = Some n.id }) tt []) (refuse p Namespace NFS4ERR_STALE))
 put_named site p w handle i e = at (is_handle site handle) e
   where
     next : Id → Outcome (Answer (Unit {0}))
-    next i = where_allowed site p (Home i.level) (where_there (node_at w.nodes i) (λ n. done (record p { current = Some n.id }) tt []) (refuse p Namespace NFS4ERR_STALE))
+    next i = where_home site p i.level (where_there (node_at w.nodes i) (λ n. done (record p { current = Some n.id }) tt []) (refuse p Namespace NFS4ERR_STALE))
 
     at : (b : Bool) → Some i ≡ cond b (Some (handle_named handle)) None → demand b (refuse p Argument NFS4ERR_BADHANDLE) (next (handle_named handle)) ≡ next i
     at true e = ap next cc

@@ -1,8 +1,9 @@
 -- What the code's answers stand for, in a world with the rows of a tree.
-use Rattle.std.specs.Prelude.{◌≡◌, ℕ, if◌then◌else◌, List, [], Option, Some, None, Result, Ok, Err}
+use Rattle.std.specs.Prelude.{◌≡◌, ℕ, cond, if◌then◌else◌, List, [], Option, Some, None, Result, Ok, Err}
 use Rattle.lnfs_world.specs.World.{Id, Node, World, node_at}
 use Rattle.lnfs_world.specs.Outcome.{Site, Place, Outcome}
-use Rattle.lnfs_monitor.specs.Rules.{Asks, allows, rule_of}
+use Rattle.lnfs_monitor.specs.Rules.{Asks, Home, allows, rule_of}
+use Rattle.lnfs_monitor.specs.declared.rule.Rule.TheVariants.{M8}
 use Rattle.lnfs_operations.specs.Judged.{denied_with}
 use Rattle.lnfs_arguments.specs.declared.statuses.TheConstants.{NFS4ERR_STALE, NFS4ERR_NOFILEHANDLE}
 use Rattle.lnfs_operations.specs.declared.Gate.TheVariants.{Namespace, Monitor}
@@ -65,3 +66,7 @@ IsHeld t _ _ = ⊥
 -- what the rules refuse of a question
 abbrev pub denial : Site → (subject : ℕ) → Asks → Option chain.Refusal
 denial site s asks = if allows site.dom s asks then None else Some (record { gate = Monitor (rule_of asks); status = denied_with (rule_of asks) })
+
+-- and what refuses that a subject names a node of a home
+abbrev pub home_denial : Site → (subject home : ℕ) → Option chain.Refusal
+home_denial site s home = if allows site.dom s (Home home) then None else Some (record { gate = cond site.limited Namespace (Monitor M8); status = NFS4ERR_STALE })

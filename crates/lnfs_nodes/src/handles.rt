@@ -7,7 +7,7 @@ ghost use Rattle.lnfs_site.specs.Site.{site_of};
 ghost use Rattle.lnfs_operations.specs.Handles.{handle_of, handle_named, is_handle};
 ghost use Rattle.lnfs_operations.specs.FileHandles.{put_fh, put_root_fh, get_fh, save_fh, restore_fh};
 ghost use Rattle.lnfs_tree.specs.Rows.{id_of};
-ghost use Rattle.lnfs_nodes.specs.Trees.{with_tree, answered, stays, goes, saves};
+ghost use Rattle.lnfs_nodes.specs.Trees.{with_tree, refusal_of, home_denial, answered, stays, goes, saves};
 
 use crate::held::{denied, namespace, node_held};
 use lnfs_arguments::statuses::{NFS4ERR_BADHANDLE, NFS4ERR_NOFILEHANDLE, NFS4ERR_STALE};
@@ -51,6 +51,19 @@ fn named(site: &Site<'_>, handle: &[u8]) -> Option<NodeId>
     }
 }
 
+/// What refuses that a subject names a node of a home: a rule of labels, or where these are carried alone none of them,
+/// since there is no node of another home.
+fn home_denied(site: &Site<'_>, subject: Level, home: Level) -> Option<Refusal>
+    ensures { option_map refusal_of result ≡ home_denial (site_of site.now) subject.0 home.0 }
+{
+    let why = denied(site, subject, &Question::Home { home })?;
+    if site.is_limited() {
+        Some(namespace(NFS4ERR_STALE))
+    } else {
+        Some(why)
+    }
+}
+
 /// The node that a file handle names, which becomes the current one.
 ///
 /// # Errors
@@ -73,7 +86,7 @@ pub fn put_fh(
             status: NFS4ERR_BADHANDLE,
         });
     };
-    if let Some(why) = denied(site, subject, &Question::Home { home: id.home }) {
+    if let Some(why) = home_denied(site, subject, id.home) {
         return Err(why);
     }
     match tree.node(id) {

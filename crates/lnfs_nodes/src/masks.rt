@@ -45,11 +45,14 @@ impl<'a> Asking<'a> {
     pub fn new(asked: &'a Bitmap) -> Asking<'a>
         ensures { result.asked.now ≡ asked.now }
     {
+        let inner = asks_inner(asked);
+        let whole = answered_to(asked, true);
+        let outer = outer_of(asked, inner, &whole);
         Asking {
             asked,
-            inner: asks_inner(asked),
-            whole: answered_to(asked, true),
-            outer: answered_to(asked, false),
+            inner,
+            whole,
+            outer,
         }
     }
 
@@ -90,4 +93,17 @@ pub fn answered_to(asked: &Bitmap, inner: bool) -> Answered
     let sized = sized_of(&mask);
     let units = units_of(&sized);
     Answered { mask, sized, units }
+}
+
+/// What is answered of a node whose inner attributes aren't shown: the whole, where none of them is asked.
+fn outer_of(asked: &Bitmap, inner: bool, whole: &Answered) -> Answered
+    requires asks { inner ≡ asks_inner asked.now }
+    requires whole { whole.now.mask ≡ answered_mask asked.now true }
+    ensures { result.mask ≡ answered_mask asked.now false }
+{
+    if inner {
+        answered_to(asked, false)
+    } else {
+        *whole
+    }
 }

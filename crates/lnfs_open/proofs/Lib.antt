@@ -11,3 +11,4 @@ pub mod Naming
 pub mod Runs
 pub mod Certain
 pub mod Sharings
+pub mod Yielding

@@ -3,7 +3,7 @@ use Rattle.std.proofs.Common.{◌≡◌, ℕ, Bool, true, false, cond, ◌&&◌,
 use Rattle.std.specs.Prelude.{◌==◌, filter}
 use Rattle.std.specs.Ordering.{is_le, nat_cmp, ordering_then}
 use Rattle.std.specs.declared.cmp.Ordering.{Ordering}
-use Rattle.std.specs.declared.cmp.Ordering.TheVariants.{Less, Equal, Greater}
+use Rattle.std.specs.declared.cmp.Ordering.TheVariants.{Less}
 use Rattle.std.specs.declared.ops.Bound.TheVariants.{Included, Unbounded}
 use Rattle.std.specs.BTreeMap.Range.{entries_between}
 use Rattle.std.specs.List.{AllByRecursion, list_any}
@@ -84,6 +84,18 @@ module _ {K V : Type 0} (within : K → Bool) (test : K × V → Bool) (e : K ×
   -- at one that passes
   pub walk_ends : test e ≡ true → true ≡ told
   walk_ends passes = ap (λ b. b || list_any test (run within es)) (sym passes) ∙ at_entry
+
+module _ {K V : Type 0} (within : K → Bool) (test : K × V → Bool) (all : List (K × V)) (told : Bool) (so_far : list_any test (run within all) ≡ told) where
+  -- where it comes out of the run
+  pub walk_out : (e : K × V) (es : List (K × V)) → all ≡ e ∷ es → within e.0 ≡ false → false ≡ told
+  walk_out e es there outside =
+      sym (ap (λ b. list_any test (cond b (e ∷ run within es) [])) outside)
+      ∙ ap (λ xs. list_any test (run within xs)) (sym there)
+      ∙ so_far
+
+  -- at the end of the entries
+  pub walk_done : all ≡ [] → false ≡ told
+  walk_done empty = sym (ap (λ xs. list_any test (run within xs)) empty) ∙ so_far
 
 -- a test of those that another leaves
 pub any_filtered : {X : Type 0} (p t : X → Bool) (es : List X) → list_any t (filter p es) ≡ list_any (λ e. p e && t e) es

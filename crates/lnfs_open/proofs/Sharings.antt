@@ -1,11 +1,10 @@
 -- The opens of a node by its group, and by all opens.
-use Rattle.std.proofs.Common.{◌≡◌, ℕ, Bool, true, false, cond, not, ◌&&◌, ◌||◌, List, [], ◌∷◌, Option, Some, None, refl, sym, ap, subst, ◌∙◌, arith}
+use Rattle.std.proofs.Common.{◌≡◌, ℕ, Bool, true, false, cond, ◌&&◌, ◌||◌, List, [], ◌∷◌, Option, Some, None, refl, sym, ap, subst, ◌∙◌, arith}
 use Rattle.std.specs.Prelude.{is_some, ◌==◌, ◌<◌}
 use Rattle.std.specs.Ordering.{is_eq}
 use Rattle.std.specs.Map.{lookup}
 use Rattle.std.specs.BTreeMap.{is_at, get}
 use Rattle.std.specs.List.{AllByRecursion, list_any}
-use Rattle.std.proofs.lemmas.Nat.{and_comm}
 use Rattle.lnfs_world.specs.Rows.{Rising}
 use Rattle.lnfs_world.specs.World.{Id, Open, open_order, same_id}
 use Rattle.lnfs_world.proofs.Rows.{all_weaker, any_weaker, any_row, any_found}
@@ -18,14 +17,12 @@ use Rattle.lnfs_open.specs.declared.groups.Member.{Member}
 use Rattle.lnfs_open.specs.Listed.{id_of}
 use Rattle.lnfs_open.specs.Groups.{place_cmp, place_of, holds}
 use Rattle.lnfs_open.specs.Indexed.{own_id, open_at, passes}
-use Rattle.lnfs_world.specs.Opens.{has_any}
-use Rattle.lnfs_open.specs.Sharing.{conflicts, is_denied}
 use Rattle.lnfs_open.proofs.Places.{place_same}
 use Rattle.lnfs_open.specs.declared.keys.Key.{Key}
 use Rattle.lnfs_open.specs.declared.tallies.Layer.{Layer}
 use Rattle.lnfs_open.specs.declared.tallies.Tally.{Tally}
 use Rattle.lnfs_open.specs.declared.tallies.Tallies.{Tallies}
-use Rattle.lnfs_open.specs.Tallies.{layer_cmp, layer_of, tally_in, tally_of, in_layer, may_have, AreTallied}
+use Rattle.lnfs_open.specs.Tallies.{layer_cmp, layer_of, tally_in, tally_of, in_layer, AreTallied}
 use Rattle.lnfs_open.proofs.Layers.{told, same_layer, layer_same}
 use Rattle.lnfs_open.proofs.Tallying.{positive}
 use Rattle.lnfs_open.proofs.Runs.{is_member, is_of_node}
@@ -186,13 +183,3 @@ by_node node t (o ∷ opens) = (λ i. here i || by_node node t opens i)
 
     here : (same_id node o.node && t o.node o) ≡ (same_id node o.node && t node o)
     here = at (same_id node o.node) refl
-
--- without an open of one's own and with nothing to deny, it is what denies a use
-pub denied : (dom : ℕ → ℕ → Bool) (subject : ℕ) (node : Id) (access : ℕ) (opens : List Open) → conflicts dom subject None node access 0 opens ≡ is_denied dom subject node access opens
-denied dom subject node access [] = refl
-denied dom subject node access (o ∷ opens) = (λ i. same_id node o.node && (dom subject o.id.level && nothing i) || denied dom subject node access opens i)
-  where
-    nothing : (not false && (has_any o.deny access || has_any o.access 0)) ≡ has_any o.deny access
-    nothing =
-        let none : has_any o.access 0 ≡ false = ap (λ (n : ℕ). not (n == 0)) (and_comm o.access 0) in
-        grind (arith, none)

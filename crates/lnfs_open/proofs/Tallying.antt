@@ -9,7 +9,6 @@ use Rattle.std.proofs.lemmas.Bool.Decides.{nat_tests}
 use Rattle.lnfs_world.specs.Opens.{has_any}
 use Rattle.lnfs_world.specs.Rows.{Rising, inserted}
 use Rattle.lnfs_world.specs.World.{Id, Open, open_order, same_id}
-use Rattle.lnfs_world.specs.declared.numbers.TheConstants.{LAST_NUMBER}
 use Rattle.lnfs_world.proofs.Rows.{all_weaker}
 use Rattle.lnfs_world.proofs.Keys.{id_same, id_itself, id_equal, id_tied}
 use Rattle.lnfs_counts.proofs.Counts.{counts, count-added, count-dropped}

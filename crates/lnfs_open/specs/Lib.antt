@@ -1,6 +1,5 @@
 pub mod Lists
 pub mod Opening
-pub mod Sharing
 pub mod Listed
 pub mod Groups
 pub mod Owners

@@ -73,6 +73,10 @@ pub record CanChange (access deny : ℕ) (t : Tally) : Type 0 where
 abbrev pub may_have : (bits first second : ℕ) → Bool
 may_have bits first second = nat_lt BOTH bits || (has_any bits READING && not (first == 0) || has_any bits WRITING && not (second == 0))
 
+-- whether one of the opens may deny what is asked, or be for what is to be denied
+abbrev pub may_clash : (access deny : ℕ) → Tally → Bool
+may_clash access deny t = may_have access t.reading_denied t.writing_denied || may_have deny t.reading t.writing
+
 -- ---- of opens
 
 abbrev pub in_layer : (node : Id) → (level : ℕ) → Open → Bool

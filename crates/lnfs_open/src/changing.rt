@@ -170,7 +170,7 @@ impl Opens {
     }
 
     /// An open goes, if it is there.
-    fn take_out(&mut self, id: Key)
+    pub(crate) fn take_out(&mut self, id: Key)
         ensures { self.new
             ≡ record self.old { opens = filter (λ o. not (same_id (id_of id) o.id)) self.old.opens } }
     {

@@ -1,6 +1,7 @@
-//! The last number that each level was given.
+//! The last number that each level was given, and the order of opens.
 ghost use Rattle.std.specs.Prelude.{◌≡◌, ◌<◌, None, find};
-ghost use Rattle.lnfs_world.specs.World.{Id, last_of, same_id};
+ghost use Rattle.lnfs_world.specs.Rows.{Rising};
+ghost use Rattle.lnfs_world.specs.World.{Id, last_of, open_order, same_id};
 
 use crate::opens::Opens;
 use lnfs_calipso::Level;
@@ -14,5 +15,12 @@ impl Opens {
             find (λ o. same_id i o.id) self.now.opens ≡ None }
     {
         last_given(&self.counters, level.0)
+    }
+
+    /// Opens are in the order of their identifiers, so that no two have the same.
+    pub fn law_order(&self)
+        ensures { Rising open_order self.now.opens }
+    {
+        let _ = &self.rows;
     }
 }

@@ -1,7 +1,8 @@
 //! Opens of files and what they deny to others (RFC 8881 section 9): by identifier, by client, owner and file, by file, and
 //! by client, each of which is found without a look at the others.
 //!
-//! `specs/Lists.antt` says what is kept, `specs/Opening.antt` and `specs/Sharing.antt` what each call answers and changes.
+//! `specs/Lists.antt` says what is kept, `specs/Opening.antt` what each call answers and changes, and `lnfs_world/specs/Opens.antt`
+//! which opens stand in the way of what is asked.
 #![tactic(auto)]
 
 mod bits;
@@ -10,8 +11,10 @@ mod finder;
 mod groups;
 mod keys;
 mod lasts;
+mod leases;
 mod opens;
 mod owners;
+mod revoking;
 mod rows;
 mod shares;
 mod tallies;

@@ -1,14 +1,15 @@
 //! The opens of all levels.
-ghost use Rattle.std.specs.Prelude.{◌≡◌, ◌||◌, true, false, not, filter, map, option_map, IfSome, IfNone, IfOk, OnErr};
+ghost use Rattle.std.specs.Prelude.{◌≡◌, ◌||◌, Bool, true, false, not, filter, map, option_map, IfSome, IfNone, IfOk, OnErr};
 ghost use Rattle.std.specs.List.{list_any, list_all};
 ghost use Rattle.std.specs.Result.{result_map_both};
-ghost use Rattle.lnfs_world.specs.World.{same_id};
+ghost use Rattle.lnfs_world.specs.World.{Id, same_id};
 ghost use Rattle.lnfs_world.specs.Change.{is_open_of};
+ghost use Rattle.lnfs_world.specs.Opens.{conflicts};
 ghost use Rattle.lnfs_calipso.specs.Label.{dom_of};
 ghost use Rattle.lnfs_open.specs.Lists.{no_lists};
 ghost use Rattle.lnfs_open.specs.Listed.{id_of, client_id, node_id, open_id, row_of, owner_of};
 ghost use Rattle.lnfs_open.specs.Opening.{own_open, open_named, found_of, room_at, has_open_left};
-ghost use Rattle.lnfs_open.specs.Sharing.{conflicts, is_denied};
+ghost use Rattle.lnfs_open.specs.Stopping.{Tells};
 
 use crate::finder::Finder;
 use crate::keys::{ClientKey, Key, NodeKey, OpenError, OpenRef, OpenRow};
@@ -152,8 +153,8 @@ impl Opens {
 
     /// Whether another's open of a node stands in the way of what a subject asks (RFC 8881 section 9.7): it denies a bit of
     /// `access`, or is for a bit of `deny`. Neither the open of `own`, a client and an owner, counts, nor one of a level that
-    /// the subject doesn't dominate.
-    pub fn conflicts(
+    /// the subject doesn't dominate, nor one of a client of which `over` tells that its lease is over (section 8.4.3).
+    pub fn conflicts<F: Fn(ClientKey) -> bool>(
         &self,
         lattice: &Lattice,
         subject: Level,
@@ -161,12 +162,12 @@ impl Opens {
         node: NodeKey,
         access: u32,
         deny: u32,
+        over: &F,
     ) -> bool
-        ensures exact { result ≡ conflicts (dom_of lattice.now) subject.0
-            (option_map owner_of own.entry) (node_id node) access deny self.now.opens }
-        // Without an open of one's own and with nothing to deny, it is what denies a use.
-        ensures denied { option_map owner_of own.entry ≡ None → deny ≡ 0 →
-            result ≡ is_denied (dom_of lattice.now) subject.0 (node_id node) access self.now.opens }
+        requires { F.IsAlwaysCallable over.now }
+        ensures { (told : Id → Bool) → Tells (F.post over.now) told →
+            result ≡ conflicts (dom_of lattice.now) subject.0 (option_map owner_of own.entry)
+            (node_id node) access deny told self.now.opens }
     {
         let share = Share {
             lattice,
@@ -175,7 +176,13 @@ impl Opens {
             access,
             deny,
         };
-        share.is_stopped(&self.tallies, &self.finder.nodes, &self.rows, node.key())
+        share.is_stopped(
+            &self.tallies,
+            &self.finder.nodes,
+            &self.rows,
+            node.key(),
+            over,
+        )
     }
 
     /// Whether a client has an open.

@@ -2,19 +2,20 @@
 //!
 //! A question takes a look at the tally of each level that has an open of the file. Opens are walked only where they are of a
 //! level that the subject dominates, and one of that level has a bit that is in the way.
-ghost use Rattle.std.specs.Prelude.{◌≡◌, ◌&&◌, ℕ, option_map};
+ghost use Rattle.std.specs.Prelude.{◌≡◌, ◌&&◌, ℕ, Bool, option_map};
 ghost use Rattle.std.specs.List.{list_any};
-ghost use Rattle.lnfs_world.specs.World.{same_id};
+ghost use Rattle.lnfs_world.specs.World.{Id, same_id};
+ghost use Rattle.lnfs_world.specs.Opens.{is_own};
 ghost use Rattle.lnfs_calipso.specs.Label.{dom_of};
 ghost use Rattle.lnfs_open.specs.Listed.{id_of, node_id, row_of, owner_of, AreOwn};
-ghost use Rattle.lnfs_open.specs.Sharing.{is_own, stands_in_way};
 ghost use Rattle.lnfs_open.specs.Indexed.{open_at, passes};
 ghost use Rattle.lnfs_open.specs.Tallies.{in_layer, AreTallied};
-ghost use Rattle.lnfs_open.specs.Stopping.{opens_in, stopped_by, may_stop, AreFound};
+ghost use Rattle.lnfs_open.specs.Stopping.{opens_in, Tells, stopped_by, may_stop, AreFound};
 
 use crate::bits::has_any;
 use crate::groups::{Groups, Member};
 use crate::keys::{ClientKey, Key, OpenRow};
+use crate::leases::is_over;
 use crate::rows::row_at;
 use crate::tallies::{Layer, Tallies, Tally, lowest};
 use lnfs_calipso::{Lattice, Level};
@@ -59,24 +60,33 @@ impl<'a> Share<'a> {
     }
 
     /// Whether an open of the file stands in the way.
-    fn is_stopped_by(&self, row: &OpenRow) -> bool
-        ensures { (number : ℕ) →
-            result ≡ stands_in_way (dom_of self.now.lattice.now) self.now.subject.0
-            (option_map owner_of self.now.own) (node_id row.now.node) self.now.access self.now.deny
-            (row_of (record { level = row.now.client.level.0; number = number }) row.now) }
+    fn is_stopped_by<F: Fn(ClientKey) -> bool>(&self, row: &OpenRow, over: &F) -> bool
+        requires { F.IsAlwaysCallable over.now }
+        ensures { (told : Id → Bool) → Tells (F.post over.now) told → (number : ℕ) →
+            result
+            ≡ stopped_by self.now told (row_of
+            (record { level = row.now.client.level.0; number = number }) row.now) }
     {
         dominates(self.lattice, self.subject, row.client.level)
             && !self.is_own(row)
             && (has_any(row.deny, self.access) || has_any(row.access, self.deny))
+            && !is_over(row.client, over)
     }
 
     /// Whether an open of an identifier is there and stands in the way.
-    fn is_stopped_at(&self, rows: &BTreeMap<Key, OpenRow>, id: Key) -> bool
-        requires { AreOwn rows.now.entries }
-        ensures { result ≡ passes (stopped_by self.now) (open_at (opens_in rows.now) (id_of id)) }
+    fn is_stopped_at<F: Fn(ClientKey) -> bool>(
+        &self,
+        rows: &BTreeMap<Key, OpenRow>,
+        id: Key,
+        over: &F,
+    ) -> bool
+        requires own { AreOwn rows.now.entries }
+        requires told { F.IsAlwaysCallable over.now }
+        ensures { (told : Id → Bool) → Tells (F.post over.now) told →
+            result ≡ passes (stopped_by self.now told) (open_at (opens_in rows.now) (id_of id)) }
     {
         match row_at(rows, id) {
-            Some(row) => self.is_stopped_by(row),
+            Some(row) => self.is_stopped_by(row, over),
             None => false,
         }
     }
@@ -91,16 +101,24 @@ impl<'a> Share<'a> {
     }
 
     /// Whether one of the opens of a file that are of a level stands in the way.
-    fn is_stopped_in(&self, nodes: &Groups, rows: &BTreeMap<Key, OpenRow>, layer: Layer) -> bool
-        requires { AreFound rows.now nodes.now }
-        ensures { result ≡ list_any (λ o. in_layer (id_of layer.node) layer.level o
-            && stopped_by self.now o) (opens_in rows.now) }
+    fn is_stopped_in<F: Fn(ClientKey) -> bool>(
+        &self,
+        nodes: &Groups,
+        rows: &BTreeMap<Key, OpenRow>,
+        layer: Layer,
+        over: &F,
+    ) -> bool
+        requires found { AreFound rows.now nodes.now }
+        requires told { F.IsAlwaysCallable over.now }
+        ensures { (told : Id → Bool) → Tells (F.post over.now) told →
+            result ≡ list_any (λ o. in_layer (id_of layer.node) layer.level o
+            && stopped_by self.now told o) (opens_in rows.now) }
     {
         for (place, _) in nodes.places.range(first_of(layer)..) {
             if place.group != layer.node || place.id.level != layer.level {
                 return false;
             }
-            if self.is_stopped_at(rows, place.id) {
+            if self.is_stopped_at(rows, place.id, over) {
                 return true;
             }
         }
@@ -108,39 +126,45 @@ impl<'a> Share<'a> {
     }
 
     /// The same, where it is told how many of these opens have which bit: they are walked only if one may stand in the way.
-    fn is_stopped_among(
+    fn is_stopped_among<F: Fn(ClientKey) -> bool>(
         &self,
         nodes: &Groups,
         rows: &BTreeMap<Key, OpenRow>,
         layer: Layer,
         tally: &Tally,
+        over: &F,
     ) -> bool
-        requires { AreFound rows.now nodes.now }
-        ensures { result ≡ (may_stop self.now layer.level tally.now
-            && list_any (λ o. in_layer (id_of layer.node) layer.level o && stopped_by self.now o)
-            (opens_in rows.now)) }
+        requires found { AreFound rows.now nodes.now }
+        requires told { F.IsAlwaysCallable over.now }
+        ensures { (told : Id → Bool) → Tells (F.post over.now) told →
+            result ≡ (may_stop self.now layer.level tally.now
+            && list_any (λ o. in_layer (id_of layer.node) layer.level o
+            && stopped_by self.now told o) (opens_in rows.now)) }
     {
-        self.may_be_stopped(layer.level, tally) && self.is_stopped_in(nodes, rows, layer)
+        self.may_be_stopped(layer.level, tally) && self.is_stopped_in(nodes, rows, layer, over)
     }
 
     /// Whether one of the opens of a file stands in the way.
-    pub fn is_stopped(
+    pub fn is_stopped<F: Fn(ClientKey) -> bool>(
         &self,
         tallies: &Tallies,
         nodes: &Groups,
         rows: &BTreeMap<Key, OpenRow>,
         node: Key,
+        over: &F,
     ) -> bool
         requires found { AreFound rows.now nodes.now }
         requires tallied { AreTallied (opens_in rows.now) tallies.now }
-        ensures { result ≡ list_any (λ o. same_id (id_of node) o.node && stopped_by self.now o)
+        requires told { F.IsAlwaysCallable over.now }
+        ensures { (told : Id → Bool) → Tells (F.post over.now) told →
+            result ≡ list_any (λ o. same_id (id_of node) o.node && stopped_by self.now told o)
             (opens_in rows.now) }
     {
         for (layer, tally) in tallies.layers.range(lowest(node)..) {
             if layer.node != node {
                 return false;
             }
-            if self.is_stopped_among(nodes, rows, *layer, tally) {
+            if self.is_stopped_among(nodes, rows, *layer, tally, over) {
                 return true;
             }
         }

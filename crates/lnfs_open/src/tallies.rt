@@ -5,7 +5,7 @@ ghost use Rattle.std.specs.BTreeMap.{get};
 ghost use Rattle.lnfs_world.specs.World.{Id, same_id};
 ghost use Rattle.lnfs_world.specs.declared.numbers.TheConstants.{LAST_NUMBER};
 ghost use Rattle.lnfs_open.specs.Listed.{id_of};
-ghost use Rattle.lnfs_open.specs.Tallies.{layer_cmp, no_tally, tally_at, more, less, may_have, HasRoom, CanChange};
+ghost use Rattle.lnfs_open.specs.Tallies.{layer_cmp, no_tally, tally_at, more, less, may_have, may_clash, HasRoom, CanChange};
 
 use crate::bits::{BOTH, READING, WRITING, has_any, one_if_any};
 use crate::keys::Key;
@@ -130,6 +130,18 @@ impl Tallies {
         Tallies {
             layers: BTreeMap::new(alloc),
         }
+    }
+
+    /// Whether one of the opens of a layer may deny one of the bits of `access`, or be for one of the bits of `deny`.
+    pub fn may_clash(&self, layer: Layer, access: u32, deny: u32) -> bool
+        ensures { result ≡ may_clash access deny
+            (tally_at self.now (id_of layer.node) layer.level) }
+    {
+        let tally = match self.layers.get(&layer) {
+            Some(found) => *found,
+            None => Tally::none(),
+        };
+        tally.may_deny(access) || tally.may_use(deny)
     }
 
     /// Makes the row of a layer, where there is none. It changes nothing that is told.

@@ -1,8 +1,7 @@
 -- What slots keep was accepted: each operation keeps that, and so does a COMPOUND that is served. So a request that
 -- comes again with the arguments that are kept is accepted too.
-use Rattle.std.proofs.Common.{◌≡◌, ◌≤◌, ℕ, List, [], ◌∷◌, Option, Some, None, Ok, refl, sym, ap, ◌∙◌, subst, arith}
+use Rattle.std.proofs.Common.{◌≡◌, ◌≤◌, ℕ, true, List, Option, Some, Ok, refl, sym, ap, ◌∙◌, subst, arith}
 use Rattle.std.specs.Prelude.{IfSome, slice_get}
-use Rattle.std.specs.List.{AllByRecursion}
 use Rattle.lnfs_calipso.specs.Label.{IsPreorderWithBottom}
 use Rattle.lnfs_types.specs.declared.event.Moment.{Moment}
 use Rattle.lnfs_xdr.specs.Message.{parse}
@@ -10,10 +9,10 @@ use Rattle.lnfs_arguments.specs.Further.{Further}
 use Rattle.lnfs_arguments.specs.Whole.{compound}
 use Rattle.lnfs_arguments.specs.declared.types.Compound.{Compound}
 use Rattle.lnfs_arguments.specs.declared.types.Sequence.{Sequence}
-use Rattle.lnfs_world.specs.World.{Id, Kept, Client, Slot as SlotRow, Session, World, session_at, same_id}
+use Rattle.lnfs_world.specs.World.{Id, Kept, Slot as SlotRow, Session, World, session_at, same_id}
 use Rattle.lnfs_world.specs.Outcome.{Site, Place, begins_at, done_to}
 use Rattle.lnfs_world.specs.Both.{Both, BothStand}
-use Rattle.lnfs_world.proofs.Rows.{all_find}
+use Rattle.lnfs_world.proofs.Rows.{all_anyway, all_find}
 use Rattle.lnfs_operations.specs.Accepted.{IsSent, WasAccepted, SlotAccepted, SessionAccepted, AllAccepted}
 use Rattle.lnfs_operations.specs.CreateSession.{granted_of}
 use Rattle.lnfs_operations.specs.Extra.{Extra, AreLawful}
@@ -21,12 +20,13 @@ use Rattle.lnfs_operations.specs.Identifiers.{session_named}
 use Rattle.lnfs_operations.specs.Retries.{Names}
 use Rattle.lnfs_operations.specs.Sequence.{Sent}
 use Rattle.lnfs_operations.specs.Served.{Keeper, Nowhere, Slot, Record, operation}
-use Rattle.lnfs_operations.specs.Sizes.{IsRead, Sizes, SpellsShortly}
+use Rattle.lnfs_operations.specs.Sizes.{IsRead, LabelsFit, is_level}
+use Rattle.lnfs_operations.specs.Bounds.{Bounds}
 use Rattle.lnfs_operations.specs.SlotRule.{run_all, result_of, keep_in, served}
 use Rattle.lnfs_operations.proofs.SessionLaws.{session_under-at}
 use Rattle.lnfs_operations.proofs.SizeChanges.{FitsIn, fits_slot}
 use Rattle.lnfs_operations.proofs.SizeLaws.{kept_fits}
-use Rattle.lnfs_operations.proofs.Walks.{ByKept, Walk, all_fresh, all_with_slot, slot_of_all, run_left, keep_left}
+use Rattle.lnfs_operations.proofs.Walks.{Walk, all_fresh, all_with_slot, slot_of_all, run_left, keep_left}
 
 -- ---- rows that are there
 
@@ -51,25 +51,22 @@ accepted_again g level w args sent c x slot reply all is names kept =
 
 -- ---- a COMPOUND
 
--- nothing is said of what clients' records keep
-any_kept : (o : Option Kept) → IfSome o (λ kept. Unit {0})
-any_kept None = tt
-any_kept (Some kept) = tt
-
-any_records : (clients : List Client) → AllByRecursion (ByKept (λ level kept. Unit {0})) clients
-any_records [] = tt
-any_records (c ∷ clients) = (any_kept c.kept, any_records clients)
-
 -- what slots keep, for a walk: a new session keeps no result yet
 abbrev accepted_walk : Further → (Spells : Type 0) → Walk Spells
 accepted_walk g Spells = record {
   Holds = AllAccepted g;
   OfSession = SessionAccepted g;
+  OfClient = λ c. Unit {0};
   OfSlot = λ x kept. WasAccepted g x.channel.max_operations kept;
   OfRecord = λ level kept. Unit {0};
   sessions = λ w all. all;
-  clients = λ w all. any_records w.clients;
+  clients = λ w all. all_anyway (λ c. Unit {0}) (λ c. tt) w.clients;
   holds = λ w v all sessions clients nodes. sessions;
+  is_new = λ i args. tt;
+  when_confirmed = λ p c it. tt;
+  when_renewed = λ moment c it. tt;
+  when_reclaimed = λ c it. tt;
+  when_kept = λ c kept it is. tt;
   made = λ i c fore large. all_fresh (SlotAccepted g (granted_of fore).max_operations) tt (granted_of fore).max_requests;
   kept = λ x slot sequence kept all is. all_with_slot (SlotAccepted g x.channel.max_operations) slot (record { sequence = sequence; kept = Some kept }) x.slots is all;
 }
@@ -83,12 +80,12 @@ module _ (g : Further) (p : Place) (w : World) (all : AllAccepted g w) (sent : S
       record { asked = c; read = is.read; few = omega (arith, few, is.count) })
   kept_accepted own result (Record client) fits = keep_left (accepted_walk g (Unit {0})) p w all (record { arguments = sent.arguments; reply = result }) (Record client) tt
 
-module _ (X : Extra) (owed : AreLawful X) (site : Site) (lattice : IsPreorderWithBottom site.dom) (spells : SpellsShortly site) (sent : Sent) (c : Compound) where
-  pub served_accepted : (level : ℕ) (moment : Moment) (b : Both X.Row) → BothStand X.Fact site.dom (begins_at level moment) b → Sizes b.world → IsRead c → IsSent X.grammar sent c → AllAccepted X.grammar b.world →
+module _ (X : Extra) (owed : AreLawful X) (site : Site) (lattice : IsPreorderWithBottom site.dom) (labels : LabelsFit site) (sent : Sent) (c : Compound) where
+  pub served_accepted : (level : ℕ) (moment : Moment) (b : Both X.Row) → BothStand X.Fact site.dom (begins_at level moment) b → is_level site level ≡ true → Bounds site b.world → IsRead c → IsSent X.grammar sent c → AllAccepted X.grammar b.world →
       AllAccepted X.grammar (served X site sent c (begins_at level moment) b).state.world
   unfolding served
-  served_accepted level moment b stands sizes read is all =
+  served_accepted level moment b stands known bounds read is all =
       let r = run_all (operation X site sent c) c (begins_at level moment) b in
-      let ran = run_left site (accepted_walk X.grammar (SpellsShortly site)) sent X owed lattice c (begins_at level moment) b stands all in
+      let ran = run_left site (λ none. absurd none) (accepted_walk X.grammar ⊥) sent (λ none. none) X owed lattice c (begins_at level moment) b stands all in
       kept_accepted X.grammar r.place r.state.world ran sent c is r.state.own (result_of c r.results r.again) r.keeper
-      (kept_fits X owed site lattice spells sent c level moment b stands sizes read)
+      (kept_fits X owed site lattice labels sent c level moment b stands known bounds read)

@@ -25,12 +25,12 @@ use Rattle.lnfs_operations.specs.Keeping.{next_sequence}
 use Rattle.lnfs_operations.specs.ExchangeId.{Told}
 use Rattle.lnfs_operations.specs.CreateSession.{Created, create_session}
 use Rattle.lnfs_operations.specs.DestroyClientId.{is_busy}
-use Rattle.lnfs_operations.specs.Sequence.{Sent, Sequenced, New, Again, in_session}
+use Rattle.lnfs_operations.specs.Sequence.{Sent, Sequenced, Again, begun_in}
 use Rattle.lnfs_operations.specs.Extra.{Extra, AreLawful, Said, further_deed}
 use Rattle.lnfs_operations.specs.Results.{failed, told_result, server_name, status_said}
 use Rattle.lnfs_operations.specs.Admission.{admission}
 use Rattle.lnfs_operations.specs.Served.{Keeper, Nowhere, Reply, Own, Kept, success, failure, told_reply, created_reply, created_keeper, sequence_reply, reply_of, under, said_reply, further_reply, row, row_in, admitted, operation}
-use Rattle.lnfs_operations.specs.Sizes.{Sizes, SpellsShortly}
+use Rattle.lnfs_operations.specs.Sizes.{Sizes, LabelsFit}
 use Rattle.lnfs_operations.specs.Bounded.{most_of, IsBounded}
 use Rattle.lnfs_operations.proofs.Chains.{demand_any, where_any, in_order_any}
 use Rattle.lnfs_operations.proofs.ExchangeIdLaws.{exchange_id_any}
@@ -104,7 +104,7 @@ under_bounded : (x : Further) (op : Op) (keeper : Keeper) (y : Reply) → IsBoun
 under_bounded x op keeper (Own own other) is = is
 under_bounded x op keeper (Kept reply) is = tt
 
-module _ (x : Further) (site : Site) (spells : SpellsShortly site) (sent : Sent) (p : Place) (w : World) (sizes : Sizes w) where
+module _ (x : Further) (site : Site) (spells : LabelsFit site) (sent : Sent) (p : Place) (w : World) (sizes : Sizes w) where
   -- an operation that reads or changes nodes
   on_nodes : (op : Op) (reads changes : Bool) → is_reading op ≡ reads → is_changing op ≡ changes → is_further op ≡ false → (cond reads true changes) ≡ true → IsBounded x op (row site sent op p w).answer
   on_nodes op true changes reading changing table is = short_bounded x op (row site sent op p w).answer table (row_short x site spells sent p w sizes op reading)
@@ -137,7 +137,7 @@ module _ (x : Further) (site : Site) (spells : SpellsShortly site) (sent : Sent)
       demand_any P (nat_le sent.size s.channel.max_request) _ _ (failure_bounded x op (record { gate = gates.Session; status = NFS4ERR_REQ_TOO_BIG }) room) (λ short.
       demand_any P (nat_le sent.count s.channel.max_operations) _ _ (failure_bounded x op (record { gate = gates.Session; status = NFS4ERR_TOO_MANY_OPS }) room) (λ few.
       where_any P (slice_get s.slots args.slot) _ _ (λ slot there.
-      in_order_any P p slot.sequence (next_sequence slot.sequence) slot.kept args.sequence sent.arguments (λ reply. done p (Again reply) []) (done (in_session p s) (New s) []) (λ status. failure_bounded x op (record { gate = gates.Session; status = status }) room) (λ k kept. tt)
+      in_order_any P p slot.sequence (next_sequence slot.sequence) slot.kept args.sequence sent.arguments (λ reply. done p (Again reply) []) (begun_in p w s) (λ status. failure_bounded x op (record { gate = gates.Session; status = status }) room) (λ k kept. tt)
       (λ next. sequence_bounded args.session _ _ _ _ _ (session_length args.session w.sessions s found)))
       (failure_bounded x op (record { gate = gates.Session; status = NFS4ERR_BADSLOT }) room)))) (failure_bounded x op (record { gate = gates.Session; status = NFS4ERR_BADSESSION }) room))
   row_bounded (ops.DestroyClientId client) room =
@@ -156,7 +156,7 @@ module _ (x : Further) (site : Site) (spells : SpellsShortly site) (sent : Sent)
 
 -- ---- in a COMPOUND
 
-module _ (X : Extra) (owed : AreLawful X) (site : Site) (lattice : IsPreorderWithBottom site.dom) (spells : SpellsShortly site) (sent : Sent) (c : Compound) (so_far : List OpResult) (p : Place) (b : Both X.Row) (stands : BothStand X.Fact site.dom p b) (sizes : Sizes b.world) where
+module _ (X : Extra) (owed : AreLawful X) (site : Site) (lattice : IsPreorderWithBottom site.dom) (spells : LabelsFit site) (sent : Sent) (c : Compound) (so_far : List OpResult) (p : Place) (b : Both X.Row) (stands : BothStand X.Fact site.dom p b) (sizes : Sizes b.world) where
   has_room : (op : Op) → HasRoom X.grammar op
   has_room (ops.Extra number arguments) = omega (arith, (owed.tame site lattice number arguments p b stands).bound)
   has_room op = tt

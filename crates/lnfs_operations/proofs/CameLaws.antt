@@ -20,7 +20,7 @@ use Rattle.lnfs_world.specs.Both.{Both, BothStand}
 use Rattle.lnfs_operations.specs.declared.Gate.{Gate}
 use Rattle.lnfs_operations.specs.declared.Gate.TheVariants as gates
 use Rattle.lnfs_operations.specs.Came as came
-use Rattle.lnfs_operations.specs.Came.{Came, where_found, retried, came_by, came_to_slot, came_in_session, came_on_slot, came_to_client, came_to_record, refused_first, KeepsOnSlot, KeepsInRecord}
+use Rattle.lnfs_operations.specs.Came.{Came, where_found, came_again, came_by, came_to_slot, came_in_session, came_on_slot, came_to_client, came_to_record, refused_first, KeepsOnSlot, KeepsInRecord}
 use Rattle.lnfs_operations.specs.Chain.{Answer as Answered, refuse, done, demand, where_there}
 use Rattle.lnfs_operations.specs.CreateSession.{Created, Again as MadeBefore, made, created, create_session, is_next_of, is_next_created}
 use Rattle.lnfs_operations.specs.Extra.{Extra, AreLawful}
@@ -28,47 +28,48 @@ use Rattle.lnfs_operations.specs.Identifiers.{client_named, session_named, sessi
 use Rattle.lnfs_operations.specs.InOrder.{sequence_before, in_order}
 use Rattle.lnfs_operations.specs.Keeping.{next_sequence}
 use Rattle.lnfs_operations.specs.Retries.{Names}
-use Rattle.lnfs_operations.specs.Sequence.{Sent, Sequenced, New, Again, in_session, on_slot, under_session, sequence}
+use Rattle.lnfs_operations.specs.Sequence.{Sent, Sequenced, Again, in_session, begun_in, on_slot, under_session, sequence}
 use Rattle.lnfs_operations.specs.Served.{Keeper, Nowhere, Record, reply_of, created_reply, under, created_keeper}
 use Rattle.lnfs_operations.specs.SlotRule.{Answer, kept_after, served}
 use Rattle.lnfs_operations.proofs.CreatedOnce.{created_kept}
-use Rattle.lnfs_operations.proofs.Once.{behind_stays, behind_subject, new_begins, keeping, kept_sessions}
+use Rattle.lnfs_operations.proofs.Once.{behind_stays, behind_subject, renewed_state, new_begins, keeping, kept_sessions}
+use Rattle.lnfs_operations.proofs.Renewals.{renewal_leaves}
 use Rattle.lnfs_operations.proofs.Retries.{begun, by_sequence, created_from, by_created, chosen_false}
 use Rattle.lnfs_operations.proofs.SessionLaws.{session_at-id, session_under-at}
 
 -- ---- what SEQUENCE comes to
 
-abbrev IsAs : Place → Outcome (Answered Sequenced) → Came → Type 0
-IsAs p o came.New = (x : Session) × (o ≡ done (in_session p x) (New x) [])
-IsAs p o (came.Again reply) = o ≡ done p (Again reply) []
-IsAs p o came.Refused = (gate : Gate) × (status : ℕ) × (o ≡ refuse p gate status)
+abbrev IsAs : Place → World → Outcome (Answered Sequenced) → Came → Type 0
+IsAs p w o came.New = (x : Session) × (o ≡ begun_in p w x)
+IsAs p w o (came.Again reply) = o ≡ done p (Again reply) []
+IsAs p w o came.Refused = (gate : Gate) × (status : ℕ) × (o ≡ refuse p gate status)
 
-test_as : (p : Place) (t : Bool) (gate : Gate) (status : ℕ) (o : Outcome (Answered Sequenced)) (k : Came) → IsAs p o k → IsAs p (demand t (refuse p gate status) o) (cond t k came.Refused)
-test_as p true gate status o k is = is
-test_as p false gate status o k is = (gate, status, refl)
+test_as : (p : Place) (w : World) (t : Bool) (gate : Gate) (status : ℕ) (o : Outcome (Answered Sequenced)) (k : Came) → IsAs p w o k → IsAs p w (demand t (refuse p gate status) o) (cond t k came.Refused)
+test_as p w true gate status o k is = is
+test_as p w false gate status o k is = (gate, status, refl)
 
-found_as : {A : Type 0} (p : Place) (a : Option A) (f : A → Outcome (Answered Sequenced)) (g : A → Came) (gate : Gate) (status : ℕ) → ((x : A) → IsAs p (f x) (g x)) → IsAs p (where_there a f (refuse p gate status)) (where_found a g)
-found_as p None f g gate status is = (gate, status, refl)
-found_as p (Some x) f g gate status is = is x
+found_as : {A : Type 0} (p : Place) (w : World) (a : Option A) (f : A → Outcome (Answered Sequenced)) (g : A → Came) (gate : Gate) (status : ℕ) → ((x : A) → IsAs p w (f x) (g x)) → IsAs p w (where_there a f (refuse p gate status)) (where_found a g)
+found_as p w None f g gate status is = (gate, status, refl)
+found_as p w (Some x) f g gate status is = is x
 
-order_as : (p : Place) (x : Session) (last next : ℕ) (kept : Option Stored) (n : ℕ) (arguments : List ℕ) →
-    IsAs p (in_order p last next kept n arguments (λ reply. done p (Again reply) []) (done (in_session p x) (New x) [])) (came_by last next kept n arguments)
-order_as p x last next kept n arguments = at (cond (n == last) kept None)
+order_as : (p : Place) (w : World) (x : Session) (last next : ℕ) (kept : Option Stored) (n : ℕ) (arguments : List ℕ) →
+    IsAs p w (in_order p last next kept n arguments (λ reply. done p (Again reply) []) (begun_in p w x)) (came_by last next kept n arguments)
+order_as p w x last next kept n arguments = at (cond (n == last) kept None)
   where
-    at : (o : Option Stored) → IsAs p (where_there o (λ k. demand (bytes_eq k.arguments arguments) (refuse p gates.Session NFS4ERR_SEQ_FALSE_RETRY) (done p (Again k.reply) [])) (demand (n == next) (refuse p gates.Session NFS4ERR_SEQ_MISORDERED) (done (in_session p x) (New x) [])))
-        (retried arguments o (cond (n == next) came.New came.Refused))
-    at None = test_as p (n == next) gates.Session NFS4ERR_SEQ_MISORDERED (done (in_session p x) (New x) []) came.New (x, refl)
-    at (Some k) = test_as p (bytes_eq k.arguments arguments) gates.Session NFS4ERR_SEQ_FALSE_RETRY (done p (Again k.reply) []) (came.Again k.reply) refl
+    at : (o : Option Stored) → IsAs p w (where_there o (λ k. demand (bytes_eq k.arguments arguments) (refuse p gates.Session NFS4ERR_SEQ_FALSE_RETRY) (done p (Again k.reply) [])) (demand (n == next) (refuse p gates.Session NFS4ERR_SEQ_MISORDERED) (begun_in p w x)))
+        (came_again arguments o (cond (n == next) came.New came.Refused))
+    at None = test_as p w (n == next) gates.Session NFS4ERR_SEQ_MISORDERED (begun_in p w x) came.New (x, refl)
+    at (Some k) = test_as p w (bytes_eq k.arguments arguments) gates.Session NFS4ERR_SEQ_FALSE_RETRY (done p (Again k.reply) []) (came.Again k.reply) refl
 
-sequence_as : (level : ℕ) (moment : Moment) (w : World) (args : Sequence) (sent : Sent) → IsAs (begins_at level moment) (sequence args sent (begins_at level moment) w) (came_on_slot level w args sent)
+sequence_as : (level : ℕ) (moment : Moment) (w : World) (args : Sequence) (sent : Sent) → IsAs (begins_at level moment) w (sequence args sent (begins_at level moment) w) (came_on_slot level w args sent)
 sequence_as level moment w args sent =
     let p = begins_at level moment in
-    test_as p ((session_named args.session).level == level) (gates.Monitor M9) NFS4ERR_BADSESSION _ _
-    (found_as p (session_under args.session w.sessions) (under_session args sent p) (came_in_session args sent) gates.Session NFS4ERR_BADSESSION (λ x.
-    test_as p (nat_le sent.size x.channel.max_request) gates.Session NFS4ERR_REQ_TOO_BIG _ _
-    (test_as p (nat_le sent.count x.channel.max_operations) gates.Session NFS4ERR_TOO_MANY_OPS _ _
-    (found_as p (slice_get x.slots args.slot) (on_slot args sent p x) (came_to_slot args.sequence sent.arguments) gates.Session NFS4ERR_BADSLOT (λ slot.
-    order_as p x slot.sequence (next_sequence slot.sequence) slot.kept args.sequence sent.arguments)))))
+    test_as p w ((session_named args.session).level == level) (gates.Monitor M9) NFS4ERR_BADSESSION _ _
+    (found_as p w (session_under args.session w.sessions) (under_session args sent p w) (came_in_session args sent) gates.Session NFS4ERR_BADSESSION (λ x.
+    test_as p w (nat_le sent.size x.channel.max_request) gates.Session NFS4ERR_REQ_TOO_BIG _ _
+    (test_as p w (nat_le sent.count x.channel.max_operations) gates.Session NFS4ERR_TOO_MANY_OPS _ _
+    (found_as p w (slice_get x.slots args.slot) (on_slot args sent p w x) (came_to_slot args.sequence sent.arguments) gates.Session NFS4ERR_BADSLOT (λ slot.
+    order_as p w x slot.sequence (next_sequence slot.sequence) slot.kept args.sequence sent.arguments)))))
 
 -- ---- what a new request names
 
@@ -87,7 +88,7 @@ new_by last next kept n arguments e = at (cond (n == last) kept None) e
     never true reply e = absurd cc
     never false reply e = absurd cc
 
-    at : (o : Option Stored) → retried arguments o (cond (n == next) came.New came.Refused) ≡ came.New → (n == next) ≡ true
+    at : (o : Option Stored) → came_again arguments o (cond (n == next) came.New came.Refused) ≡ came.New → (n == next) ≡ true
     at None e = (new_if (n == next) came.New e).0
     at (Some k) e = never (bytes_eq k.arguments arguments) k.reply e
 
@@ -140,8 +141,8 @@ module _ (X : Extra) (site : Site) (sent : Sent) (c : Compound) (level : ℕ) (m
   unfolding served
   ran_as o e = ap (kept_after sent c) (by_sequence X site sent c level moment b args rest minor is ∙ ap (begun X site sent c args rest b) e)
 
-  came_as : (k : Came) → came_on_slot level b.world args sent ≡ k → IsAs p (sequence args sent p b.world) k
-  came_as k e = subst (IsAs p (sequence args sent p b.world)) e (sequence_as level moment b.world args sent)
+  came_as : (k : Came) → came_on_slot level b.world args sent ≡ k → IsAs p b.world (sequence args sent p b.world) k
+  came_as k e = subst (IsAs p b.world (sequence args sent p b.world)) e (sequence_as level moment b.world args sent)
 
   pub slot_again : (reply : List ℕ) → came_on_slot level b.world args sent ≡ came.Again reply →
       served X site sent c p b ≡ record { answer = record { result = reply; denial = None }; place = p; state = b }
@@ -161,16 +162,18 @@ module _ (X : Extra) (site : Site) (sent : Sent) (c : Compound) (level : ℕ) (m
     unfolding begun
     new_sessions x slot names few next =
         let started = new_begins X owed site lattice sent c level moment b args x slot stands names few next in
-        let r = begun X site sent c args rest b (done (in_session p x) (New x) []) in
-        let first = ran_as (done (in_session p x) (New x) []) started.0 in
-        let behind = behind_stays X owed site lattice sent c rest _ [] (in_session p x) b started.1 in
-        let subject = behind_subject X owed site lattice sent c rest _ [] (in_session p x) b started.1 in
+        let v = renewed_state X owed site lattice sent c p b x in
+        let r = begun X site sent c args rest b (begun_in p b.world x) in
+        let first = ran_as (begun_in p b.world x) started.0 in
+        let behind = behind_stays X owed site lattice sent c rest _ [] (in_session p x) v started.1 in
+        let stay = behind.0 ∙ (renewal_leaves p b.world x).sessions in
+        let subject = behind_subject X owed site lattice sent c rest _ [] (in_session p x) v started.1 in
         let id : x.id ≡ session_named args.session = session_at-id (session_named args.session) b.world.sessions x (session_under-at args.session b.world.sessions x names.session) in
         let own : x.id.level ≡ level = ap (λ (i : Id). i.level) id ∙ names.own in
         let there : session_at b.world.sessions x.id ≡ Some x = ap (session_at b.world.sessions) id ∙ session_under-at args.session b.world.sessions x names.session in
         let kept : Stored = record { arguments = sent.arguments; reply = (kept_after sent c r).answer.result } in
-        let after = kept_sessions r.place r.state.world level x args.slot args.sequence kept behind.1 subject own (ap (λ xs. session_at xs x.id) behind.0 ∙ there)
-        ∙ ap (inserted session_order (keeping x args.slot args.sequence kept)) behind.0 in
+        let after = kept_sessions r.place r.state.world level x args.slot args.sequence kept behind.1 subject own (ap (λ xs. session_at xs x.id) stay ∙ there)
+        ∙ ap (inserted session_order (keeping x args.slot args.sequence kept)) stay in
         subst (λ (t : Turn Answer (Both X.Row)). t.state.world.sessions ≡ inserted session_order (keeping x args.slot args.sequence (record { arguments = sent.arguments; reply = t.answer.result })) b.world.sessions) (sym first) after
 
     pub slot_new : came_on_slot level b.world args sent ≡ came.New →
@@ -178,8 +181,8 @@ module _ (X : Extra) (site : Site) (sent : Sent) (c : Compound) (level : ℕ) (m
     slot_new e = let on = new_on level b.world args sent e in record {
       session = on.session;
       slot = on.slot;
-      named = on.names.session;
-      there = on.names.slot;
+      session_is = on.names.session;
+      slot_is = on.names.slot;
       next = on.next;
       sessions = new_sessions on.session on.slot on.names on.few on.next;
     }
@@ -216,7 +219,7 @@ order_made p last next kept n arguments new apart = at (n == last) refl kept
     told false reply not = (gates.Session, NFS4ERR_SEQ_FALSE_RETRY, refl, not)
 
     at : (t : Bool) → (n == last) ≡ t → (o : Option Stored) → IsMade p (where_there (cond t o None) (λ k. demand (bytes_eq k.arguments arguments) (refuse p gates.Session NFS4ERR_SEQ_FALSE_RETRY) (done p (MadeBefore k.reply) [])) (demand (n == next) (refuse p gates.Session NFS4ERR_SEQ_MISORDERED) new)) (n == next)
-        (retried arguments (cond t o None) (cond (n == next) came.New came.Refused))
+        (came_again arguments (cond t o None) (cond (n == next) came.New came.Refused))
     at true is None = other (n == next)
     at true is (Some k) = told (bytes_eq k.arguments arguments) k.reply (apart is)
     at false is o = other (n == next)
@@ -267,9 +270,9 @@ module _ (X : Extra) (site : Site) (sent : Sent) (c : Compound) (level : ℕ) (m
       record {
         before = to.client;
         after = record left.row { sequence = next_sequence left.row.sequence; kept = Some (record { arguments = sent.arguments; reply = (served X site sent c at_first b).answer.result }) };
-        was = to.found;
-        is = left.there;
-        brought = to.next;
-        moved = ap next_sequence left.sequence;
-        kept = refl;
+        before_is = to.found;
+        after_is = left.there;
+        next = to.next;
+        sequence = ap next_sequence left.sequence;
+        keeps = refl;
       }

@@ -19,6 +19,7 @@ use Rattle.lnfs_arguments.specs.declared.types.Op.TheVariants as ops
 use Rattle.lnfs_world.specs.World.{Id, Inner, Stored, Node, Entry, Open, World, same_id, node_at, node_order}
 use Rattle.lnfs_world.specs.Change.{Change, Touch, Relabel, Make, Unlink, Drop, Move, EndOpen, apply, apply_all}
 use Rattle.lnfs_world.specs.Effects.{names_changed, name_added, attributes_changed, next_entry, written, data_changed, taken_out, directories_changed}
+use Rattle.lnfs_world.specs.Opens.{ended}
 use Rattle.lnfs_world.specs.Tree.{has_other_name}
 use Rattle.lnfs_world.specs.Outcome.{Site, Place, Outcome, done_to}
 use Rattle.lnfs_world.proofs.Rows.{all_find, all_left}
@@ -37,13 +38,14 @@ use Rattle.lnfs_operations.specs.Link.{link}
 use Rattle.lnfs_operations.specs.Remove.{remove}
 use Rattle.lnfs_operations.specs.Rename.{Mover, rename}
 use Rattle.lnfs_operations.specs.SetAttr.{size_set, mode_set, set_attr}
-use Rattle.lnfs_operations.specs.Open.{Arguments as OpenArguments, Wanted, new_open, joined, new_file, cut, opened_with, open_file}
+use Rattle.lnfs_operations.specs.Open.{Arguments as OpenArguments, Wanted, passed_over, new_open, joined, new_file, cut, opened_with, open_file}
 use Rattle.lnfs_operations.specs.Close.{close}
 use Rattle.lnfs_operations.specs.Write.{Arguments as WriteArguments, write}
 use Rattle.lnfs_operations.specs.Sequence.{Sent}
 use Rattle.lnfs_operations.specs.Served.{row}
-use Rattle.lnfs_operations.specs.Sizes.{NodeFits, SpellsShortly}
-use Rattle.lnfs_world.proofs.ChangedNames.{applied_joined, Beside}
+use Rattle.lnfs_operations.specs.Sizes.{NodeFits, LabelsFit}
+use Rattle.lnfs_world.proofs.ChangedNames.{applied_joined, Beside, beside_both}
+use Rattle.lnfs_world.proofs.Leases.{ended_beside, ended_nodes}
 use Rattle.lnfs_operations.proofs.GivenLaws.{IsGiven}
 use Rattle.lnfs_operations.proofs.CreateLaws.{create_any}
 use Rattle.lnfs_operations.proofs.Namings.{renamed, link_any, remove_any, rename_any}
@@ -61,7 +63,7 @@ module _ (site : Site) (w : World) where
   -- clients and sessions are left, and the sizes of nodes are kept
   pub record Changed (v : World) : Type 0 where
     pub beside : Beside w v
-    pub sizes : SpellsShortly site → AllByRecursion NodeFits w.nodes → AllByRecursion NodeFits v.nodes
+    pub sizes : LabelsFit site → AllByRecursion NodeFits w.nodes → AllByRecursion NodeFits v.nodes
 
   -- and the kinds of nodes
   record Stepped (v : World) : Type 0 where
@@ -75,7 +77,7 @@ module _ (site : Site) (w : World) where
 
   -- what a node gets is of a size that it may have
   abbrev Gives : Node → Inner → Type 0
-  Gives n inner = SpellsShortly site → NodeFits n → NodeFits (record n { inner = inner })
+  Gives n inner = LabelsFit site → NodeFits n → NodeFits (record n { inner = inner })
 
   found_in : (v : World) (n : Node) → Stepped v → node_at w.nodes n.id ≡ Some n → (m : Node) × (node_at v.nodes n.id ≡ Some m) × (is_link m.kind ≡ is_link n.kind)
   found_in v n before there = at (node_at v.nodes n.id) refl
@@ -103,7 +105,7 @@ module _ (site : Site) (w : World) where
     };
   }
 
-  make_changes : (v : World) (n : Node) (e : Entry) → (SpellsShortly site → AllByRecursion NodeFits w.nodes → NodeFits n) → Changed v → Changed (apply (Make n e) v)
+  make_changes : (v : World) (n : Node) (e : Entry) → (LabelsFit site → AllByRecursion NodeFits w.nodes → NodeFits n) → Changed v → Changed (apply (Make n e) v)
   make_changes v n e new before = record {
     beside = record { clients = before.beside.clients; sessions = before.beside.sessions };
     sizes = λ spells fits. all_inserted node_order NodeFits n v.nodes (new spells fits) (before.sizes spells fits);
@@ -160,13 +162,13 @@ pub record Changes {A : Type 0} (site : Site) (p : Place) (w : World) (o : Outco
   pub changed : Changed site w (done_to w o)
 
 -- a label that was given, and one that is kept: given, or that of a directory
-given_short : (site : Site) (spells : SpellsShortly site) (value : Option LabelValue) (label : GivenLabel) → site.limited ≡ true → IsGiven site value (Some label) → length label.spelled.bytes ≤ LABEL_LIMIT
+given_short : (site : Site) (spells : LabelsFit site) (value : Option LabelValue) (label : GivenLabel) → site.limited ≡ true → IsGiven site value (Some label) → length label.spelled.bytes ≤ LABEL_LIMIT
 given_short site spells None label limited as_given = absurd (grind (arith, as_given))
 given_short site spells (Some v) label limited as_given =
     let same : spelled_by v ≡ label.spelled = let is = as_given.2 in cc in
     subst (λ (spelled : Stored). length spelled.bytes ≤ LABEL_LIMIT) same (spells.taken limited (spelled_by v) as_given.0 as_given.1)
 
-kept_short : (site : Site) (spells : SpellsShortly site) (p : Place) (d : Node) (value : Option LabelValue) (label : Option GivenLabel) → NodeFits d → IsGiven site value label → IfSome (kept_label site p d label) (λ stored. length stored.bytes ≤ LABEL_LIMIT)
+kept_short : (site : Site) (spells : LabelsFit site) (p : Place) (d : Node) (value : Option LabelValue) (label : Option GivenLabel) → NodeFits d → IsGiven site value label → IfSome (kept_label site p d label) (λ stored. length stored.bytes ≤ LABEL_LIMIT)
 kept_short site spells p d value label fits as_given = at site.limited refl
   where
     of : (label : Option GivenLabel) → site.limited ≡ true → IsGiven site value label → length (spelled_or (label_shown site p d) label).bytes ≤ LABEL_LIMIT
@@ -280,12 +282,17 @@ module _ (site : Site) (p : Place) (w : World) where
       either true n content file = record { session = refl; changed = (data_steps n content file false).changed }
       either false n content file = record { session = refl; changed = (data_steps n content file true).changed }
 
-  -- a file that is there, and then a change of opens
-  opened_changes : (wanted : Wanted) (info : Cinfo) (n : Node) (o : Open) (c : Change) → IsFile w n → ((v : World) → (apply c v).nodes ≡ v.nodes) → ((v : World) → Beside v (apply c v)) → Changes site p w (opened_with p wanted n info o c)
-  opened_changes wanted info n o c file nodes beside =
+  -- a file that is there, then a change of opens, and then the end of some
+  opened_changes : (wanted : Wanted) (info : Cinfo) (n : Node) (o : Open) (c : Change) (ends : List Open) → IsFile w n → ((v : World) → (apply c v).nodes ≡ v.nodes) → ((v : World) → Beside v (apply c v)) → Changes site p w (opened_with p wanted n info o (c ∷ ended ends))
+  opened_changes wanted info n o c ends file nodes beside =
       let v : World = apply_all (cut p wanted n) w in
+      let u : World = apply c v in
       let before = data_steps n [] file wanted.sized in
-      record { session = refl; changed = subst (Changed site w) (sym (applied_joined (cut p wanted n) (c ∷ []) w)) (names_change site w v (apply c v) (nodes v) (beside v) before.changed) }
+      let left = beside_both v u (apply_all (ended ends) u) (beside v) (ended_beside ends u) in
+      record {
+        session = refl;
+        changed = subst (Changed site w) (sym (applied_joined (cut p wanted n) (c ∷ ended ends) w)) (names_change site w v (apply_all (ended ends) u) (ended_nodes ends u ∙ nodes v) left before.changed);
+      }
 
   open_changes : (args : OpenArguments) → Changes site p w (open_file site args p w)
   open_changes args = open_any (Changes site p w) site args p w (record {
@@ -298,8 +305,8 @@ module _ (site : Site) (p : Place) (w : World) where
         (λ spells fits. record { stored = kept_short site spells p d may.as_given.values.label wanted.label (node_fits_in site w w d.id d fits may.found) may.as_given.given; text = λ link. absurd cc })
         first.changed in
         record { session = refl; changed = names_change site w (apply (Make n (next_entry d name n.id)) v) _ refl (record { clients = refl; sessions = refl }) then };
-    joins = λ client wanted info n o may found. opened_changes wanted info n (joined args o) _ may.file (λ v. refl) (λ v. record { clients = refl; sessions = refl });
-    adds = λ client wanted info n may none left. opened_changes wanted info n (new_open args p w client n.id) _ may.file (λ v. refl) (λ v. record { clients = refl; sessions = refl });
+    joins = λ client wanted info n o may found. opened_changes wanted info n (joined args o) _ (passed_over args p w client n) may.file (λ v. refl) (λ v. record { clients = refl; sessions = refl });
+    adds = λ client wanted info n may none left. opened_changes wanted info n (new_open args p w client n.id) _ (passed_over args p w client n) may.file (λ v. refl) (λ v. record { clients = refl; sessions = refl });
   })
 
   -- with another answer

@@ -26,10 +26,11 @@ use Rattle.lnfs_operations.specs.declared.numbers.TheConstants.{MOST_TEXT}
 use Rattle.lnfs_operations.specs.Chain.{Answer, refuse, demand, where_there}
 use Rattle.lnfs_operations.specs.Names.{where_named}
 use Rattle.lnfs_operations.specs.Given.{is_mode, GivenLabel, level_or, set_of}
+use Rattle.lnfs_operations.specs.Bounds.{is_well_formed}
 use Rattle.lnfs_operations.specs.Create.{Made, is_text, has_room, new_node, made, create}
 use Rattle.lnfs_operations.proofs.Chains.{demand_alike, demand_any, standing_view, unchanged_footprint}
 use Rattle.lnfs_operations.proofs.CurrentLaws.{with_current-seen}
-use Rattle.lnfs_operations.proofs.Ends.{current_any, allowed_any, named_any, new_any}
+use Rattle.lnfs_operations.proofs.Ends.{at_current_any, allowed_any, well_named_any, new_any}
 use Rattle.lnfs_operations.proofs.GivenLaws.{values_alike, label_alike, AreRead, IsGiven, values_any, mode_any, label_any}
 
 -- ---- what is looked at
@@ -67,7 +68,10 @@ module _ (site : Site) (lattice : IsPreorderWithBottom site.dom) where
 -- ---- what is answered
 
 -- the directory of a new node, and what its tests told
-pub record MayMake (site : Site) (what : What) (name : List ℕ) (p : Place) (w : World) (label : Option GivenLabel) (d : Node) : Type 0 where
+pub record MayMake (site : Site) (what : What) (name : List ℕ) (p : Place) (w : World) (mode : Option ℕ) (label : Option GivenLabel) (d : Node) : Type 0 where
+  pub current : p.current ≡ Some d.id
+  pub named : is_well_formed name ≡ true
+  pub mode_fits : is_mode mode ≡ true
   pub found : node_at w.nodes d.id ≡ Some d
   pub text : is_text what (λ text. nat_le (length text) MOST_TEXT) ≡ true
   pub directory : is_directory d.kind ≡ true
@@ -78,22 +82,22 @@ pub record MayMake (site : Site) (what : What) (name : List ℕ) (p : Place) (w 
 
 -- what holds of each end of CREATE holds of its outcome
 pub create_any : (P : Outcome (Answer Made) → Type 0) (site : Site) (what : What) (name : List ℕ) (given : RawAttrs) (p : Place) (w : World) → ((gate : Gate) (status : ℕ) → P (refuse p gate status)) →
-    ((values : AttrSet) (label : Option GivenLabel) (d : Node) → AreRead given values → IsGiven site values.label label → MayMake site what name p w label d → P (made p d name (set_of given) (new_node site p w what values.mode label d))) → P (create site what name given p w)
+    ((values : AttrSet) (label : Option GivenLabel) (d : Node) → AreRead given values → IsGiven site values.label label → MayMake site what name p w values.mode label d → P (made p d name (set_of given) (new_node site p w what values.mode label d))) → P (create site what name given p w)
 create_any P site what name given p w refused told =
-    named_any P p refused name _ (
+    well_named_any P p refused name _ (λ named.
     values_any P p refused given _ (λ values read.
     demand_any P (not (is_some values.size)) _ _ (refused _ _) (λ none.
     mode_any P p refused values.mode _ (λ mode.
     label_any P p refused site values.label _ (λ label as_given.
     demand_any P (is_text what (λ text. not (is_empty text))) _ _ (refused _ _) (λ some.
     demand_any P (is_text what (λ text. nat_le (length text) MOST_TEXT)) _ _ (refused _ _) (λ short.
-    current_any P p refused w _ (λ i d found.
+    at_current_any P p refused w _ (λ i d is found.
     demand_any P (is_directory d.kind) _ _ (refused _ _) (λ directory.
     allowed_any P p refused site (ChangeNames d.label) _ (λ own.
     allowed_any P p refused site (Child d.label (level_or d.label label)) _ (λ rises.
     new_any P p refused w d name _ (λ new.
     demand_any P (has_room site w d) _ _ (refused _ _) (λ room.
-    told values label d read as_given (record { found = ap (node_at w.nodes) (node_at-id i w.nodes d found) ∙ found; text = short; directory = directory; own = own; rises = rises; new = new; room = room }))))))))))))))
+    told values label d read as_given (record { named = named; mode_fits = mode; current = is ∙ ap Some (sym (node_at-id i w.nodes d found)); found = ap (node_at w.nodes) (node_at-id i w.nodes d found) ∙ found; text = short; directory = directory; own = own; rises = rises; new = new; room = room }))))))))))))))
 
 -- ---- what is changed
 

@@ -25,7 +25,7 @@ use Rattle.lnfs_operations.specs.ExchangeId.{dropped}
 use Rattle.lnfs_operations.specs.Identifiers.{client_named}
 use Rattle.lnfs_operations.specs.InOrder.{sequence_before}
 use Rattle.lnfs_operations.specs.Keeping.{next_sequence, kept_of}
-use Rattle.lnfs_operations.specs.CreateSession.{Created, Again, granted_of, new_session, is_large_enough, is_replaced, sessions_of, made, created, create_session, is_next_of}
+use Rattle.lnfs_operations.specs.CreateSession.{Created, Again, granted_of, new_session, is_large_enough, is_replaced, confirmed as now_confirmed, sessions_of, made, created, create_session, is_next_of}
 use Rattle.lnfs_operations.specs.Sequence.{Sent}
 use Rattle.lnfs_operations.specs.Extra.{Extra}
 use Rattle.lnfs_operations.specs.Admission.{or_else, unless}
@@ -107,9 +107,9 @@ module _ (X : Extra) (site : Site) (sent : Sent) (c : Compound) (args : CreateSe
   refused_keeps : (status : ℕ) → Keeps (refuse p gates.Session status)
   refused_keeps status = record { row = client; sequence = refl; there = kept_row b.world client _ id_is found }
 
-  confirmed : (o : Option Client) (session : _) → client_at (apply_all (dropped o ++ SetClient (record client { confirmed = true }) ∷ AddSession session ∷ []) b.world).clients i ≡ Some (record client { confirmed = true })
-  confirmed None session = row_set (record client { confirmed = true }) b.world.clients id_is
-  confirmed (Some d) session = row_set (record client { confirmed = true }) _ id_is
+  confirmed : (o : Option Client) (session : _) → client_at (apply_all (dropped o ++ SetClient (now_confirmed p client) ∷ AddSession session ∷ []) b.world).clients i ≡ Some (now_confirmed p client)
+  confirmed None session = row_set (now_confirmed p client) b.world.clients id_is
+  confirmed (Some d) session = row_set (now_confirmed p client) _ id_is
 
   made_keeps : Keeps (made args p b.world client)
   made_keeps =
@@ -117,9 +117,9 @@ module _ (X : Extra) (site : Site) (sent : Sent) (c : Compound) (args : CreateSe
       demand_any Keeps (nat_lt (sessions_of level b.world.sessions) SESSIONS_OF_A_LEVEL) _ _ (refused_keeps NFS4ERR_NOSPC) (λ few.
       demand_any Keeps (nat_lt (last_of level b.world.lasts.sessions) LAST_NUMBER) _ _ (refused_keeps NFS4ERR_NOSPC) (λ left.
       record {
-        row = record client { confirmed = true };
+        row = now_confirmed p client;
         sequence = refl;
-        there = kept_row (apply_all (dropped (find (is_replaced client) b.world.clients) ++ SetClient (record client { confirmed = true }) ∷ AddSession (new_session (record { level = level; number = last_of level b.world.lasts.sessions + 1 }) client (granted_of args.fore)) ∷ []) b.world) (record client { confirmed = true }) _ id_is (confirmed (find (is_replaced client) b.world.clients) _);
+        there = kept_row (apply_all (dropped (find (is_replaced client) b.world.clients) ++ SetClient (now_confirmed p client) ∷ AddSession (new_session (record { level = level; number = last_of level b.world.lasts.sessions + 1 }) client (granted_of args.fore)) ∷ []) b.world) (now_confirmed p client) _ id_is (confirmed (find (is_replaced client) b.world.clients) _);
       })))
 
   pub created_kept : c.minor ≡ 2 → c.count ≡ 1 → c.ops ≡ ops.CreateSession args ∷ [] → IsKept (served X site sent c p b)

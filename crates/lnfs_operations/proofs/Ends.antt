@@ -1,5 +1,5 @@
 -- What holds of each end of an operation holds of its outcome: a refusal, or what stands behind its tests.
-use Rattle.std.proofs.Common.{◌≡◌, ℕ, Bool, true, false, not, List, length, Option, Some, None, refl, arith}
+use Rattle.std.proofs.Common.{◌≡◌, ℕ, Bool, true, false, not, ◌&&◌, List, length, Option, Some, None, refl, arith}
 use Rattle.std.specs.Prelude.{nat_le}
 use Rattle.std.specs.Str.{is_utf8}
 use Rattle.lnfs_words.specs.Words.{is_empty}
@@ -16,6 +16,7 @@ use Rattle.lnfs_operations.specs.Judged.{where_allowed, where_asked}
 use Rattle.lnfs_operations.specs.Handles.{with_node, with_current}
 use Rattle.lnfs_operations.specs.Names.{has_bad_byte, is_dots, where_named}
 use Rattle.lnfs_operations.specs.NewNames.{where_new}
+use Rattle.lnfs_operations.specs.Bounds.{is_well_formed}
 use Rattle.lnfs_operations.proofs.Chains.{demand_any, where_any}
 
 module _ {R : Type 0} (P : Outcome (Answer R) → Type 0) (p : Place) (refused : (gate : Gate) (status : ℕ) → P (refuse p gate status)) where
@@ -28,6 +29,12 @@ module _ {R : Type 0} (P : Outcome (Answer R) → Type 0) (p : Place) (refused :
   pub current_any : (w : World) (found : Node → Outcome (Answer R)) → ((i : Id) (n : Node) → node_at w.nodes i ≡ Some n → P (found n)) → P (with_current p w found)
   current_any w found there = node_any w p.current found there
 
+  -- with what the current file handle is
+  pub at_current_any : (w : World) (found : Node → Outcome (Answer R)) → ((i : Id) (n : Node) → p.current ≡ Some i → node_at w.nodes i ≡ Some n → P (found n)) → P (with_current p w found)
+  at_current_any w found there =
+      where_any P p.current _ _ (λ i is.
+      where_any P (node_at w.nodes i) found _ (λ n at. there i n is at) (refused Namespace NFS4ERR_STALE)) (refused Namespace NFS4ERR_NOFILEHANDLE)
+
   -- behind a question to the rules
   pub allowed_any : (site : Site) (asks : Asks) (next : Outcome (Answer R)) → (allows site.dom p.subject asks ≡ true → P next) → P (where_allowed site p asks next)
   allowed_any site asks next is = demand_any P (allows site.dom p.subject asks) _ next (refused _ _) is
@@ -37,14 +44,17 @@ module _ {R : Type 0} (P : Outcome (Answer R) → Type 0) (p : Place) (refused :
   asked_any true site asks next is = allowed_any site asks next (λ allowed. is (λ up. allowed))
   asked_any false site asks next is = is (λ up. absurd (grind arith))
 
-  -- behind the tests of a name
-  pub named_any : (name : List ℕ) (next : Outcome (Answer R)) → P next → P (where_named p name next)
-  named_any name next is =
+  -- behind the tests of a name, which is well formed then
+  pub well_named_any : (name : List ℕ) (next : Outcome (Answer R)) → (is_well_formed name ≡ true → P next) → P (where_named p name next)
+  well_named_any name next is =
       demand_any P (not (is_empty name)) _ _ (refused _ _) (λ some.
       demand_any P (nat_le (length name) LONGEST_NAME) _ _ (refused _ _) (λ short.
       demand_any P (is_utf8 name) _ _ (refused _ _) (λ text.
       demand_any P (not (has_bad_byte name)) _ _ (refused _ _) (λ good.
-      demand_any P (not (is_dots name)) _ _ (refused _ _) (λ other. is)))))
+      demand_any P (not (is_dots name)) _ _ (refused _ _) (λ other. is (λ k. some k && (short k && (text k && (good k && other k)))))))))
+
+  pub named_any : (name : List ℕ) (next : Outcome (Answer R)) → P next → P (where_named p name next)
+  named_any name next is = well_named_any name next (λ named. is)
 
   -- behind the test that a name isn't in a directory
   pub new_any : (w : World) (d : Node) (name : List ℕ) (next : Outcome (Answer R)) → (entry_at w.entries d.id name ≡ None → P next) → P (where_new p w d name next)

@@ -114,19 +114,23 @@ place_made dom args p w (Some c) facts is found =
     place_stays dom p.subject (apply (DropClient c.id) w) (apply (AddClient row) (apply (DropClient c.id) w)) (λ number. stay p.subject number) (λ client number there held. held) p.client p.session p.current p.saved after
 
 -- the end that makes a new record
-abbrev made_of : Arguments → Place → World → Outcome (Answer Told)
+abbrev pub made_of : Arguments → Place → World → Outcome (Answer Told)
 made_of args p w =
     let number = last_of p.subject w.lasts.clients + 1 in
     done p (record { number = number; sequence = 1; confirmed = false }) (dropped (find (is_pending p.subject args.owner) w.clients) ++ AddClient (new_client (record { level = p.subject; number = number }) args) ∷ [])
 
--- what holds of each end holds of the outcome
-pub exchange_id_any : (P : Outcome (Answer Told) → Type 0) (args : Arguments) (p : Place) (w : World) → ((gate : Gate) (status : ℕ) → P (refuse p gate status)) → ((t : Told) → P (done p t [])) → P (made_of args p w) → P (exchange_id args p w)
-exchange_id_any P args p w refused told is =
+-- what holds of each end holds of the outcome: of the last, where the level has room for one more record
+pub exchange_id_ends : (P : Outcome (Answer Told) → Type 0) (args : Arguments) (p : Place) (w : World) → ((gate : Gate) (status : ℕ) → P (refuse p gate status)) → ((t : Told) → P (done p t [])) →
+    (nat_lt (others_of p.subject args.owner w.clients) CLIENTS_OF_A_LEVEL ≡ true → nat_lt (last_of p.subject w.lasts.clients) LAST_NUMBER ≡ true → P (made_of args p w)) → P (exchange_id args p w)
+exchange_id_ends P args p w refused told is =
     demand_any P (not (has_flag args.flags EXCHGID4_FLAG_CONFIRMED_R)) _ _ (refused gates.Session NFS4ERR_INVAL) (λ asked.
     demand_any P (not (has_flag args.flags EXCHGID4_FLAG_UPD_CONFIRMED_REC_A)) _ _ (refused gates.Session NFS4ERR_INVAL) (λ new.
     where_any P (find (is_confirmed_as p.subject args.owner args.verifier) w.clients) _ _ (λ c there. told (record { number = c.id.number; sequence = c.sequence; confirmed = c.confirmed }))
     (demand_any P (nat_lt (others_of p.subject args.owner w.clients) CLIENTS_OF_A_LEVEL) _ _ (refused gates.Session NFS4ERR_NOSPC) (λ few.
-    demand_any P (nat_lt (last_of p.subject w.lasts.clients) LAST_NUMBER) _ _ (refused gates.Session NFS4ERR_NOSPC) (λ left. is)))))
+    demand_any P (nat_lt (last_of p.subject w.lasts.clients) LAST_NUMBER) _ _ (refused gates.Session NFS4ERR_NOSPC) (λ left. is few left)))))
+
+pub exchange_id_any : (P : Outcome (Answer Told) → Type 0) (args : Arguments) (p : Place) (w : World) → ((gate : Gate) (status : ℕ) → P (refuse p gate status)) → ((t : Told) → P (done p t [])) → P (made_of args p w) → P (exchange_id args p w)
+exchange_id_any P args p w refused told is = exchange_id_ends P args p w refused told (λ few left. is)
 
 pub exchange_id_footprint : (dom : ℕ → ℕ → Bool) (args : Arguments) (p : Place) (w : World) → Stands dom p w → IsFootprint dom p w (exchange_id args p w)
 exchange_id_footprint dom args p w stands =

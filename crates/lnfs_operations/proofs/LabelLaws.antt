@@ -51,11 +51,11 @@ module _ (X : Extra) (owed : AreLawful X) (site : Site) (lattice : IsPreorderWit
       (untouched_raised site.dom lattice b.world _ tame.untouched tame.tame) (table_raised (ops.Extra number arguments) p b stands)
   row_in_raised op p b stands = table_raised op p b stands
 
-  operation_raised : (so_far : List OpResult) (op : Op) (p : Place) (b : Both X.Row) → BothStand X.Fact site.dom p b → Rise b (operation X site sent c so_far op p b).state
+  pub operation_raised : (so_far : List OpResult) (op : Op) (p : Place) (b : Both X.Row) → BothStand X.Fact site.dom p b → Rise b (operation X site sent c so_far op p b).state
   operation_raised so_far op p b stands =
       admitted_any (λ q (v : Both X.Row). Rise b v) op (admission X.grammar c so_far op p b.world) p b (row_in X site sent op p b) (raised_itself site.dom lattice b.world) (row_in_raised op p b stands)
 
-  behind_raised : (os : List Op) (so_far : List OpResult) (p : Place) (b : Both X.Row) → BothStand X.Fact site.dom p b → Rise b (run_behind (operation X site sent c) so_far os p b).state
+  pub behind_raised : (os : List Op) (so_far : List OpResult) (p : Place) (b : Both X.Row) → BothStand X.Fact site.dom p b → Rise b (run_behind (operation X site sent c) so_far os p b).state
   unfolding run_behind
   behind_raised [] so_far p b stands = raised_itself site.dom lattice b.world
   behind_raised (op ∷ os) so_far p b stands =
@@ -64,7 +64,7 @@ module _ (X : Extra) (owed : AreLawful X) (site : Site) (lattice : IsPreorderWit
       followed_any site.dom (both_seen X.level_of site.dom) (BothStand X.Fact site.dom) (λ q (v : Both X.Row). Rise b v) so_far op t.place t.state t.answer (λ results. run_behind (operation X site sent c) results os t.place t.state) now
       (λ last. raised_through site.dom lattice b.world t.state.world _ stands.world.facts now (behind_raised os (so_far ++ last ∷ []) t.place t.state ((operation_lawful X owed site lattice sent c so_far op).stands p b stands)))
 
-  run_raised : (p : Place) (b : Both X.Row) → BothStand X.Fact site.dom p b → Rise b (run_all (operation X site sent c) c p b).state
+  pub run_raised : (p : Place) (b : Both X.Row) → BothStand X.Fact site.dom p b → Rise b (run_all (operation X site sent c) c p b).state
   unfolding run_all
   run_raised p b stands = at (c.minor == 2)
     where

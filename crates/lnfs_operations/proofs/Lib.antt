@@ -6,6 +6,7 @@ pub mod Owners
 pub mod ExchangeIdLaws
 pub mod KeepingLaws
 pub mod SessionLaws
+pub mod Renewals
 pub mod CreateSessionLaws
 pub mod CurrentLaws
 pub mod HandleLaws
@@ -47,4 +48,18 @@ pub mod Bounded
 pub mod SizeLaws
 pub mod AcceptedLaws
 pub mod CameLaws
+pub mod OtherSessions
 pub mod LabelLaws
+pub mod Unruled
+pub mod UnruledRows
+pub mod LowRows
+pub mod StoredLabels
+pub mod CarriedRows
+pub mod SetLabels
+pub mod CarriedLaws
+pub mod CountLaws
+pub mod BoundChanges
+pub mod NodeBounds
+pub mod BoundRows
+pub mod BoundLaws
+pub mod LastLaws

@@ -46,7 +46,7 @@ module _ (site : Site) (lattice : IsPreorderWithBottom site.dom) where
   link_view name = standing_view site.dom (link site name) (link_seen name)
 
 -- the changes of LINK are those that its subject may make
-module _ (dom : ℕ → ℕ → Bool) (p : Place) (w : World) (stands : Stands dom p w) (name : List ℕ) (n d : Node) (is : IsOwnDirectory p w d) (links : Links p w n d) (free : entry_at w.entries d.id name ≡ None) where
+module _ (dom : ℕ → ℕ → Bool) (p : Place) (w : World) (stands : Stands dom p w) (name : List ℕ) (n d : Node) (is : IsOwnDirectory p w d) (links : Links p w name n d) (free : entry_at w.entries d.id name ≡ None) where
   linked_footprint : IsFootprint dom p w (linked p name n d)
   linked_footprint = record {
     within =

@@ -18,11 +18,12 @@ use Rattle.lnfs_operations.specs.declared.Gate.TheVariants.{Namespace}
 use Rattle.lnfs_operations.specs.Chain.{Answer, refuse, done, demand}
 use Rattle.lnfs_operations.specs.Judged.{where_allowed}
 use Rattle.lnfs_operations.specs.NewNames.{where_old, changed, unchanged}
+use Rattle.lnfs_operations.specs.Bounds.{is_well_formed}
 use Rattle.lnfs_operations.specs.Link.{link}
 use Rattle.lnfs_operations.specs.Remove.{remove}
 use Rattle.lnfs_operations.specs.Rename.{Renamed, Mover, moved, moved_onto, rename}
 use Rattle.lnfs_operations.proofs.Chains.{demand_any, where_any}
-use Rattle.lnfs_operations.proofs.Ends.{node_any, current_any, allowed_any, named_any, new_any}
+use Rattle.lnfs_operations.proofs.Ends.{node_any, current_any, allowed_any, named_any, well_named_any, new_any}
 
 -- ---- what was tested
 
@@ -38,7 +39,8 @@ pub record IsNamed (w : World) (d : Node) (name : List ℕ) (e : Entry) (n : Nod
   pub there : node_at w.nodes e.node ≡ Some n
 
 -- a node that takes a further name
-pub record Links (p : Place) (w : World) (n d : Node) : Type 0 where
+pub record Links (p : Place) (w : World) (name : List ℕ) (n d : Node) : Type 0 where
+  pub named : is_well_formed name ≡ true
   pub there : node_at w.nodes n.id ≡ Some n
   pub other : is_directory n.kind ≡ false
   pub own : p.subject == n.label ≡ true
@@ -51,7 +53,8 @@ pub record Leaves (p : Place) (w : World) (n : Node) : Type 0 where
   pub empty : holds_names w.entries n.id ≡ false
 
 -- a name that may move
-pub record Moves (site : Site) (p : Place) (w : World) (m : Mover) : Type 0 where
+pub record Moves (site : Site) (p : Place) (w : World) (new : List ℕ) (m : Mover) : Type 0 where
+  pub named : is_well_formed new ≡ true
   pub clear : goes_under site.dom p.subject w m.node.id m.to.id ≡ false
   pub left : has_cookie m.to ≡ true
 
@@ -92,9 +95,10 @@ by_id w i n found = ap (node_at w.nodes) (node_at-id i w.nodes n found) ∙ foun
 
 module _ (site : Site) (p : Place) (w : World) where
   pub link_any : (P : Outcome (Answer Cinfo) → Type 0) (name : List ℕ) → ((gate : Gate) (status : ℕ) → P (refuse p gate status)) →
-      ((n d : Node) → IsOwnDirectory p w d → Links p w n d → entry_at w.entries d.id name ≡ None → P (linked p name n d)) → P (link site name p w)
+      ((n d : Node) → IsOwnDirectory p w d → Links p w name n d → entry_at w.entries d.id name ≡ None → P (linked p name n d)) → P (link site name p w)
   link_any P name refused told =
-      named_any P p refused name _ (node_any P p refused w p.saved _ (λ i n n_there.
+      well_named_any P p refused name _ (λ named.
+      node_any P p refused w p.saved _ (λ i n n_there.
       current_any P p refused w _ (λ j d d_there.
       demand_any P (not (is_directory n.kind)) _ _ (refused _ _) (λ other.
       demand_any P (is_directory d.kind) _ _ (refused _ _) (λ directory.
@@ -105,7 +109,7 @@ module _ (site : Site) (p : Place) (w : World) where
       demand_any P (has_cookie d) _ _ (refused _ _) (λ left.
       told n d
       (record { there = by_id w j d d_there; directory = directory; own = own })
-      (record { there = by_id w i n n_there; other = not-true _ other; own = own_node; few = few; left = left })
+      (record { named = named; there = by_id w i n n_there; other = not-true _ other; own = own_node; few = few; left = left })
       free))))))))))
 
   pub remove_any : (P : Outcome (Answer Cinfo) → Type 0) (name : List ℕ) → ((gate : Gate) (status : ℕ) → P (refuse p gate status)) →
@@ -123,19 +127,19 @@ module _ (site : Site) (p : Place) (w : World) where
   pub record RenameEnds (P : Outcome (Answer Renamed) → Type 0) (old new : List ℕ) : Type 0 where
     pub refused : (gate : Gate) (status : ℕ) → P (refuse p gate status)
     pub stays : (m : Mover) → P (stayed p m)
-    pub free : (m : Mover) → IsOwnDirectory p w m.from → IsOwnDirectory p w m.to → IsNamed w m.from old m.entry m.node → Moves site p w m → entry_at w.entries m.to.id new ≡ None → P (renamed p new m [])
-    pub onto : (m : Mover) (e : Entry) (n : Node) → IsOwnDirectory p w m.from → IsOwnDirectory p w m.to → IsNamed w m.from old m.entry m.node → Moves site p w m → IsNamed w m.to new e n → GivesWay p w m e n → P (renamed p new m (taken_out p.moment w.entries e n))
+    pub free : (m : Mover) → IsOwnDirectory p w m.from → IsOwnDirectory p w m.to → IsNamed w m.from old m.entry m.node → Moves site p w new m → entry_at w.entries m.to.id new ≡ None → P (renamed p new m [])
+    pub onto : (m : Mover) (e : Entry) (n : Node) → IsOwnDirectory p w m.from → IsOwnDirectory p w m.to → IsNamed w m.from old m.entry m.node → Moves site p w new m → IsNamed w m.to new e n → GivesWay p w m e n → P (renamed p new m (taken_out p.moment w.entries e n))
 
   module _ (P : Outcome (Answer Renamed) → Type 0) (old new : List ℕ) (ends : RenameEnds P old new) where
-    moved_any : (m : Mover) (room : List Change) → (Moves site p w m → P (renamed p new m room)) → P (moved site new p w m room)
-    moved_any m room told =
+    moved_any : is_well_formed new ≡ true → (m : Mover) (room : List Change) → (Moves site p w new m → P (renamed p new m room)) → P (moved site new p w m room)
+    moved_any well m room told =
         demand_any P (not (goes_under site.dom p.subject w m.node.id m.to.id)) _ _ (ends.refused _ _) (λ clear.
         demand_any P (has_cookie m.to) _ _ (ends.refused _ _) (λ left.
-        told (record { clear = not-true _ clear; left = left })))
+        told (record { named = well; clear = not-true _ clear; left = left })))
 
-    moved_onto_any : (m : Mover) → IsOwnDirectory p w m.from → IsOwnDirectory p w m.to → IsNamed w m.from old m.entry m.node → (o : Option Entry) → entry_at w.entries m.to.id new ≡ o → P (moved_onto site new p w m o)
-    moved_onto_any m from to named None is = moved_any m [] (λ moves. ends.free m from to named moves is)
-    moved_onto_any m from to named (Some other) is = at (same_id m.node.id other.node) refl
+    moved_onto_any : is_well_formed new ≡ true → (m : Mover) → IsOwnDirectory p w m.from → IsOwnDirectory p w m.to → IsNamed w m.from old m.entry m.node → (o : Option Entry) → entry_at w.entries m.to.id new ≡ o → P (moved_onto site new p w m o)
+    moved_onto_any well m from to named None is = moved_any well m [] (λ moves. ends.free m from to named moves is)
+    moved_onto_any well m from to named (Some other) is = at (same_id m.node.id other.node) refl
       where
         at : (b : Bool) → same_id m.node.id other.node ≡ b →
             P (cond b (stayed p m) (where_old p w m.to new (λ e n.
@@ -148,12 +152,12 @@ module _ (site : Site) (p : Place) (w : World) where
             allowed_any P p ends.refused site (Drop n.label) _ (λ own.
             demand_any P (may_give_way w.entries m.node n) _ _ (ends.refused _ _) (λ gives.
             let same : other ≡ e = grind (arith, is, there.named) in
-            moved_any m (taken_out p.moment w.entries e n) (λ moves.
+            moved_any well m (taken_out p.moment w.entries e n) (λ moves.
             ends.onto m e n from to named moves there (record { differs = ap (λ (x : Entry). same_id m.node.id x.node) (sym same) ∙ differs; own = own; gives = gives })))))
 
     pub rename_any : P (rename site old new p w)
     rename_any =
-        named_any P p ends.refused old _ (named_any P p ends.refused new _ (
+        named_any P p ends.refused old _ (well_named_any P p ends.refused new _ (λ well.
         node_any P p ends.refused w p.saved _ (λ i from from_there.
         current_any P p ends.refused w _ (λ j to to_there.
         demand_any P (is_directory from.kind) _ _ (ends.refused _ _) (λ directory_from.
@@ -161,7 +165,7 @@ module _ (site : Site) (p : Place) (w : World) where
         allowed_any P p ends.refused site (ChangeNames from.label) _ (λ own_from.
         allowed_any P p ends.refused site (ChangeNames to.label) _ (λ own_to.
         old_any P p w ends.refused from old _ (λ e n named.
-        moved_onto_any (record { entry = e; node = n; from = from; to = to })
+        moved_onto_any well (record { entry = e; node = n; from = from; to = to })
         (record { there = by_id w i from from_there; directory = directory_from; own = own_from })
         (record { there = by_id w j to to_there; directory = directory_to; own = own_to })
         named (entry_at w.entries to.id new) refl)))))))))

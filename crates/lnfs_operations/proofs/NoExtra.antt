@@ -18,7 +18,7 @@ no_extra_is_lawful = record {
   tame = λ site lattice number arguments p a stands. record {
     untouched = record { clients = refl; sessions = refl; contexts = refl; last_clients = refl; last_sessions = refl; last_contexts = refl; labels = λ i l m here there. cc; new = λ i m none there. absurd cc };
     tame = tame_itself a.world;
-    sizes = λ fit. fit;
+    bounds = λ labels level bounds. bounds;
     moved = record { current = inl refl; saved = inl refl };
     refused = ((λ e. omega (arith, e)), refl, refl);
     bound = omega arith;

@@ -21,7 +21,7 @@ use Rattle.lnfs_operations.specs.declared.Gate.TheVariants as gates
 use Rattle.lnfs_operations.specs.Chain.{Answer as Answered, Refusal, refuse, done, demand, where_there}
 use Rattle.lnfs_operations.specs.Identifiers.{session_named, session_under}
 use Rattle.lnfs_operations.specs.Keeping.{next_sequence, with_slot, kept_in, kept_under, keep_result}
-use Rattle.lnfs_operations.specs.Sequence.{Sent, Sequenced, New, in_session, sequence}
+use Rattle.lnfs_operations.specs.Sequence.{Sent, Sequenced, in_session, begun_in, sequence}
 use Rattle.lnfs_operations.specs.ReclaimComplete.{client_under, reclaimed, reclaim_complete}
 use Rattle.lnfs_operations.specs.Extra.{Extra, AreLawful, further_deed}
 use Rattle.lnfs_operations.specs.Admission.{admission}
@@ -30,6 +30,7 @@ use Rattle.lnfs_operations.specs.SlotRule.{run_behind, kept_after, served}
 use Rattle.lnfs_operations.specs.Retries.{Names}
 use Rattle.lnfs_operations.proofs.KeepingLaws.{session_at-inserted}
 use Rattle.lnfs_operations.proofs.SessionLaws.{session_at-id, session_under-at}
+use Rattle.lnfs_operations.proofs.Renewals.{renewed_in, renewal_leaves}
 use Rattle.lnfs_operations.proofs.ServedLaws.{operation_lawful}
 use Rattle.lnfs_operations.proofs.SlotRules.{followed_any, behind_stands}
 use Rattle.lnfs_operations.proofs.ReadingRows.{is_reading, row_reads, reads_stay}
@@ -179,16 +180,21 @@ named_again level w v args sent again x slot kept names size sessions =
 -- ---- acts once
 
 module _ (X : Extra) (owed : AreLawful X) (site : Site) (lattice : IsPreorderWithBottom site.dom) (sent : Sent) (c : Compound) where
+  -- the state behind a SEQUENCE that begins a new request in a session
+  abbrev pub renewed_state : Place → Both X.Row → Session → Both X.Row
+  renewed_state p b x = both (renewed_in p b.world x) b.own
+
   -- a new COMPOUND on the slot that it names: its operations stand in the session
   pub new_begins : (level : ℕ) (moment : Moment) (b : Both X.Row) (args : Sequence) (x : Session) (slot : SlotRow) → BothStand X.Fact site.dom (begins_at level moment) b → Names level b.world args sent x slot → sent.count ≤ x.channel.max_operations → args.sequence ≡ next_sequence slot.sequence →
-      (sequence args sent (begins_at level moment) b.world ≡ done (in_session (begins_at level moment) x) (New x) []) × BothStand X.Fact site.dom (in_session (begins_at level moment) x) b
+      (sequence args sent (begins_at level moment) b.world ≡ begun_in (begins_at level moment) b.world x) × BothStand X.Fact site.dom (in_session (begins_at level moment) x) (renewed_state (begins_at level moment) b x)
   new_begins level moment b args x slot stands names few next =
       let p = begins_at level moment in
       let law = operation_lawful X owed site lattice sent c [] (ops.Sequence args) in
-      let done_new : sequence args sent p b.world ≡ done (in_session p x) (New x) [] = on_named level moment b.world args sent x slot names few ∙ slot_new p args sent x slot next in
+      let v = renewed_state p b x in
+      let done_new : sequence args sent p b.world ≡ begun_in p b.world x = on_named level moment b.world args sent x slot names few ∙ slot_new p b.world args sent x slot next in
       let turned : (operation X site sent c [] (ops.Sequence args) p b).place ≡ in_session p x = ap (λ (o : Outcome (Answered Sequenced)). o.place) done_new in
-      let stayed : (operation X site sent c [] (ops.Sequence args) p b).state ≡ b = ap (λ (o : Outcome (Answered Sequenced)). both (done_to b.world o) b.own) done_new in
-      (done_new, subst (λ q. BothStand X.Fact site.dom q b) turned (subst (BothStand X.Fact site.dom (operation X site sent c [] (ops.Sequence args) p b).place) stayed (law.stands p b stands)))
+      let renews : (operation X site sent c [] (ops.Sequence args) p b).state ≡ v = ap (λ (o : Outcome (Answered Sequenced)). both (done_to b.world o) b.own) done_new in
+      (done_new, subst (λ q. BothStand X.Fact site.dom q v) turned (subst (BothStand X.Fact site.dom (operation X site sent c [] (ops.Sequence args) p b).place) renews (law.stands p b stands)))
 
   pub acts_once : (level : ℕ) (moment later : Moment) (b : Both X.Row) (args : Sequence) (rest : List Op) (x : Session) (slot : SlotRow) (again : Sent) → BothStand X.Fact site.dom (begins_at level moment) b → c.minor ≡ 2 → c.ops ≡ ops.Sequence args ∷ rest →
       Names level b.world args sent x slot → sent.count ≤ x.channel.max_operations → args.sequence ≡ next_sequence slot.sequence → again.arguments ≡ sent.arguments → again.size ≤ x.channel.max_request → again.count ≤ x.channel.max_operations →
@@ -200,18 +206,21 @@ module _ (X : Extra) (owed : AreLawful X) (site : Site) (lattice : IsPreorderWit
       let started = new_begins level moment b args x slot stands names few next in
       let done_new = started.0 in
       let inside = started.1 in
-      let o : Outcome (Answered Sequenced) = done (in_session p x) (New x) [] in
+      let o : Outcome (Answered Sequenced) = begun_in p b.world x in
+      let v = renewed_state p b x in
+      let left = (renewal_leaves p b.world x).sessions in
       let r = begun X site sent c args rest b o in
       let ran = by_sequence X site sent c level moment b args rest minor is ∙ ap (begun X site sent c args rest b) done_new in
       let first = ap (kept_after sent c) ran in
-      let behind = behind_stays X owed site lattice sent c rest _ [] (in_session p x) b inside in
-      let subject = behind_subject X owed site lattice sent c rest _ [] (in_session p x) b inside in
+      let behind = behind_stays X owed site lattice sent c rest _ [] (in_session p x) v inside in
+      let sessions_stay = behind.0 ∙ left in
+      let subject = behind_subject X owed site lattice sent c rest _ [] (in_session p x) v inside in
       let id : x.id ≡ session_named args.session = session_at-id (session_named args.session) b.world.sessions x (session_under-at args.session b.world.sessions x names.session) in
       let own : x.id.level ≡ level = ap (λ (i : Id). i.level) id ∙ names.own in
       let there : session_at b.world.sessions x.id ≡ Some x = ap (session_at b.world.sessions) id ∙ session_under-at args.session b.world.sessions x names.session in
       let kept : Stored = record { arguments = sent.arguments; reply = (kept_after sent c r).answer.result } in
-      let sessions = kept_sessions r.place r.state.world level x args.slot args.sequence kept behind.1 subject own (ap (λ xs. session_at xs x.id) behind.0 ∙ there)
-      ∙ ap (inserted session_order (keeping x args.slot args.sequence kept)) behind.0 in
+      let sessions = kept_sessions r.place r.state.world level x args.slot args.sequence kept behind.1 subject own (ap (λ xs. session_at xs x.id) sessions_stay ∙ there)
+      ∙ ap (inserted session_order (keeping x args.slot args.sequence kept)) sessions_stay in
       let named = named_again level b.world (kept_after sent c r).state.world args sent again x slot kept names size sessions in
       let slot_now : record { sequence = args.sequence; kept = Some kept } ≡ record { sequence = args.sequence; kept = Some (record { arguments = again.arguments; reply = (kept_after sent c r).answer.result }) } = (λ i. record { sequence = args.sequence; kept = Some (record { arguments = sym same i; reply = (kept_after sent c r).answer.result }) }) in
       let retry = answered_again X site again c level later (kept_after sent c r).state args rest (keeping x args.slot args.sequence kept) (record { sequence = args.sequence; kept = Some kept }) (kept_after sent c r).answer.result minor is named count slot_now in

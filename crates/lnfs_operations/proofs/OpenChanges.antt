@@ -1,7 +1,7 @@
 -- What OPEN changes: the changes are those that its subject may make.
 use Rattle.std.proofs.Common.{◌≡◌, ℕ, Bool, true, false, not, cond, ◌&&◌, List, [], ◌∷◌, ◌++◌, Some, None, refl, sym, ap, ◌∙◌, arith}
 use Rattle.std.specs.Prelude.{◌==◌, is_some}
-use Rattle.std.specs.List.{list_any}
+use Rattle.std.specs.List.{AllByRecursion, list_any}
 use Rattle.std.specs.Str.{bytes_eq}
 use Rattle.std.proofs.lemmas.Bool.Decides.{nat_tests}
 use Rattle.lnfs_calipso.specs.Label.{IsPreorderWithBottom}
@@ -11,7 +11,9 @@ use Rattle.lnfs_world.specs.World.{Id, Node, Open, World, same_id, label_at}
 use Rattle.lnfs_world.specs.Facts.{has_confirmed, same_opening, is_good_open}
 use Rattle.lnfs_world.specs.Change.{Change, Touch, Make, SetOpen, AddOpen, apply, apply_all}
 use Rattle.lnfs_world.specs.Effects.{name_added, next_entry, next_id, data_changed}
-use Rattle.lnfs_world.specs.Within.{is_new, is_same_open, is_within}
+use Rattle.lnfs_world.specs.Leases.{over_at}
+use Rattle.lnfs_world.specs.Opens.{ended}
+use Rattle.lnfs_world.specs.Within.{is_new, is_same_open, is_within, all_within}
 use Rattle.lnfs_world.specs.Outcome.{Site, Place, Stands, IsFootprint, Footprint, is_place, may_hold}
 use Rattle.lnfs_world.proofs.Alone.{alone}
 use Rattle.lnfs_world.proofs.Determined.{new_absent}
@@ -22,10 +24,11 @@ use Rattle.lnfs_world.proofs.Nodes.{label_at-made, label_at-touched}
 use Rattle.lnfs_world.proofs.Rows.{all_anyway, all_find, all_none, all_weaker, any_found}
 use Rattle.lnfs_world.proofs.Seen.{label_of-found, sees_node, entry_at-home}
 use Rattle.lnfs_operations.specs.Chain.{done}
-use Rattle.lnfs_operations.specs.Open.{Arguments, Opened, Wanted, new_open, own_open, joined, new_file, made, opened_with, open_file}
+use Rattle.lnfs_operations.specs.Open.{Arguments, Opened, access_of, opener, passed_over, Wanted, new_open, own_open, joined, new_file, made, opened_with, open_file}
 use Rattle.lnfs_operations.proofs.Chains.{unchanged_footprint}
 use Rattle.lnfs_operations.proofs.CurrentLaws.{current_held}
-use Rattle.lnfs_world.proofs.ChangedNames.{Beside, within_joined, place_left}
+use Rattle.lnfs_world.proofs.ChangedNames.{Beside, beside_both, within_joined, place_left}
+use Rattle.lnfs_world.proofs.Leases.{give_way_own, ended_within, ended_beside}
 use Rattle.lnfs_operations.proofs.FileLaws.{data_within}
 use Rattle.lnfs_operations.proofs.Openings.{MayMake, IsReached, Handed, Named, MayOpen, open_any}
 use Rattle.lnfs_operations.proofs.Owners.{none_found}
@@ -70,22 +73,32 @@ module _ (site : Site) (lattice : IsPreorderWithBottom site.dom) (args : Argumen
   -- ---- a file that is there
 
   -- A change of opens that may be made of the world, and of one in which the file was cut, is made of either.
-  module _ (answer : Opened) (n : Node) (c : Change) (home : site.dom p.subject n.id.level ≡ true) (beside : (v : World) → Beside v (apply c v)) where
+  -- Opens of the subject's level end behind it.
+  module _ (answer : Opened) (n : Node) (c : Change) (home : site.dom p.subject n.id.level ≡ true) (beside : (v : World) → Beside v (apply c v)) (ends : List Open) (own : AllByRecursion (λ o. (o.id.level == p.subject) ≡ true) ends) where
     abbrev cutting : Change
     cutting = Touch n.id (data_changed p.moment [] n.inner)
 
+    abbrev changes : List Change
+    changes = c ∷ ended ends
+
+    changes_within : (v : World) → is_within site.dom p.subject v c ≡ true → all_within site.dom p.subject v changes ≡ true
+    changes_within v within = let rest = ended_within site.dom p.subject ends (apply c v) own in λ k. within k && rest k
+
+    changes_beside : (v : World) → Beside v (apply_all changes v)
+    changes_beside v = beside_both v (apply c v) (apply_all changes v) (beside v) (ended_beside ends (apply c v))
+
     cut_footprint : (sized : Bool) → is_within site.dom p.subject w c ≡ true → (sized ≡ true → is_within site.dom p.subject w cutting ≡ true) → is_within site.dom p.subject (apply cutting w) c ≡ true →
-        IsFootprint site.dom p w (done (record p { current = Some n.id }) answer (cond sized (cutting ∷ []) [] ++ c ∷ []))
+        IsFootprint site.dom p w (done (record p { current = Some n.id }) answer (cond sized (cutting ∷ []) [] ++ changes))
     cut_footprint true whole touch then =
-        let left = beside (apply cutting w) in
+        let left = changes_beside (apply cutting w) in
         record {
-          within = (λ k. touch refl k && (then k && true));
-          place = place_left site.dom (record p { current = Some n.id }) w (apply c (apply cutting w)) (record { clients = left.clients; sessions = left.sessions }) (handle_place n.id home);
+          within = (let rest = changes_within (apply cutting w) then in λ k. touch refl k && rest k);
+          place = place_left site.dom (record p { current = Some n.id }) w (apply_all changes (apply cutting w)) (record { clients = left.clients; sessions = left.sessions }) (handle_place n.id home);
           subject = refl;
         }
     cut_footprint false whole touch then = record {
-      within = (λ k. whole k && true);
-      place = place_left site.dom (record p { current = Some n.id }) w (apply c w) (beside w) (handle_place n.id home);
+      within = changes_within w whole;
+      place = place_left site.dom (record p { current = Some n.id }) w (apply_all changes w) (changes_beside w) (handle_place n.id home);
       subject = refl;
     }
 
@@ -93,18 +106,22 @@ module _ (site : Site) (lattice : IsPreorderWithBottom site.dom) (args : Argumen
     touch_within : wanted.sized ≡ true → is_within site.dom p.subject w (Touch n.id (data_changed p.moment [] n.inner)) ≡ true
     touch_within sized = data_within site.dom p w n [] may.file.found (may.own sized)
 
-    joins_footprint : (o : Open) → own_open args p w client n.id ≡ Some o → IsFootprint site.dom p w (opened_with p wanted n info (joined args o) (SetOpen (joined args o)))
+    -- those that end
+    passed_own : AllByRecursion (λ o. (o.id.level == p.subject) ≡ true) (passed_over args p w client n)
+    passed_own = give_way_own p.subject (opener args p client) n.id (access_of args) args.deny (over_at w.clients p.moment) w.opens
+
+    joins_footprint : (o : Open) → own_open args p w client n.id ≡ Some o → IsFootprint site.dom p w (opened_with p wanted n info (joined args o) (SetOpen (joined args o) ∷ ended (passed_over args p w client n)))
     joins_footprint o found =
         let within = set_within n.id o found in
-        cut_footprint _ n (SetOpen (joined args o)) (reached_home n may.reached) (λ v. record { clients = refl; sessions = refl }) wanted.sized within touch_within within
+        cut_footprint _ n (SetOpen (joined args o)) (reached_home n may.reached) (λ v. record { clients = refl; sessions = refl }) (passed_over args p w client n) passed_own wanted.sized within touch_within within
 
-    adds_footprint : own_open args p w client n.id ≡ None → IsFootprint site.dom p w (opened_with p wanted n info (new_open args p w client n.id) (AddOpen (new_open args p w client n.id)))
+    adds_footprint : own_open args p w client n.id ≡ None → IsFootprint site.dom p w (opened_with p wanted n info (new_open args p w client n.id) (AddOpen (new_open args p w client n.id) ∷ ended (passed_over args p w client n)))
     adds_footprint none =
         let home = reached_home n may.reached in
         let label = label_of-found n.id w.nodes n may.file.found in
         let alone = none_found (same_opening (new_open args p w client n.id)) w.opens none in
         let inner = data_changed p.moment [] n.inner in
-        cut_footprint _ n (AddOpen (new_open args p w client n.id)) home (λ v. record { clients = refl; sessions = refl }) wanted.sized
+        cut_footprint _ n (AddOpen (new_open args p w client n.id)) home (λ v. record { clients = refl; sessions = refl }) (passed_over args p w client n) passed_own wanted.sized
         (add_within w n.id refl refl home (ap is_some label) alone) touch_within
         (add_within (apply (Touch n.id inner) w) n.id refl refl home (ap is_some (label_at-touched n.id inner n.id w.nodes ∙ label)) alone)
 

@@ -1,7 +1,6 @@
 -- What OPEN looks at, and what it changes: opens of the subject's level, with a file at its label that is made or cut.
 use Rattle.std.proofs.Common.{◌≡◌, ◌+◌, ℕ, Bool, true, false, not, ◌&&◌, ◌||◌, cond, List, [], ◌∷◌, ◌++◌, Option, Some, None, refl, ap, ◌∙◌, arith}
 use Rattle.std.specs.Prelude.{◌==◌, is_some, nat_le, nat_lt}
-use Rattle.std.proofs.lemmas.Bool.{and_parts}
 use Rattle.std.proofs.lemmas.Bool.Decides.{nat_tests}
 use Rattle.lnfs_attrs.specs.declared.numbers.TheConstants.{SIZE}
 use Rattle.lnfs_calipso.specs.Label.{IsPreorderWithBottom}
@@ -14,14 +13,14 @@ use Rattle.lnfs_arguments.specs.declared.statuses.TheConstants.{NFS4ERR_NOENT, N
 use Rattle.lnfs_monitor.specs.Rules.{Asks, allows}
 use Rattle.lnfs_monitor.specs.Rules as rules
 use Rattle.lnfs_world.specs.declared.numbers.TheConstants.{OPENS_OF_A_LEVEL, LAST_NUMBER}
-use Rattle.lnfs_world.specs.World.{Id, Node, Open, World, node_at, same_id, is_directory, last_of}
+use Rattle.lnfs_world.specs.World.{Id, Node, Open, World, node_at, is_directory, last_of}
 use Rattle.lnfs_world.specs.Names.{entry_at}
 use Rattle.lnfs_world.specs.Erased.{erased, shrunk}
 use Rattle.lnfs_world.specs.Facts.{same_opening}
 use Rattle.lnfs_world.specs.Change.{Change, Touch, Make, SetOpen, AddOpen}
 use Rattle.lnfs_world.specs.Effects.{name_added, next_entry, has_cookie, data_changed}
 use Rattle.lnfs_world.specs.Outcome.{Site, Place, Outcome, Stands, View}
-use Rattle.lnfs_world.proofs.Rows.{all_anyway, any-kept, count-kept}
+use Rattle.lnfs_world.proofs.Rows.{count-kept}
 use Rattle.lnfs_world.proofs.Seen.{shrunk_whole, node_at-seen, sees_node, entry_at-seen, entry_at-home}
 use Rattle.lnfs_world.proofs.Usage.{nodes_used-seen}
 use Rattle.lnfs_world.proofs.Views.{row_at-seen, last_of-seen}
@@ -31,9 +30,11 @@ use Rattle.lnfs_operations.specs.Chain.{Answer, refuse, done, demand, where_ther
 use Rattle.lnfs_operations.specs.NewNames.{changed, unchanged}
 use Rattle.lnfs_operations.specs.Shown.{bitmap_of}
 use Rattle.lnfs_operations.specs.Given.{is_mode, level_or}
-use Rattle.lnfs_world.specs.Opens.{has_any}
+use Rattle.lnfs_world.specs.Opens.{has_any, ended}
+use Rattle.lnfs_world.proofs.Leases.{give_way_seen}
+use Rattle.lnfs_world.proofs.Leases as leases
 use Rattle.lnfs_operations.specs.StateIds.{state_of}
-use Rattle.lnfs_operations.specs.Open.{Arguments, Opened, access_of, Wanted, attrs_of, nothing_wanted, is_no_size, where_wanted, gives_size, is_of_handle, where_claim, new_open, own_open, joined, conflicts, has_open_left, where_shared, new_file, open_absent, may_be_there, opened, open_present, no_change, open_claimed, open_file}
+use Rattle.lnfs_operations.specs.Open.{Arguments, Opened, access_of, opener, passed_over, Wanted, attrs_of, nothing_wanted, is_no_size, where_wanted, gives_size, is_of_handle, where_claim, new_open, own_open, joined, conflicts, has_open_left, where_shared, new_file, open_absent, may_be_there, opened, open_present, no_change, open_claimed, open_file}
 use Rattle.lnfs_operations.proofs.Chains.{demand_alike, asked_alike, demand_agrees, where_alike, standing_view}
 use Rattle.lnfs_operations.proofs.CurrentLaws.{shown_alike, with_current-seen}
 use Rattle.lnfs_operations.proofs.GivenLaws.{values_alike, label_alike}
@@ -76,7 +77,10 @@ module _ (site : Site) (lattice : IsPreorderWithBottom site.dom) (args : Argumen
       above o same = grind (arith, nat_tests, same, lattice.reflexive p.subject)
 
   conflicts_seen : (n : Node) → conflicts site args p seen_world client (seen_node n) ≡ conflicts site args p w client n
-  conflicts_seen n = any-kept _ _ _ _ w.opens (all_anyway _ (λ o. ((λ is. (and_parts _ _ (and_parts (same_id n.id o.node) _ is).1).0), (λ above. refl))) w.opens)
+  conflicts_seen n = leases.conflicts_seen site.dom p.subject w p.moment (Some (opener args p client)) n.id (access_of args) args.deny
+
+  passed_over-seen : (n : Node) → passed_over args p seen_world client (seen_node n) ≡ passed_over args p w client n
+  passed_over-seen n = give_way_seen site.dom p.subject w p.moment lattice (opener args p client) n.id (access_of args) args.deny
 
   -- what an exclusive create brought is outside of a node's label
   may_be_there-seen : (making : Option Making) (n : Node) → may_be_there making (seen_node n) ≡ may_be_there making n
@@ -95,14 +99,16 @@ module _ (site : Site) (lattice : IsPreorderWithBottom site.dom) (args : Argumen
   numbered node last = record (new_open args p w client node) { id = record { level = p.subject; number = last + 1 } }
 
   -- the last outcome, on what was cut
-  abbrev ended : Cinfo → Id → List Change → Open → Change → Outcome (Answer Opened)
-  ended info i before o change = done (record p { current = Some i }) (record { id = state_of o; info = info; set = bitmap_of (λ attr. wanted.sized && attr == SIZE) }) (before ++ change ∷ [])
+  abbrev finished : Cinfo → Id → List Change → Open → List Change → Outcome (Answer Opened)
+  finished info i before o changes = done (record p { current = Some i }) (record { id = state_of o; info = info; set = bitmap_of (λ attr. wanted.sized && attr == SIZE) }) (before ++ changes)
 
   opened_seen : (info : Cinfo) (n : Node) → (wanted.sized ≡ true → (p.subject == n.label) ≡ true) → (o : Option Open) → opened args p seen_world client wanted info (seen_node n) o ≡ opened args p w client wanted info n o
-  opened_seen info n own (Some o) = ap (λ before. ended info n.id before (joined args o) (SetOpen (joined args o))) (cut_seen wanted.sized n own)
+  opened_seen info n own (Some o) =
+      let before = cut_seen wanted.sized n own in
+      λ k. finished info n.id (before k) (joined args o) (SetOpen (joined args o) ∷ ended (passed_over-seen n k))
   opened_seen info n own None =
       let before = cut_seen wanted.sized n own in
-      λ k. demand (has_open_left-seen k) (refuse p gates.Quota NFS4ERR_NOSPC) (ended info n.id (before k) (numbered n.id (last_open_seen k)) (AddOpen (numbered n.id (last_open_seen k))))
+      λ k. demand (has_open_left-seen k) (refuse p gates.Quota NFS4ERR_NOSPC) (finished info n.id (before k) (numbered n.id (last_open_seen k)) (AddOpen (numbered n.id (last_open_seen k)) ∷ ended (passed_over-seen n k)))
 
   present_seen : (info : Cinfo) (n : Node) → open_present site args p seen_world client wanted info (seen_node n) ≡ open_present site args p w client wanted info n
   present_seen info n =

@@ -4,7 +4,7 @@ use Rattle.lnfs_world.specs.World.{Id, Node, World, node_at, is_directory}
 use Rattle.lnfs_world.specs.Names.{entry_at}
 use Rattle.lnfs_world.specs.Tree.{parent_of}
 use Rattle.lnfs_world.specs.Outcome.{Site, Place, Outcome}
-use Rattle.lnfs_monitor.specs.Rules.{Read, Home}
+use Rattle.lnfs_monitor.specs.Rules.{Read}
 use Rattle.lnfs_operations.specs.declared.Gate.{Gate}
 use Rattle.lnfs_operations.specs.Chain.{Answer, refuse, done}
 use Rattle.lnfs_operations.specs.Accessed.{accessed}
@@ -24,7 +24,7 @@ module _ (P : Outcome (Answer (Unit {0})) → Type 0) (site : Site) (p : Place) 
   pub put_fh_any : (handle : List ℕ) → P (put_fh site handle p w)
   put_fh_any handle =
       demand_any P (is_handle site handle) _ _ (refused _ _) (λ form.
-      allowed_any P p refused site (Home (handle_named handle).level) _ (λ named.
+      demand_any P (site.dom p.subject (handle_named handle).level) _ _ (refused _ _) (λ home.
       where_any P (node_at w.nodes (handle_named handle)) _ _ (λ n there. moved (record p { current = Some n.id }) refl) (refused _ _)))
 
   pub save_fh_any : P (save_fh p w)

@@ -81,7 +81,7 @@ pub rename_view : (site : Site) → IsPreorderWithBottom site.dom → (old new :
 rename_view site lattice old new = standing_view site.dom (rename site old new) (λ p w stands. rename_seen site lattice p w stands old new)
 
 -- the changes of RENAME are those that its subject may make
-module _ (site : Site) (lattice : IsPreorderWithBottom site.dom) (p : Place) (w : World) (stands : Stands site.dom p w) (old new : List ℕ) (m : Mover) (from : IsOwnDirectory p w m.from) (to : IsOwnDirectory p w m.to) (named : IsNamed w m.from old m.entry m.node) (moves : Moves site p w m) where
+module _ (site : Site) (lattice : IsPreorderWithBottom site.dom) (p : Place) (w : World) (stands : Stands site.dom p w) (old new : List ℕ) (m : Mover) (from : IsOwnDirectory p w m.from) (to : IsOwnDirectory p w m.to) (named : IsNamed w m.from old m.entry m.node) (moves : Moves site p w new m) where
   may : MayMove site.dom p.subject w m.from old m.to m.entry m.node
   may = record {
     from_there = from.there;

@@ -19,7 +19,7 @@ use Rattle.lnfs_operations.specs.Chain.{Answer as Answered, refuse, done, demand
 use Rattle.lnfs_operations.specs.Identifiers.{session_named}
 use Rattle.lnfs_operations.specs.Keeping.{next_sequence}
 use Rattle.lnfs_operations.specs.InOrder.{in_order}
-use Rattle.lnfs_operations.specs.Sequence.{Sent, Sequenced, New, Again, in_session, on_slot, under_session, sequence}
+use Rattle.lnfs_operations.specs.Sequence.{Sent, Sequenced, Again, begun_in, on_slot, under_session, sequence}
 use Rattle.lnfs_operations.specs.Extra.{Extra}
 use Rattle.lnfs_operations.specs.Served.{operation, reply_of, sequence_reply}
 use Rattle.lnfs_operations.specs.SlotRule.{Ran, followed, run_behind, run_all, kept_after, served}
@@ -52,15 +52,15 @@ equal_itself n = grind (arith, nat_tests)
 -- what SEQUENCE comes to on the slot that it names, by how many operations its COMPOUND counts
 counted : (level : ℕ) (moment : Moment) (w : World) (args : Sequence) (sent : Sent) (x : Session) (slot : SlotRow) → Names level w args sent x slot →
     sequence args sent (begins_at level moment) w
-    ≡ demand (nat_le sent.count x.channel.max_operations) (refuse (begins_at level moment) gates.Session NFS4ERR_TOO_MANY_OPS) (on_slot args sent (begins_at level moment) x slot)
+    ≡ demand (nat_le sent.count x.channel.max_operations) (refuse (begins_at level moment) gates.Session NFS4ERR_TOO_MANY_OPS) (on_slot args sent (begins_at level moment) w x slot)
 counted level moment w args sent x slot names =
     let p = begins_at level moment in
     chosen_true ((session_named args.session).level == level) _ (refuse p (gates.Monitor M9) NFS4ERR_BADSESSION) (grind (arith, nat_tests, names.own))
-    ∙ ap (λ o. where_there o (under_session args sent p) (refuse p gates.Session NFS4ERR_BADSESSION)) names.session
+    ∙ ap (λ o. where_there o (under_session args sent p w) (refuse p gates.Session NFS4ERR_BADSESSION)) names.session
     ∙ chosen_true (nat_le sent.size x.channel.max_request) _ (refuse p gates.Session NFS4ERR_REQ_TOO_BIG) (grind (arith, nat_tests, names.size))
-    ∙ ap (λ o. demand (nat_le sent.count x.channel.max_operations) (refuse p gates.Session NFS4ERR_TOO_MANY_OPS) (where_there o (on_slot args sent p x) (refuse p gates.Session NFS4ERR_BADSLOT))) names.slot
+    ∙ ap (λ o. demand (nat_le sent.count x.channel.max_operations) (refuse p gates.Session NFS4ERR_TOO_MANY_OPS) (where_there o (on_slot args sent p w x) (refuse p gates.Session NFS4ERR_BADSLOT))) names.slot
 
-pub on_named : (level : ℕ) (moment : Moment) (w : World) (args : Sequence) (sent : Sent) (x : Session) (slot : SlotRow) → Names level w args sent x slot → sent.count ≤ x.channel.max_operations → sequence args sent (begins_at level moment) w ≡ on_slot args sent (begins_at level moment) x slot
+pub on_named : (level : ℕ) (moment : Moment) (w : World) (args : Sequence) (sent : Sent) (x : Session) (slot : SlotRow) → Names level w args sent x slot → sent.count ≤ x.channel.max_operations → sequence args sent (begins_at level moment) w ≡ on_slot args sent (begins_at level moment) w x slot
 on_named level moment w args sent x slot names few =
     counted level moment w args sent x slot names
     ∙ chosen_true (nat_le sent.count x.channel.max_operations) _ (refuse (begins_at level moment) gates.Session NFS4ERR_TOO_MANY_OPS) (grind (arith, nat_tests, few))
@@ -68,7 +68,7 @@ on_named level moment w args sent x slot names few =
 on_many : (level : ℕ) (moment : Moment) (w : World) (args : Sequence) (sent : Sent) (x : Session) (slot : SlotRow) → Names level w args sent x slot → x.channel.max_operations < sent.count → sequence args sent (begins_at level moment) w ≡ refuse (begins_at level moment) gates.Session NFS4ERR_TOO_MANY_OPS
 on_many level moment w args sent x slot names many =
     counted level moment w args sent x slot names
-    ∙ chosen_false (nat_le sent.count x.channel.max_operations) (on_slot args sent (begins_at level moment) x slot) _ (grind (arith, nat_tests, many))
+    ∙ chosen_false (nat_le sent.count x.channel.max_operations) (on_slot args sent (begins_at level moment) w x slot) _ (grind (arith, nat_tests, many))
 
 in_order_again : {R : Type 0} (p : Place) (last next : ℕ) (k : Stored) (sequence : ℕ) (arguments : List ℕ) (again : List ℕ → Outcome (Answered R)) (new : Outcome (Answered R)) → (sequence == last) ≡ true → bytes_eq k.arguments arguments ≡ true → in_order p last next (Some k) sequence arguments again new ≡ again k.reply
 in_order_again {R} p last next k sequence arguments again new same bytes = at (sequence == last) same
@@ -84,25 +84,25 @@ in_order_new {R} p last next o sequence arguments again new apart is = at (seque
     at false e = chosen_true (sequence == next) new (refuse p gates.Session NFS4ERR_SEQ_MISORDERED) is
     at true e = absurd (grind arith)
 
-slot_again : (p : Place) (args : Sequence) (sent : Sent) (x : Session) (reply : List ℕ) (slot : SlotRow) → slot ≡ record { sequence = args.sequence; kept = Some (record { arguments = sent.arguments; reply = reply }) } → on_slot args sent p x slot ≡ done p (Again reply) []
-slot_again p args sent x reply slot is =
+slot_again : (p : Place) (w : World) (args : Sequence) (sent : Sent) (x : Session) (reply : List ℕ) (slot : SlotRow) → slot ≡ record { sequence = args.sequence; kept = Some (record { arguments = sent.arguments; reply = reply }) } → on_slot args sent p w x slot ≡ done p (Again reply) []
+slot_again p w args sent x reply slot is =
     let k : Stored = record { arguments = sent.arguments; reply = reply } in
-    ap (on_slot args sent p x) is
-    ∙ in_order_again p args.sequence (next_sequence args.sequence) k args.sequence sent.arguments (λ reply. done p (Again reply) []) (done (in_session p x) (New x) []) (equal_itself args.sequence) (bytes_itself sent.arguments)
+    ap (on_slot args sent p w x) is
+    ∙ in_order_again p args.sequence (next_sequence args.sequence) k args.sequence sent.arguments (λ reply. done p (Again reply) []) (begun_in p w x) (equal_itself args.sequence) (bytes_itself sent.arguments)
 
 next_apart : (n : ℕ) → (next_sequence n == n) ≡ false
 next_apart n = grind (arith, nat_tests)
 
-pub slot_new : (p : Place) (args : Sequence) (sent : Sent) (x : Session) (slot : SlotRow) → args.sequence ≡ next_sequence slot.sequence → on_slot args sent p x slot ≡ done (in_session p x) (New x) []
-slot_new p args sent x slot next =
-    in_order_new p slot.sequence (next_sequence slot.sequence) slot.kept args.sequence sent.arguments (λ reply. done p (Again reply) []) (done (in_session p x) (New x) [])
+pub slot_new : (p : Place) (w : World) (args : Sequence) (sent : Sent) (x : Session) (slot : SlotRow) → args.sequence ≡ next_sequence slot.sequence → on_slot args sent p w x slot ≡ begun_in p w x
+slot_new p w args sent x slot next =
+    in_order_new p slot.sequence (next_sequence slot.sequence) slot.kept args.sequence sent.arguments (λ reply. done p (Again reply) []) (begun_in p w x)
     (ap (λ n. n == slot.sequence) next ∙ next_apart slot.sequence) (ap (λ n. n == next_sequence slot.sequence) next ∙ equal_itself (next_sequence slot.sequence))
 
 -- ---- a retry
 
 module _ (X : Extra) (site : Site) (sent : Sent) (c : Compound) where
   -- a COMPOUND of this minor version
-  of_version : (p : Place) (b : Both X.Row) (os : List Op) → c.minor ≡ 2 → c.ops ≡ os → run_all (operation X site sent c) c p b ≡ run_behind (operation X site sent c) [] os p b
+  pub of_version : (p : Place) (b : Both X.Row) (os : List Op) → c.minor ≡ 2 → c.ops ≡ os → run_all (operation X site sent c) c p b ≡ run_behind (operation X site sent c) [] os p b
   unfolding run_all
   of_version p b os minor is =
       chosen_true (c.minor == 2) _ _ (ap (λ n. n == 2) minor)
@@ -123,7 +123,7 @@ module _ (X : Extra) (site : Site) (sent : Sent) (c : Compound) where
       served X site sent c (begins_at level moment) b ≡ record { answer = record { result = reply; denial = None }; place = begins_at level moment; state = b }
   unfolding served begun
   answered_again level moment b args rest x slot reply minor is names few same =
-      ap (kept_after sent c) (by_sequence level moment b args rest minor is ∙ ap (begun args rest b) (on_named level moment b.world args sent x slot names few ∙ slot_again (begins_at level moment) args sent x reply slot same))
+      ap (kept_after sent c) (by_sequence level moment b args rest minor is ∙ ap (begun args rest b) (on_named level moment b.world args sent x slot names few ∙ slot_again (begins_at level moment) b.world args sent x reply slot same))
 
   -- one that counts more operations than its session grants
   pub refused_again : (level : ℕ) (moment : Moment) (b : Both X.Row) (args : Sequence) (rest : List Op) (x : Session) (slot : SlotRow) → c.minor ≡ 2 → c.ops ≡ ops.Sequence args ∷ rest → Names level b.world args sent x slot → x.channel.max_operations < sent.count →

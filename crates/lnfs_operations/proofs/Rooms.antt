@@ -16,31 +16,34 @@ use Rattle.lnfs_results.specs.declared.types.OpResult.TheVariants as results
 use Rattle.lnfs_results.specs.Numbered.{status_of_all}
 use Rattle.lnfs_results.specs.Texts.{result_text}
 use Rattle.lnfs_world.specs.World.{Id, Slot as SlotRow, Session, session_at}
-use Rattle.lnfs_world.specs.Outcome.{Site, Place, begins_at}
+use Rattle.lnfs_world.specs.Outcome.{Site, Place, Outcome, begins_at, done_to}
 use Rattle.lnfs_world.specs.Lawful.{Turn, deed_of}
 use Rattle.lnfs_world.specs.Both.{Both, BothStand, on_world}
 use Rattle.lnfs_operations.specs.declared.Gate.TheVariants as gates
-use Rattle.lnfs_operations.specs.declared.numbers.TheConstants.{RESERVED_ROOM, LEAST_SIZE, LARGEST_WRAPPING}
-use Rattle.lnfs_operations.specs.Chain.{Refusal, done}
+use Rattle.lnfs_operations.specs.declared.numbers.TheConstants.{RESERVED_ROOM, LEAST_SIZE}
+use Rattle.lnfs_operations.specs.Chain.{Answer as Answered, Refusal}
 use Rattle.lnfs_operations.specs.Identifiers.{session_named, session_under}
 use Rattle.lnfs_operations.specs.Keeping.{next_sequence}
-use Rattle.lnfs_operations.specs.Sequence.{Sent, New, in_session}
+use Rattle.lnfs_operations.specs.Sequence.{Sent, Sequenced, in_session, begun_in}
 use Rattle.lnfs_operations.specs.Extra.{Extra, AreLawful, further_deed}
 use Rattle.lnfs_operations.specs.Results.{failed, status_said}
 use Rattle.lnfs_operations.specs.Admission.{used, fits, unless, session_behind, room_refusal}
 use Rattle.lnfs_operations.specs.Served.{Keeper, Nowhere, Slot, Record, Reply, Own, Kept, success, failure, reply_of, further_reply, row, row_in, admitted, where_admitted, operation}
 use Rattle.lnfs_operations.specs.SlotRule.{Answer, Ran, kept_by, own_reply, followed, run_behind, new_result, result_of, served}
 use Rattle.lnfs_operations.specs.Retries.{Names}
-use Rattle.lnfs_operations.specs.Sizes.{Sizes, SpellsShortly}
+use Rattle.lnfs_operations.specs.Sizes.{Sizes, FitsResponse, LabelsFit, is_level, IsOpRead}
+use Rattle.lnfs_operations.specs.Bounds.{Bounds}
+use Rattle.std.specs.List.{AllByRecursion}
 use Rattle.lnfs_operations.proofs.ServedLaws.{operation_lawful}
 use Rattle.lnfs_operations.proofs.SessionLaws.{session_at-id, session_under-at}
+use Rattle.lnfs_operations.proofs.Renewals.{renewal_leaves}
 use Rattle.lnfs_operations.proofs.Retries.{begun, by_sequence, refused_again}
 use Rattle.lnfs_operations.proofs.ReadingRows.{is_reading}
 use Rattle.lnfs_operations.proofs.ShortRows.{Short, ShortBy, row_short}
 use Rattle.lnfs_operations.proofs.ChangingRows.{is_changing}
 use Rattle.lnfs_operations.proofs.ShortChanges.{changing_short}
-use Rattle.lnfs_operations.proofs.SizeChanges.{operation_sizes}
-use Rattle.lnfs_operations.proofs.Once.{reclaim_any, operation_stays, new_begins, behind_stays, behind_subject}
+use Rattle.lnfs_operations.proofs.BoundLaws.{operation_bounds}
+use Rattle.lnfs_operations.proofs.Once.{reclaim_any, operation_stays, renewed_state, new_begins, behind_stays, behind_subject}
 use Rattle.lnfs_xdr.proofs.Sizes.{length-opaque}
 use Rattle.lnfs_operations.proofs.Lengths.{used_more, text_length, one_short, failed_short, said_short, reclaimed_short, sequence_short}
 use Rattle.std.specs.Str.{bytes_eq}
@@ -100,7 +103,7 @@ module _ (c : Compound) (most : ℕ) where
   followed_ends rs op p a (Own own keeper) f good rest = own_ends rs op p a own.result own.refusal keeper f good (rest own.result)
   followed_ends rs op p a (Kept reply) f good rest = absurd good
 
-  module _ (X : Extra) (owed : AreLawful X) (site : Site) (lattice : IsPreorderWithBottom site.dom) (spells : SpellsShortly site) (sent : Sent) (x : Session) (is : x.channel.max_response ≡ most) where
+  module _ (X : Extra) (owed : AreLawful X) (site : Site) (lattice : IsPreorderWithBottom site.dom) (labels : LabelsFit site) (sent : Sent) (x : Session) (is : x.channel.max_response ≡ most) where
     -- the place stands in the session
     abbrev In : Place → Both X.Row → Type 0
     In p b = session_behind p p.session b.world.sessions ≡ Some x
@@ -125,7 +128,7 @@ module _ (c : Compound) (most : ℕ) where
         Good (r ∷ rs) (admitted op p b (room_refusal X.grammar c (r ∷ rs) op p b.world) (on_world (deed_of (row site sent op)) p b)).answer
     reading_good r rs op p b reads inside sizes before =
         behind_room (r ∷ rs) op p b (on_world (deed_of (row site sent op)) p b) inside before (λ room.
-        short_good (r ∷ rs) X.grammar op (row site sent op p b.world).answer before room (row_short X.grammar site spells sent p b.world sizes op reads))
+        short_good (r ∷ rs) X.grammar op (row site sent op p b.world).answer before room (row_short X.grammar site labels sent p b.world sizes op reads))
 
     changing_good : (r : OpResult) (rs : List OpResult) (op : Op) (p : Place) (b : Both X.Row) → is_changing op ≡ true → In p b → RESERVED_ROOM + used c (r ∷ rs) ≤ most →
         Good (r ∷ rs) (admitted op p b (room_refusal X.grammar c (r ∷ rs) op p b.world) (on_world (deed_of (row site sent op)) p b)).answer
@@ -175,16 +178,17 @@ module _ (c : Compound) (most : ℕ) where
     stays_in : (p q : Place) (b v : Both X.Row) → In p b → v.world.sessions ≡ b.world.sessions → q.session ≡ p.session → q.subject ≡ p.subject → In q v
     stays_in p q b v inside sessions session subject = (λ i. session_behind (record p { subject = subject i }) (session i) (sessions i)) ∙ inside
 
-    pub behind_ends : (os : List Op) (r : OpResult) (rs : List OpResult) (p : Place) (b : Both X.Row) → BothStand X.Fact site.dom p b → In p b → Sizes b.world → RESERVED_ROOM + used c (r ∷ rs) ≤ most → Ends (run_behind (operation X site sent c) (r ∷ rs) os p b)
+    pub behind_ends : (os : List Op) → AllByRecursion IsOpRead os → (r : OpResult) (rs : List OpResult) (p : Place) (b : Both X.Row) → BothStand X.Fact site.dom p b → is_level site p.subject ≡ true → In p b → Bounds site b.world → RESERVED_ROOM + used c (r ∷ rs) ≤ most → Ends (run_behind (operation X site sent c) (r ∷ rs) os p b)
     unfolding run_behind
-    behind_ends [] r rs p b stands inside sizes before = (refl, omega (arith, before))
-    behind_ends (op ∷ os) r rs p b stands inside sizes before =
+    behind_ends [] read r rs p b stands level inside bounds before = (refl, omega (arith, before))
+    behind_ends (op ∷ os) read r rs p b stands level inside bounds before =
         let t = operation X site sent c (r ∷ rs) op p b in
         let law = operation_lawful X owed site lattice sent c (r ∷ rs) op in
         let stays = operation_stays X owed site lattice sent c r rs op p b stands in
-        let kept = operation_sizes X owed site lattice spells sent c (r ∷ rs) op p b stands sizes in
-        followed_ends (r ∷ rs) op t.place t.state t.answer (λ results. run_behind (operation X site sent c) results os t.place t.state) (operation_good r rs op p b stands inside sizes before)
-        (λ result room. behind_ends os r (rs ++ result ∷ []) t.place t.state (law.stands p b stands) (stays_in p t.place b t.state inside stays.0 stays.1 (law.subject p b stands)) kept room)
+        let kept = operation_bounds X owed site lattice labels sent c p b stands level bounds (r ∷ rs) op read.0 in
+        let there : is_level site t.place.subject ≡ true = ap (is_level site) (law.subject p b stands) ∙ level in
+        followed_ends (r ∷ rs) op t.place t.state t.answer (λ results. run_behind (operation X site sent c) results os t.place t.state) (operation_good r rs op p b stands inside bounds.sizes before)
+        (λ result room. behind_ends os read.1 r (rs ++ result ∷ []) t.place t.state (law.stands p b stands) there (stays_in p t.place b t.state inside stays.0 stays.1 (law.subject p b stands)) kept room)
 
 -- ---- a COMPOUND
 
@@ -196,39 +200,42 @@ session_length bytes sessions x found = at (bytes_eq (drop 12 bytes) (0 ∷ 0 �
     at true is e = omega (arith, length-drop 12 bytes, ap length (bytes_same (drop 12 bytes) (0 ∷ 0 ∷ 0 ∷ 0 ∷ []) is))
     at false is e = absurd (grind arith)
 
-module _ (X : Extra) (owed : AreLawful X) (site : Site) (lattice : IsPreorderWithBottom site.dom) (spells : SpellsShortly site) (sent : Sent) (c : Compound) where
-  result_fits : (r : Ran (Both X.Row)) (most : ℕ) → r.again ≡ None → 116 + used c r.results ≤ most → length (result_of c r.results r.again) + LARGEST_WRAPPING ≤ most
+module _ (X : Extra) (owed : AreLawful X) (site : Site) (lattice : IsPreorderWithBottom site.dom) (labels : LabelsFit site) (sent : Sent) (c : Compound) where
+  result_fits : (r : Ran (Both X.Row)) (most : ℕ) → r.again ≡ None → 116 + used c r.results ≤ most → FitsResponse most (result_of c r.results r.again)
   result_fits r most none room =
       let same : result_of c r.results r.again ≡ new_result c r.results = ap (result_of c r.results) none in
       omega (arith, room, ap length same, text_length (if c.minor == 2 then status_of_all r.results else NFS4ERR_MINOR_VERS_MISMATCH) c.tag r.results, text_length 0 c.tag r.results)
 
   -- the run behind a SEQUENCE that names a slot under its next sequence: what it keeps leaves room in a response
-  pub slot_ends : (level : ℕ) (moment : Moment) (b : Both X.Row) (args : Sequence) (rest : List Op) (x : Session) (slot : SlotRow) → BothStand X.Fact site.dom (begins_at level moment) b → Sizes b.world →
+  pub slot_ends : (level : ℕ) (moment : Moment) (b : Both X.Row) (args : Sequence) (rest : List Op) (x : Session) (slot : SlotRow) → BothStand X.Fact site.dom (begins_at level moment) b → is_level site level ≡ true → Bounds site b.world → AllByRecursion IsOpRead rest →
       Names level b.world args sent x slot → sent.count ≤ x.channel.max_operations → args.sequence ≡ next_sequence slot.sequence → length c.tag ≤ 1024 → LEAST_SIZE ≤ x.channel.max_response →
-      let r = begun X site sent c args rest b (done (in_session (begins_at level moment) x) (New x) []) in
-      (length (result_of c r.results r.again) + LARGEST_WRAPPING ≤ x.channel.max_response) × (session_behind r.place r.place.session r.state.world.sessions ≡ Some x)
+      let r = begun X site sent c args rest b (begun_in (begins_at level moment) b.world x) in
+      (FitsResponse x.channel.max_response (result_of c r.results r.again)) × (session_behind r.place r.place.session r.state.world.sessions ≡ Some x)
   unfolding begun
-  slot_ends level moment b args rest x slot stands sizes names few next tag least =
+  slot_ends level moment b args rest x slot stands is bounds read names few next tag least =
       let p = begins_at level moment in
       let result = results.Sequence args.session args.sequence args.slot (x.channel.max_requests - 1) (x.channel.max_requests - 1) 0 in
       let started = new_begins X owed site lattice sent c level moment b args x slot stands names few next in
+      let v = renewed_state X owed site lattice sent c p b x in
+      let left = (renewal_leaves p b.world x).sessions in
+      let kept : Bounds site v.world = subst (λ (o : Outcome (Answered Sequenced)). Bounds site (done_to b.world o)) started.0 (operation_bounds X owed site lattice labels sent c p b stands is bounds [] (ops.Sequence args) tt) in
       let id : x.id ≡ session_named args.session = session_at-id (session_named args.session) b.world.sessions x (session_under-at args.session b.world.sessions x names.session) in
       let found : session_at b.world.sessions x.id ≡ Some x = ap (session_at b.world.sessions) id ∙ session_under-at args.session b.world.sessions x names.session in
       let own : x.id.level ≡ level = ap (λ (i : Id). i.level) id ∙ names.own in
-      let inside : session_behind (in_session p x) (Some x.id.number) b.world.sessions ≡ Some x = ap (session_at b.world.sessions) (λ i. record { level = sym own i; number = x.id.number }) ∙ found in
+      let inside : session_behind (in_session p x) (Some x.id.number) v.world.sessions ≡ Some x = (λ i. session_at (left i) (record { level = sym own i; number = x.id.number })) ∙ found in
       let room : RESERVED_ROOM + used c (result ∷ []) ≤ x.channel.max_response = omega (arith, least, tag, length-opaque c.tag, text_length 0 c.tag [], used_more c [] result, sequence_short args.session args.sequence args.slot (x.channel.max_requests - 1) (x.channel.max_requests - 1) 0 (session_length args.session b.world.sessions x names.session)) in
-      let ends = behind_ends c x.channel.max_response X owed site lattice spells sent x refl rest result [] (in_session p x) b started.1 inside sizes room in
-      let stays = behind_stays X owed site lattice sent c rest result [] (in_session p x) b started.1 in
-      let subject = behind_subject X owed site lattice sent c rest result [] (in_session p x) b started.1 in
-      let r = begun X site sent c args rest b (done (in_session p x) (New x) []) in (
+      let ends = behind_ends c x.channel.max_response X owed site lattice labels sent x refl rest read result [] (in_session p x) v started.1 is inside kept room in
+      let stays = behind_stays X owed site lattice sent c rest result [] (in_session p x) v started.1 in
+      let subject = behind_subject X owed site lattice sent c rest result [] (in_session p x) v started.1 in
+      let r = begun X site sent c args rest b (begun_in p b.world x) in (
         result_fits r x.channel.max_response ends.0 ends.1,
-        stays_in c x.channel.max_response X owed site lattice spells sent x refl (in_session p x) r.place b r.state inside stays.0 stays.1 subject,
+        stays_in c x.channel.max_response X owed site lattice labels sent x refl (in_session p x) r.place v r.state inside stays.0 stays.1 subject,
       )
 
   -- the refusal of one that counts too many operations is short
   pub refused_fits : (level : ℕ) (moment : Moment) (b : Both X.Row) (args : Sequence) (rest : List Op) (x : Session) (slot : SlotRow) → c.minor ≡ 2 → c.ops ≡ ops.Sequence args ∷ rest →
       Names level b.world args sent x slot → x.channel.max_operations < sent.count → length c.tag ≤ 1024 → LEAST_SIZE ≤ x.channel.max_response →
-      length (served X site sent c (begins_at level moment) b).answer.result + LARGEST_WRAPPING ≤ x.channel.max_response
+      FitsResponse x.channel.max_response (served X site sent c (begins_at level moment) b).answer.result
   refused_fits level moment b args rest x slot minor is names many tag least =
       let op = ops.Sequence args in
       let result = failed op NFS4ERR_TOO_MANY_OPS in
@@ -236,17 +243,17 @@ module _ (X : Extra) (owed : AreLawful X) (site : Site) (lattice : IsPreorderWit
       let one = one_short (if c.minor == 2 then status_of_all (result ∷ []) else NFS4ERR_MINOR_VERS_MISMATCH) c.tag result tag (omega (arith, failed_short op NFS4ERR_TOO_MANY_OPS)) in
       omega (arith, least, same, one)
 
-  pub fits_on_slot : (level : ℕ) (moment : Moment) (b : Both X.Row) (args : Sequence) (rest : List Op) (x : Session) (slot : SlotRow) → BothStand X.Fact site.dom (begins_at level moment) b → Sizes b.world → c.minor ≡ 2 → c.ops ≡ ops.Sequence args ∷ rest →
+  pub fits_on_slot : (level : ℕ) (moment : Moment) (b : Both X.Row) (args : Sequence) (rest : List Op) (x : Session) (slot : SlotRow) → BothStand X.Fact site.dom (begins_at level moment) b → is_level site level ≡ true → Bounds site b.world → AllByRecursion IsOpRead rest → c.minor ≡ 2 → c.ops ≡ ops.Sequence args ∷ rest →
       Names level b.world args sent x slot → args.sequence ≡ next_sequence slot.sequence → length c.tag ≤ 1024 → LEAST_SIZE ≤ x.channel.max_response →
-      length (served X site sent c (begins_at level moment) b).answer.result + LARGEST_WRAPPING ≤ x.channel.max_response
+      FitsResponse x.channel.max_response (served X site sent c (begins_at level moment) b).answer.result
   unfolding served
-  fits_on_slot level moment b args rest x slot stands sizes minor is names next tag least = at (nat_le sent.count x.channel.max_operations) refl
+  fits_on_slot level moment b args rest x slot stands known bounds read minor is names next tag least = at (nat_le sent.count x.channel.max_operations) refl
     where
-      at : (b′ : Bool) → nat_le sent.count x.channel.max_operations ≡ b′ → length (served X site sent c (begins_at level moment) b).answer.result + LARGEST_WRAPPING ≤ x.channel.max_response
+      at : (b′ : Bool) → nat_le sent.count x.channel.max_operations ≡ b′ → FitsResponse x.channel.max_response (served X site sent c (begins_at level moment) b).answer.result
       at true is-few =
           let few : sent.count ≤ x.channel.max_operations = grind (arith, nat_tests, is-few) in
           let started = new_begins X owed site lattice sent c level moment b args x slot stands names few next in
           let ran = by_sequence X site sent c level moment b args rest minor is ∙ ap (begun X site sent c args rest b) started.0 in
-          subst (λ (r : Ran (Both X.Row)). length (result_of c r.results r.again) + LARGEST_WRAPPING ≤ x.channel.max_response) (sym ran)
-          (slot_ends level moment b args rest x slot stands sizes names few next tag least).0
+          subst (λ (r : Ran (Both X.Row)). FitsResponse x.channel.max_response (result_of c r.results r.again)) (sym ran)
+          (slot_ends level moment b args rest x slot stands known bounds read names few next tag least).0
       at false is-many = refused_fits level moment b args rest x slot minor is names (grind (arith, nat_tests, is-many)) tag least

@@ -9,16 +9,18 @@ use Rattle.lnfs_world.specs.World.{Id, Client, Session, World, same_id, client_a
 use Rattle.lnfs_world.specs.Erased.{erased}
 use Rattle.lnfs_world.specs.Change.{DropClient, DropSession, is_session_of, is_open_of}
 use Rattle.lnfs_world.specs.Facts.{has_confirmed}
+use Rattle.lnfs_world.specs.Leases.{renewed}
 use Rattle.lnfs_world.specs.Outcome.{Place, Stands, View, IsFootprint, is_place, begins_at}
 use Rattle.lnfs_world.proofs.Rows.{all_anyway, all_find, any-kept}
 use Rattle.lnfs_world.proofs.Keys.{id_same}
 use Rattle.lnfs_world.proofs.Views.{client_at-seen, session_at-seen}
 use Rattle.lnfs_arguments.specs.declared.types.Sequence.{Sequence}
-use Rattle.lnfs_arguments.specs.declared.statuses.TheConstants.{NFS4ERR_BADSESSION, NFS4ERR_STALE_CLIENTID, NFS4ERR_CLIENTID_BUSY, NFS4ERR_OP_NOT_IN_SESSION}
+use Rattle.lnfs_arguments.specs.declared.statuses.TheConstants.{NFS4ERR_BADSESSION, NFS4ERR_BADSLOT, NFS4ERR_REQ_TOO_BIG, NFS4ERR_TOO_MANY_OPS, NFS4ERR_STALE_CLIENTID, NFS4ERR_CLIENTID_BUSY, NFS4ERR_OP_NOT_IN_SESSION}
 use Rattle.lnfs_operations.specs.declared.Gate.TheVariants as gates
 use Rattle.lnfs_operations.specs.Chain.{refuse, done, demand, where_there}
 use Rattle.lnfs_operations.specs.Identifiers.{client_named, session_named, session_under}
-use Rattle.lnfs_operations.specs.Sequence.{Sent, New, Again, in_session, under_session, sequence}
+use Rattle.lnfs_operations.specs.InOrder.{in_order}
+use Rattle.lnfs_operations.specs.Sequence.{Sent, New, Again, in_session, renewing, renewal, begun_in, under_session, sequence}
 use Rattle.lnfs_operations.specs.DestroySession.{destroy_session}
 use Rattle.lnfs_operations.specs.DestroyClientId.{is_busy, destroy_clientid}
 use Rattle.lnfs_operations.specs.ReclaimComplete.{client_under, reclaimed, reclaim_complete}
@@ -57,9 +59,23 @@ module _ (dom : ℕ → ℕ → Bool) (lattice : IsPreorderWithBottom dom) where
   pub destroy_session_view : (session : List ℕ) → View dom (destroy_session session)
   destroy_session_view session = seen_view dom (destroy_session session) (destroy_session_seen session)
 
+  -- the client of a session, which is of the subject's level
+  renewal_seen : (p : Place) (w : World) (x : Session) → renewal p (erased dom p.subject w) x ≡ renewal p w x
+  renewal_seen p w x = ap (renewing p.moment) (client_at-seen dom p.subject (record { level = p.subject; number = x.client }) (lattice.reflexive p.subject) w.clients)
+
+  under_session-seen : (args : Sequence) (sent : Sent) (p : Place) (w : World) (x : Session) → under_session args sent p (erased dom p.subject w) x ≡ under_session args sent p w x
+  under_session-seen args sent p w x =
+      let renews = renewal_seen p w x in
+      λ k. demand (nat_le sent.size x.channel.max_request) (refuse p gates.Session NFS4ERR_REQ_TOO_BIG) (
+      demand (nat_le sent.count x.channel.max_operations) (refuse p gates.Session NFS4ERR_TOO_MANY_OPS) (
+      where_there (slice_get x.slots args.slot)
+      (λ slot. in_order p slot.sequence (next_sequence slot.sequence) slot.kept args.sequence sent.arguments (λ reply. done p (Again reply) []) (done (in_session p x) (New x) (renews k)))
+      (refuse p gates.Session NFS4ERR_BADSLOT)))
+
   pub sequence_seen : (args : Sequence) (sent : Sent) (p : Place) (w : World) → sequence args sent p (erased dom p.subject w) ≡ sequence args sent p w
   sequence_seen args sent p w = demand_alike ((session_named args.session).level == p.subject) _ _ _ (λ own.
-      ap (λ o. where_there o (under_session args sent p) (refuse p gates.Session NFS4ERR_BADSESSION)) (session_under-seen p.subject args.session w own))
+      ap (λ o. where_there o (under_session args sent p (erased dom p.subject w)) (refuse p gates.Session NFS4ERR_BADSESSION)) (session_under-seen p.subject args.session w own)
+      ∙ (λ k. where_there (session_under args.session w.sessions) (λ x. under_session-seen args sent p w x k) (refuse p gates.Session NFS4ERR_BADSESSION)))
 
   pub sequence_view : (args : Sequence) (sent : Sent) → View dom (sequence args sent)
   sequence_view args sent = seen_view dom (sequence args sent) (sequence_seen args sent)
@@ -134,14 +150,27 @@ module _ (dom : ℕ → ℕ → Bool) (p : Place) (w : World) (stands : Stands d
       let served : has_confirmed w.clients p.subject x.client ≡ true = ap (λ level. has_confirmed w.clients level x.client) (sym own) ∙ behind in
       grind (arith, nat_tests, there, served, place)
 
-  sequenced_footprint : (args : Sequence) (sent : Sent) (x : Session) → x.id.level ≡ p.subject → session_at w.sessions x.id ≡ Some x → IsFootprint dom p w (under_session args sent p x)
+  -- and only the lease of that client changes
+  begun_footprint : (x : Session) → x.id.level ≡ p.subject → session_at w.sessions x.id ≡ Some x → IsFootprint dom p w (begun_in p w x)
+  begun_footprint x own found = at (client_at w.clients (record { level = p.subject; number = x.client })) refl
+    where
+      inside : Stands dom (in_session p x) w
+      inside = record { facts = stands.facts; place = in_session_place x own found }
+
+      at : (o : Option Client) → client_at w.clients (record { level = p.subject; number = x.client }) ≡ o → IsFootprint dom p w (done (in_session p x) (New x) (renewing p.moment o))
+      at None there = record { within = refl; place = inside.place; subject = refl }
+      at (Some c) there =
+          let f = set_client_footprint dom (in_session p x) w inside c (renewed p.moment c) (record { level = p.subject; number = x.client }) there refl refl refl refl in
+          record { within = f.within; place = f.place; subject = refl }
+
+  sequenced_footprint : (args : Sequence) (sent : Sent) (x : Session) → x.id.level ≡ p.subject → session_at w.sessions x.id ≡ Some x → IsFootprint dom p w (under_session args sent p w x)
   sequenced_footprint args sent x own found =
       demand_footprint dom p w stands (nat_le sent.size x.channel.max_request) _ _ (unchanged_footprint dom p w stands _) (λ short.
       demand_footprint dom p w stands (nat_le sent.count x.channel.max_operations) _ _ (unchanged_footprint dom p w stands _) (λ few.
       where_footprint dom p w stands (slice_get x.slots args.slot) _ _ (λ slot there.
-      in_order_any (IsFootprint dom p w) p slot.sequence (next_sequence slot.sequence) slot.kept args.sequence sent.arguments (λ reply. done p (Again reply) []) (done (in_session p x) (New x) [])
+      in_order_any (IsFootprint dom p w) p slot.sequence (next_sequence slot.sequence) slot.kept args.sequence sent.arguments (λ reply. done p (Again reply) []) (begun_in p w x)
       (λ status. unchanged_footprint dom p w stands _) (λ k kept. unchanged_footprint dom p w stands _)
-      (λ next. record { within = refl; place = in_session_place x own found; subject = refl }))
+      (λ next. begun_footprint x own found))
       (unchanged_footprint dom p w stands _)))
 
   pub sequence_footprint : (args : Sequence) (sent : Sent) → IsFootprint dom p w (sequence args sent p w)

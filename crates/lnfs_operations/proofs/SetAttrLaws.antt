@@ -1,6 +1,6 @@
 -- What SETATTR looks at, and what it changes: a node whose label is the subject's.
 use Rattle.std.proofs.Common.{◌≡◌, ℕ, Bool, true, false, cond, not, ◌&&◌, ◌||◌, [], ◌∷◌, Option, Some, None, refl, sym, ap, ◌∙◌, arith}
-use Rattle.std.specs.Prelude.{◌==◌, is_some}
+use Rattle.std.specs.Prelude.{◌==◌, is_some, IfSome, nat_le}
 use Rattle.std.specs.Option.{option_map}
 use Rattle.std.specs.List.{list_all}
 use Rattle.std.proofs.lemmas.Bool.{and_parts}
@@ -10,6 +10,7 @@ use Rattle.lnfs_calipso.specs.Label.{IsPreorderWithBottom}
 use Rattle.lnfs_attrs.specs.declared.bitmap.Bitmap.{Bitmap}
 use Rattle.lnfs_attrs.specs.declared.raw.RawAttrs.{RawAttrs}
 use Rattle.lnfs_attrs.specs.declared.settable.AttrSet.{AttrSet}
+use Rattle.lnfs_attrs.specs.declared.view.LabelValue.{LabelValue}
 use Rattle.lnfs_arguments.specs.declared.stateid.StateId.{StateId}
 use Rattle.lnfs_arguments.specs.declared.statuses.TheConstants.{NFS4ERR_NOTEMPTY}
 use Rattle.lnfs_monitor.specs.Rules.{Write, Raise}
@@ -20,7 +21,8 @@ use Rattle.lnfs_world.specs.Change.{Change, Touch, Relabel, apply}
 use Rattle.lnfs_world.specs.Effects.{attributes_changed, parent_labels}
 use Rattle.lnfs_world.specs.Facts.{has_confirmed, cookies_at}
 use Rattle.lnfs_world.specs.Within.{is_within, all_within}
-use Rattle.lnfs_world.specs.Outcome.{Site, Place, Outcome, Stands, View, IsFootprint, is_session_for}
+use Rattle.lnfs_world.specs.Outcome.{LevelOf, Site, Place, Outcome, Stands, View, IsFootprint, is_session_for}
+use Rattle.lnfs_world.specs.declared.numbers.TheConstants.{MOST_FILE}
 use Rattle.lnfs_world.proofs.Seen.{node_at-id, label_of-found, holds_names-seen}
 use Rattle.lnfs_world.proofs.Parents.{parent_labels-seen, home_of_parents, named_by_parents}
 use Rattle.lnfs_world.proofs.NewNames.{holds_none}
@@ -32,11 +34,11 @@ use Rattle.lnfs_operations.specs.Lookup.{is_link}
 use Rattle.lnfs_operations.specs.Shown.{label_shown}
 use Rattle.lnfs_operations.specs.StateIds.{Writing}
 use Rattle.lnfs_operations.specs.Files.{where_fitting}
-use Rattle.lnfs_operations.specs.Given.{is_mode, GivenLabel, set_of}
+use Rattle.lnfs_operations.specs.Given.{is_mode, GivenLabel, spelled_by, set_of}
 use Rattle.lnfs_operations.specs.SetAttr.{is_company, same_spelling, respelled, label_set, size_set, mode_set, where_size, values_set, set_on, set_attr}
 use Rattle.lnfs_operations.proofs.Chains.{demand_alike, asked_alike, demand_any, standing_view, unchanged_footprint}
 use Rattle.lnfs_operations.proofs.CurrentLaws.{IsHeld, with_current-seen}
-use Rattle.lnfs_operations.proofs.Ends.{current_any, allowed_any, asked_any}
+use Rattle.lnfs_operations.proofs.Ends.{at_current_any, allowed_any, asked_any}
 use Rattle.lnfs_operations.proofs.TakingLaws.{own_whole, own_seen}
 use Rattle.lnfs_operations.proofs.StateIdLaws.{where_usable-seen, usable_any}
 use Rattle.lnfs_operations.proofs.FileLaws.{where_fitting-seen, fitting_any}
@@ -119,24 +121,30 @@ either_any : {A : Type 0} (P : Outcome A → Type 0) (b : Bool) (x y : Outcome A
 either_any P true x y here there = here
 either_any P false x y here there = there
 
--- the first of two ways, where it is known to be taken, and the other
-first_any : {A : Type 0} (P : Outcome A → Type 0) (b : Bool) (x y : Outcome A) → (b ≡ true → P x) → P y → P (cond b x y)
+-- one of two ways, where it is known which is taken
+first_any : {A : Type 0} (P : Outcome A → Type 0) (b : Bool) (x y : Outcome A) → (b ≡ true → P x) → (b ≡ false → P y) → P (cond b x y)
 first_any P true x y here there = here refl
-first_any P false x y here there = there
+first_any P false x y here there = there refl
 
 -- a node at the label of the subject, whose attributes it may set
 pub record MaySet (p : Place) (w : World) (n : Node) : Type 0 where
+  pub current : p.current ≡ Some n.id
   pub found : node_at w.nodes n.id ≡ Some n
   pub own : (p.subject == n.label) ≡ true
 
--- and one of which it may set values: a size is that of a file
+-- and one of which it may set values: a size is that of a file, which may have it
 pub record MaySetValues (p : Place) (w : World) (n : Node) (values : AttrSet) : Type 0 where
   pub set : MaySet p w n
+  pub mode : is_mode values.mode ≡ true
+  pub plain : is_some values.size ≡ true → is_directory n.kind ≡ false
   pub file : is_some values.size ≡ true → is_link n.kind ≡ false
+  pub small : IfSome values.size (λ size. nat_le size MOST_FILE ≡ true)
 
--- and one whose label it may raise
+-- and one whose label it may raise to a level that was read
 pub record MayRaise (site : Site) (p : Place) (w : World) (n : Node) (level : ℕ) : Type 0 where
+  pub enforcing : site.limited ≡ false
   pub set : MaySet p w n
+  pub read : (spelled : Stored) × (site.reading spelled ≡ LevelOf level)
   pub parents : list_all (λ parent. p.subject == parent) (parent_labels w.nodes w.entries n.id) ≡ true
   pub named : not (is_empty (parent_labels w.nodes w.entries n.id)) ≡ true
   pub rises : site.dom level n.label ≡ true
@@ -160,36 +168,43 @@ module _ (P : Outcome (Answer Bitmap) → Type 0) (site : Site) (id : StateId) (
     (spelled : (values : AttrSet) (label : GivenLabel) (n : Node) → site.limited ≡ true → AreRead given values → IsGiven site values.label (Some label) → MaySet p w n → P (spelled_to p (set_of given) n label.spelled))
     (raises : (n : Node) (level : ℕ) → MayRaise site p w n level → P (raised_to p (set_of given) n level))
     (writes : (n : Node) (values : AttrSet) → MaySetValues p w n values → P (values_to p (set_of given) n values)) where
-  module _ (n : Node) (found : node_at w.nodes n.id ≡ Some n) where
-    sized_any : (size : Option ℕ) (next : Outcome (Answer Bitmap)) → P next → P (where_size site id p w n size next)
-    sized_any None next is = is
-    sized_any (Some size) next is = usable_any P p refused w site n id Writing _ (fitting_any P p refused site w n size next (λ small few. is))
+  module _ (n : Node) (current : p.current ≡ Some n.id) (found : node_at w.nodes n.id ≡ Some n) where
+    sized_any : (size : Option ℕ) (next : Outcome (Answer Bitmap)) → (IfSome size (λ size. nat_le size MOST_FILE ≡ true) → P next) → P (where_size site id p w n size next)
+    sized_any None next is = is tt
+    sized_any (Some size) next is = usable_any P p refused w site n id Writing _ (fitting_any P p refused site w n size next (λ small few. is small))
 
     written_any : (values : AttrSet) (asks : Bool) → (asks ≡ true → MaySetValues p w n values) → P (done p (set_of given) (cond asks (Touch n.id (mode_set p values.mode (size_set p n values.size)) ∷ []) []))
     written_any values true may = writes n values (may refl)
     written_any values false may = nothing
 
-    values_set_any : (values : AttrSet) → (is_some values.size ≡ true → is_link n.kind ≡ false) → P (values_set site id p w n values (set_of given))
-    values_set_any values file =
+    values_set_any : (values : AttrSet) → is_mode values.mode ≡ true → (is_some values.size ≡ true → is_directory n.kind ≡ false) → (is_some values.size ≡ true → is_link n.kind ≡ false) → P (values_set site id p w n values (set_of given))
+    values_set_any values mode plain file =
         asked_any P p refused (is_some values.size || is_some values.mode) site (Write n.label) _ (λ own.
-        sized_any values.size _ (
-        written_any values (is_some values.size || is_some values.mode) (λ asks. record { set = record { found = found; own = own asks }; file = file })))
+        sized_any values.size _ (λ small.
+        written_any values (is_some values.size || is_some values.mode) (λ asks. record { set = record { current = current; found = found; own = own asks }; mode = mode; plain = plain; file = file; small = small })))
+
+    -- a label that was given is read
+    given_read : (value : Option LabelValue) (label : GivenLabel) → IsGiven site value (Some label) → (spelled : Stored) × (site.reading spelled ≡ LevelOf label.level)
+    given_read None label as_given = absurd (grind (arith, as_given))
+    given_read (Some v) label as_given =
+        let same : as_given.0 ≡ label.level = let is = as_given.2 in cc in
+        (spelled_by v, as_given.1 ∙ ap LevelOf same)
 
     label_set_any : (values : AttrSet) (label : GivenLabel) → AreRead given values → IsGiven site values.label (Some label) → P (label_set site p w n label (set_of given))
     label_set_any values label read as_given = first_any P site.limited _ _
         (λ limited. allowed_any P p refused site (Write n.label) _ (λ own.
-        either_any P (same_spelling (label_shown site p n) label.spelled) _ _ nothing (spelled values label n limited read as_given (record { found = found; own = own }))))
-        (allowed_any P p refused site (Raise n.label (parent_labels w.nodes w.entries n.id) label.level) _ (λ allowed.
+        either_any P (same_spelling (label_shown site p n) label.spelled) _ _ nothing (spelled values label n limited read as_given (record { current = current; found = found; own = own }))))
+        (λ enforcing. allowed_any P p refused site (Raise n.label (parent_labels w.nodes w.entries n.id) label.level) _ (λ allowed.
         let own = and_parts _ _ allowed in
         let parents = and_parts _ _ own.1 in
         let named = and_parts _ _ parents.1 in
         either_any P (label.level == n.label) _ _ nothing (
         demand_any P (not (is_directory n.kind && holds_names w.entries n.id)) _ _ (refused _ _) (λ empty.
-        raises n label.level (record { set = record { found = found; own = own.0 }; parents = parents.0; named = named.0; rises = named.1; empty = empty })))))
+        raises n label.level (record { enforcing = enforcing; set = record { current = current; found = found; own = own.0 }; read = given_read values.label label as_given; parents = parents.0; named = named.0; rises = named.1; empty = empty })))))
 
-    set_on_any : (values : AttrSet) (label : Option GivenLabel) → (is_some values.size ≡ true → is_link n.kind ≡ false) → AreRead given values → IsGiven site values.label label → P (set_on site id p w n values label (set_of given))
-    set_on_any values None file read as_given = values_set_any values file
-    set_on_any values (Some label) file read as_given = label_set_any values label read as_given
+    set_on_any : (values : AttrSet) (label : Option GivenLabel) → is_mode values.mode ≡ true → (is_some values.size ≡ true → is_directory n.kind ≡ false) → (is_some values.size ≡ true → is_link n.kind ≡ false) → AreRead given values → IsGiven site values.label label → P (set_on site id p w n values label (set_of given))
+    set_on_any values None mode plain file read as_given = values_set_any values mode plain file
+    set_on_any values (Some label) mode plain file read as_given = label_set_any values label read as_given
 
   pub set_attr_any : P (set_attr site id given p w)
   set_attr_any =
@@ -197,10 +212,10 @@ module _ (P : Outcome (Answer Bitmap) → Type 0) (site : Site) (id : StateId) (
       mode_any P p refused values.mode _ (λ mode.
       label_any P p refused site values.label _ (λ label as_given.
       demand_any P (not (is_company values)) _ _ (refused _ _) (λ alone.
-      current_any P p refused w _ (λ i n found.
+      at_current_any P p refused w _ (λ i n is found.
       demand_any P (not (is_some values.size && is_directory n.kind)) _ _ (refused _ _) (λ other.
       demand_any P (not (is_some values.size && is_link n.kind)) _ _ (refused _ _) (λ file.
-      set_on_any n (ap (node_at w.nodes) (node_at-id i w.nodes n found) ∙ found) values label (λ sized. grind (arith, file, sized)) read as_given)))))))
+      set_on_any n (is ∙ ap Some (sym (node_at-id i w.nodes n found))) (ap (node_at w.nodes) (node_at-id i w.nodes n found) ∙ found) values label mode (λ sized. grind (arith, other, sized)) (λ sized. grind (arith, file, sized)) read as_given)))))))
 
 -- ---- what is changed
 

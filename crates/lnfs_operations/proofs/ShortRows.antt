@@ -35,7 +35,7 @@ use Rattle.lnfs_operations.specs.ReadDir.{Arguments, Listed, shown_entry, taken,
 use Rattle.lnfs_operations.specs.Read as read
 use Rattle.lnfs_operations.specs.Sequence.{Sent}
 use Rattle.lnfs_operations.specs.Served.{Nowhere, Reply, Own, Kept, success, reply_of, plainly, zeros, row}
-use Rattle.lnfs_operations.specs.Sizes.{NodeFits, Sizes, SpellsShortly}
+use Rattle.lnfs_operations.specs.Sizes.{NodeFits, Sizes, LabelsFit}
 use Rattle.lnfs_operations.proofs.Lengths.{failed_short}
 use Rattle.lnfs_operations.proofs.Answering.{handle_length, answer_fits}
 use Rattle.lnfs_operations.proofs.Readings.{put_fh_any, get_fh_any, save_fh_any, restore_fh_any, lookup_any, lookup_parent_any, access_any, read_link_any}
@@ -86,7 +86,7 @@ spelled_short true spelled None short stored = short
 spelled_short true spelled (Some own) short stored = stored
 spelled_short false spelled o short stored = short
 
-module _ (site : Site) (spells : SpellsShortly site) where
+module _ (site : Site) (spells : LabelsFit site) where
   pub label_short : (p : Place) (n : Node) → NodeFits n → length (label_shown site p n).bytes ≤ LABEL_LIMIT
   label_short p n fits = spelled_short (site.limited && allows site.dom p.subject (Read n.label)) (site.spelling n.label) n.inner.stored (spells.spelling n.label) fits.stored
 
@@ -145,7 +145,7 @@ IsShortBy x op reply o = Short x op (reply_of op reply o.answer)
 pub refused_short : {R : Type 0} (x : Further) (p : Place) (op : Op) (reply : R → Reply) (gate : Gate) (status : ℕ) → IsShortBy x op reply (refuse p gate status)
 refused_short x p op reply gate status = failed_short op status
 
-module _ (x : Further) (site : Site) (spells : SpellsShortly site) (sent : Sent) (p : Place) (w : World) (sizes : Sizes w) where
+module _ (x : Further) (site : Site) (spells : LabelsFit site) (sent : Sent) (p : Place) (w : World) (sizes : Sizes w) where
   pub row_short : (op : Op) → is_reading op ≡ true → Short x op (row site sent op p w).answer
   unfolding fields_text
   row_short (ops.PutFh handle) is =

@@ -2,27 +2,24 @@
 use Rattle.std.proofs.Common.{◌≡◌, ◌≤◌, ◌+◌, ℕ, zero, suc, true, List, [], ◌∷◌, length, Option, Some, refl, ap, ◌∙◌, subst, arith}
 use Rattle.std.specs.Prelude.{IfSome, slice_get, replicate}
 use Rattle.std.specs.List.{AllByRecursion}
+use Rattle.std.proofs.lemmas.Bool.{false≢true}
 use Rattle.std.proofs.lemmas.Bool.Decides.{nat_tests}
-use Rattle.lnfs_calipso.specs.Label.{IsPreorderWithBottom}
 use Rattle.lnfs_arguments.specs.declared.channel.Channel.{Channel as Asked}
 use Rattle.lnfs_arguments.specs.declared.types.Op.{Op}
-use Rattle.lnfs_arguments.specs.declared.types.Compound.{Compound}
-use Rattle.lnfs_results.specs.declared.types.OpResult.{OpResult}
 use Rattle.lnfs_world.specs.World.{Id, Client, Slot as SlotRow, Session, World, client_at, session_at, same_id}
 use Rattle.lnfs_world.specs.World as world
 use Rattle.lnfs_world.specs.Outcome.{Site, Place, done_to}
-use Rattle.lnfs_world.specs.Both.{Both, BothStand}
+use Rattle.lnfs_world.specs.Both.{Both}
 use Rattle.lnfs_world.proofs.Rows.{all_find}
-use Rattle.lnfs_operations.specs.declared.numbers.TheConstants.{MOST_CREATED, LARGEST_WRAPPING}
+use Rattle.lnfs_operations.specs.declared.numbers.TheConstants.{MOST_CREATED}
 use Rattle.lnfs_operations.specs.Admission.{session_behind}
 use Rattle.lnfs_operations.specs.CreateSession.{is_large_enough, granted_of, fresh_slot}
-use Rattle.lnfs_operations.specs.Extra.{AreLawful, Extra}
 use Rattle.lnfs_operations.specs.Keeping.{with_slot}
 use Rattle.lnfs_operations.specs.Sequence.{Sent}
-use Rattle.lnfs_operations.specs.Served.{Keeper, Nowhere, Slot, Record, operation}
-use Rattle.lnfs_operations.specs.Sizes.{IsGranted, SlotFits, SessionFits, ClientFits, Sizes, SpellsShortly}
-use Rattle.lnfs_operations.specs.SlotRule.{run_all, keep_in}
-use Rattle.lnfs_operations.proofs.Walks.{Walk, all_fresh, all_with_slot, slot_of_all, operation_left, run_left, keep_left}
+use Rattle.lnfs_operations.specs.Served.{Keeper, Nowhere, Slot, Record, row}
+use Rattle.lnfs_operations.specs.Sizes.{IsGranted, FitsResponse, SlotFits, SessionFits, ClientFits, Sizes, LabelsFit}
+use Rattle.lnfs_operations.specs.SlotRule.{keep_in}
+use Rattle.lnfs_operations.proofs.Walks.{Walk, all_fresh, all_with_slot, slot_of_all, row_left, keep_left}
 
 -- ---- rows that are there
 
@@ -50,6 +47,7 @@ granted_fits : (fore : Asked) → is_large_enough fore ≡ true → IsGranted (g
 granted_fits fore large = record {
   request = (grind (arith, nat_tests, large), omega arith);
   response = (grind (arith, nat_tests, large), omega arith);
+  cached = (grind (arith, nat_tests, large), omega arith);
   operations = (grind (arith, nat_tests, large), omega arith);
   requests = (grind (arith, nat_tests, large), omega arith);
 }
@@ -59,31 +57,31 @@ abbrev sizes_walk : (Spells : Type 0) → Spells → Walk Spells
 sizes_walk Spells spells = record {
   Holds = Sizes;
   OfSession = SessionFits;
-  OfSlot = λ x kept. length kept.reply + LARGEST_WRAPPING ≤ x.channel.max_response;
+  OfClient = ClientFits;
+  OfSlot = λ x kept. FitsResponse x.channel.max_response kept.reply;
   OfRecord = λ level kept. length kept.reply ≤ MOST_CREATED;
   sessions = λ w sizes. sizes.sessions;
   clients = λ w sizes. sizes.clients;
   holds = λ w v sizes sessions clients nodes. record { sessions = sessions; clients = clients; nodes = nodes spells sizes.nodes };
+  is_new = λ i args. record { kept = tt; seen = λ is. absurd (false≢true is) };
+  when_confirmed = λ p c fits. record { kept = fits.kept; seen = λ is. refl };
+  when_renewed = λ moment c fits. record { kept = fits.kept; seen = λ is. refl };
+  when_reclaimed = λ c fits. record { kept = fits.kept; seen = fits.seen };
+  when_kept = λ c kept fits short. record { kept = short; seen = fits.seen };
   made = λ i c fore large. record { granted = granted_fits fore large; slots = fresh_length (granted_of fore).max_requests; kept = all_fresh (SlotFits (granted_of fore).max_response) tt (granted_of fore).max_requests };
   kept = λ x slot sequence kept fits short.
       let row : SlotRow = record { sequence = sequence; kept = Some kept } in
       record { granted = fits.granted; slots = with_slot_length slot row x.slots ∙ fits.slots; kept = all_with_slot (SlotFits x.channel.max_response) slot row x.slots short fits.kept };
 }
 
--- ---- in a COMPOUND
-
-module _ (X : Extra) (owed : AreLawful X) (site : Site) (lattice : IsPreorderWithBottom site.dom) (spells : SpellsShortly site) (sent : Sent) (c : Compound) where
-  pub operation_sizes : (so_far : List OpResult) (op : Op) (p : Place) (b : Both X.Row) → BothStand X.Fact site.dom p b → Sizes b.world → Sizes (operation X site sent c so_far op p b).state.world
-  operation_sizes so_far op p b stands sizes = operation_left site (sizes_walk (SpellsShortly site) spells) sent X owed lattice c so_far op p b stands sizes
-
-  pub run_sizes : (p : Place) (b : Both X.Row) → BothStand X.Fact site.dom p b → Sizes b.world → Sizes (run_all (operation X site sent c) c p b).state.world
-  run_sizes p b stands sizes = run_left site (sizes_walk (SpellsShortly site) spells) sent X owed lattice c p b stands sizes
+pub row_sizes : (site : Site) → LabelsFit site → (sent : Sent) (p : Place) (w : World) → Sizes w → (op : Op) → Sizes (done_to w (row site sent op p w))
+row_sizes site labels sent p w sizes op = row_left site (λ fit. fit) (sizes_walk (LabelsFit site) labels) sent p w sizes op
 
 -- ---- the keeping of a result
 
 -- what a result has to fit in a slot of a session, and how many operations its COMPOUND may count
 pub record FitsSlot (count : ℕ) (result : List ℕ) (x : Session) : Type 0 where
-  pub short : length result + LARGEST_WRAPPING ≤ x.channel.max_response
+  pub short : FitsResponse x.channel.max_response result
   pub few : count ≤ x.channel.max_operations
 
 -- what a result has to fit where it is kept

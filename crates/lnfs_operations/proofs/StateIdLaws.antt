@@ -10,7 +10,8 @@ use Rattle.lnfs_world.specs.World.{Id, Node, Open, World, same_id}
 use Rattle.lnfs_world.specs.Erased.{erased, shrunk}
 use Rattle.lnfs_world.specs.Outcome.{Site, Place, Outcome}
 use Rattle.lnfs_world.proofs.Keys.{id_same}
-use Rattle.lnfs_world.proofs.Rows.{all_anyway, all_find, any-kept}
+use Rattle.lnfs_world.proofs.Rows.{all_anyway, all_find}
+use Rattle.lnfs_world.proofs.Leases.{conflicts_seen}
 use Rattle.lnfs_world.proofs.Views.{row_at-seen}
 use Rattle.lnfs_operations.specs.declared.Gate.{Gate}
 use Rattle.lnfs_operations.specs.declared.Gate.TheVariants as gates
@@ -47,7 +48,7 @@ module _ (dom : ℕ → ℕ → Bool) (lattice : IsPreorderWithBottom dom) (p : 
 module _ (site : Site) (lattice : IsPreorderWithBottom site.dom) (p : Place) (w : World) where
   -- opens that the subject sees, as no others deny it anything
   is_denied-seen : (n : Node) (way : Way) → is_denied site p (erased site.dom p.subject w) (shrunk site.dom p.subject n) way ≡ is_denied site p w n way
-  is_denied-seen n way = any-kept _ _ _ _ w.opens (all_anyway _ (λ o. ((λ is. (and_parts _ _ (and_parts (same_id n.id o.node) _ is).1).0), (λ above. refl))) w.opens)
+  is_denied-seen n way = conflicts_seen site.dom p.subject w p.moment None n.id (bit_of way) 0
 
   undenied_seen : {R : Type 0} (n : Node) (way : Way) (shown found : Outcome (Answer R)) → shown ≡ found → where_undenied site p (erased site.dom p.subject w) (shrunk site.dom p.subject n) way shown ≡ where_undenied site p w n way found
   undenied_seen n way shown found same = let denied = is_denied-seen n way in λ k. demand (not (denied k)) (refuse p gates.Open NFS4ERR_LOCKED) (same k)

@@ -31,13 +31,13 @@ where_found (Some x) came = came x
 -- ---- by the sequence that it brings
 
 -- where a reply is kept under that sequence
-abbrev pub retried : (arguments : List ℕ) → Option Kept → Came → Came
-retried arguments None other = other
-retried arguments (Some k) other = cond (bytes_eq k.arguments arguments) (Again k.reply) Refused
+abbrev pub came_again : (arguments : List ℕ) → Option Kept → Came → Came
+came_again arguments None other = other
+came_again arguments (Some k) other = cond (bytes_eq k.arguments arguments) (Again k.reply) Refused
 
 abbrev pub came_by : (last next : ℕ) → Option Kept → (sequence : ℕ) (arguments : List ℕ) → Came
 came_by last next kept sequence arguments =
-    retried arguments (cond (sequence == last) kept None) (cond (sequence == next) New Refused)
+    came_again arguments (cond (sequence == last) kept None) (cond (sequence == next) New Refused)
 
 -- ---- a COMPOUND, on the slot of a session that its SEQUENCE names
 
@@ -83,8 +83,8 @@ refused_first c op gate status = record {
 pub record KeepsOnSlot (args : Sequence) (arguments result : List ℕ) (w v : World) : Type 0 where
   pub session : Session
   pub slot : Slot
-  pub named : session_under args.session w.sessions ≡ Some session
-  pub there : slice_get session.slots args.slot ≡ Some slot
+  pub session_is : session_under args.session w.sessions ≡ Some session
+  pub slot_is : slice_get session.slots args.slot ≡ Some slot
   pub next : args.sequence ≡ next_sequence slot.sequence
   pub sessions : v.sessions ≡ inserted session_order (record session {
     slots = with_slot args.slot (record { sequence = args.sequence; kept = Some (record { arguments = arguments; reply = result }) }) session.slots;
@@ -95,8 +95,8 @@ pub record KeepsOnSlot (args : Sequence) (arguments result : List ℕ) (w v : Wo
 pub record KeepsInRecord (args : CreateSession) (arguments result : List ℕ) (w v : World) : Type 0 where
   pub before : Client
   pub after : Client
-  pub was : client_at w.clients (client_named args.client) ≡ Some before
-  pub is : client_at v.clients (client_named args.client) ≡ Some after
-  pub brought : args.sequence ≡ before.sequence
-  pub moved : after.sequence ≡ next_sequence before.sequence
-  pub kept : after.kept ≡ Some (record { arguments = arguments; reply = result })
+  pub before_is : client_at w.clients (client_named args.client) ≡ Some before
+  pub after_is : client_at v.clients (client_named args.client) ≡ Some after
+  pub next : args.sequence ≡ before.sequence
+  pub sequence : after.sequence ≡ next_sequence before.sequence
+  pub keeps : after.kept ≡ Some (record { arguments = arguments; reply = result })

@@ -4,6 +4,7 @@ use Rattle.std.specs.List.{find}
 use Rattle.std.specs.Str.{bytes_eq}
 use Rattle.lnfs_world.specs.World.{Id, Client, Channel, Slot, Session, World, same_id, client_at, last_of}
 use Rattle.lnfs_world.specs.Change.{SetClient, AddSession}
+use Rattle.lnfs_world.specs.Leases.{renewed}
 use Rattle.lnfs_world.specs.Outcome.{Place, Outcome, Act, begins_at}
 use Rattle.lnfs_arguments.specs.declared.types.CreateSession.{CreateSession}
 use Rattle.lnfs_arguments.specs.declared.channel.Channel.{Channel as Asked}
@@ -51,12 +52,16 @@ new_session id c granted = record { id = id; client = c.id.number; channel = gra
 abbrev pub is_replaced : Client → Client → Bool
 is_replaced c d = d.id.level == c.id.level && (bytes_eq d.owner c.owner && (d.confirmed && not (same_id c.id d.id)))
 
+-- a record that is confirmed, and whose lease begins again
+abbrev pub confirmed : Place → Client → Client
+confirmed p c = renewed p.moment (record c { confirmed = true })
+
 -- how many sessions a level has
 abbrev pub sessions_of : ℕ → List Session → ℕ
 sessions_of level sessions = count_by (λ x. x.id.level == level) sessions
 
 -- For the record of the client: the other confirmed record of its owner goes with its sessions, this one is
--- confirmed, and a session is made under the level's next number.
+-- confirmed, its lease is renewed, and a session is made under the level's next number.
 abbrev pub made : CreateSession → Place → World → Client → Outcome (Answer Created)
 made args p w c =
     demand (is_large_enough args.fore) (refuse p gates.Session NFS4ERR_TOOSMALL) (
@@ -65,7 +70,7 @@ made args p w c =
     let number = last_of p.subject w.lasts.sessions + 1 in
     done (begins_at p.subject p.moment) (New number (granted_of args.fore))
     (dropped (find (is_replaced c) w.clients) ++
-    SetClient (record c { confirmed = true }) ∷
+    SetClient (confirmed p c) ∷
     AddSession (new_session (record { level = p.subject; number = number }) c (granted_of args.fore)) ∷ []))))
 
 abbrev pub created : CreateSession → List ℕ → Place → World → Client → Outcome (Answer Created)

@@ -42,9 +42,9 @@ abbrev pub dropped : Option Client → List Change
 dropped None = []
 dropped (Some c) = DropClient c.id ∷ []
 
--- a new record of an owner
+-- a new record of an owner, whose lease wasn't renewed yet
 abbrev pub new_client : Id → Arguments → Client
-new_client id args = record { id = id; owner = args.owner; verifier = args.verifier; confirmed = false; sequence = 1; kept = None; reclaimed = false }
+new_client id args = record { id = id; owner = args.owner; verifier = args.verifier; confirmed = false; sequence = 1; kept = None; reclaimed = false; seen = None }
 
 -- The confirmed record is told again. Else the owner's pending record, if any, gives way to a new one
 -- under the level's next number.

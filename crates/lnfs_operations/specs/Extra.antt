@@ -1,6 +1,5 @@
 -- Further operations beside those of the table, and what they owe.
 use Rattle.std.specs.Prelude.{◌≡◌, ◌≢◌, ◌≤◌, ◌+◌, ◌⊎◌, ℕ, Bool, true, false, List, [], length, Option, Some, None, is_some}
-use Rattle.std.specs.List.{AllByRecursion}
 use Rattle.lnfs_types.specs.declared.event.Moment.{Moment}
 use Rattle.lnfs_calipso.specs.Label.{IsPreorderWithBottom}
 use Rattle.lnfs_arguments.specs.declared.statuses.TheConstants.{NFS4ERR_NOTSUPP}
@@ -12,7 +11,8 @@ use Rattle.lnfs_world.specs.Lawful.{Turn, Deed, Lawful}
 use Rattle.lnfs_world.specs.Both.{Both, both_seen, BothStand}
 use Rattle.lnfs_operations.specs.declared.Gate.TheVariants.{Outside}
 use Rattle.lnfs_operations.specs.Chain.{Refusal}
-use Rattle.lnfs_operations.specs.Sizes.{NodeFits}
+use Rattle.lnfs_operations.specs.Sizes.{is_level, LabelsFit}
+use Rattle.lnfs_operations.specs.Bounds.{Bounds}
 
 -- what a further operation says: what refused it, if anything did, and the bytes behind its status
 pub record Said : Type 0 where
@@ -88,12 +88,12 @@ IsRefused p a t None = Unit {0}
 IsRefused p a t (Some why) = (why.status ≢ 0) × (t.place ≡ p) × (t.state ≡ a)
 
 -- What one operation does, beside the laws of erasure.
-pub record IsTame (X : Extra) (dom : ℕ → ℕ → Bool) (room : ℕ) (p : Place) (a : Both X.Row) (t : Turn Said (Both X.Row)) : Type 0 where
+pub record IsTame (X : Extra) (site : Site) (room : ℕ) (p : Place) (a : Both X.Row) (t : Turn Said (Both X.Row)) : Type 0 where
   pub untouched : Untouched a.world t.state.world
   pub tame : Tame a.world t.state.world
-  -- labels and texts of links keep their limits
-  pub sizes : AllByRecursion NodeFits a.world.nodes → AllByRecursion NodeFits t.state.world.nodes
-  pub moved : IsMoved dom t.state.world p t.place
+  -- rows keep their bounds, where the subject is of a level of the site
+  pub bounds : LabelsFit site → is_level site p.subject ≡ true → Bounds site a.world → Bounds site t.state.world
+  pub moved : IsMoved site.dom t.state.world p t.place
   pub refused : IsRefused p a t t.answer.refusal
   -- with its number and its status the result is within its bound
   pub bound : length t.answer.bytes + 8 ≤ room
@@ -106,7 +106,7 @@ pub record AreLawful (X : Extra) : Type 0 where
   pub laws : (site : Site) → IsPreorderWithBottom site.dom → (number : ℕ) (arguments : List ℕ) →
       Lawful site.dom (both_seen X.level_of site.dom) (BothStand X.Fact site.dom) (further_deed X site number arguments)
   pub tame : (site : Site) → IsPreorderWithBottom site.dom → (number : ℕ) (arguments : List ℕ) (p : Place) (a : Both X.Row) →
-      BothStand X.Fact site.dom p a → IsTame X site.dom (X.grammar.bound number arguments) p a (further_deed X site number arguments p a)
+      BothStand X.Fact site.dom p a → IsTame X site (X.grammar.bound number arguments) p a (further_deed X site number arguments p a)
 
 -- no further operations, and no rows
 abbrev pub no_extra : Extra

@@ -33,6 +33,7 @@ pub mod Close
 pub mod Read
 pub mod Write
 pub mod Sizes
+pub mod Bounds
 pub mod Extra
 pub mod Results
 pub mod Admission
@@ -41,4 +42,6 @@ pub mod SlotRule
 pub mod Retries
 pub mod Accepted
 pub mod Came
+pub mod Named
+pub mod Carried
 pub mod Bounded

@@ -1,6 +1,6 @@
 -- OPEN (RFC 8881 section 18.16): of a name in the current directory, or of the current file.
-use Rattle.std.specs.Prelude.{ℕ, ◌+◌, ◌==◌, ◌%◌, ◌&&◌, ◌||◌, Bool, true, false, not, cond, List, [], ◌∷◌, ◌++◌, Option, Some, None, is_some, count_by, nat_le, nat_lt}
-use Rattle.std.specs.List.{list_any, find}
+use Rattle.std.specs.Prelude.{ℕ, ◌==◌, ◌%◌, ◌&&◌, ◌||◌, Bool, true, false, not, cond, List, [], ◌∷◌, ◌++◌, Option, Some, None, is_some, count_by, nat_le, nat_lt}
+use Rattle.std.specs.List.{find}
 use Rattle.std.specs.Str.{bytes_eq}
 use Rattle.lnfs_attrs.specs.declared.bitmap.Bitmap.{Bitmap}
 use Rattle.lnfs_attrs.specs.declared.raw.RawAttrs.{RawAttrs}
@@ -14,12 +14,13 @@ use Rattle.lnfs_arguments.specs.declared.types.Claim.{Claim}
 use Rattle.lnfs_arguments.specs.declared.types.Claim.TheVariants.{Name, Handle}
 use Rattle.lnfs_arguments.specs.declared.statuses.TheConstants.{NFS4ERR_NOENT, NFS4ERR_EXIST, NFS4ERR_INVAL, NFS4ERR_NOSPC, NFS4ERR_SHARE_DENIED, NFS4ERR_OP_NOT_IN_SESSION}
 use Rattle.lnfs_world.specs.declared.numbers.TheConstants.{OPENS_OF_A_LEVEL}
-use Rattle.lnfs_world.specs.World.{Id, File, Node, Open, World, node_at, same_id}
+use Rattle.lnfs_world.specs.World.{Id, File, Node, Open, World, node_at}
 use Rattle.lnfs_world.specs.Names.{entry_at}
 use Rattle.lnfs_world.specs.Change.{Change, Touch, Make, AddOpen, SetOpen}
 use Rattle.lnfs_world.specs.Facts.{same_opening}
 use Rattle.lnfs_world.specs.Effects.{name_added, next_entry, has_number, next_id, data_changed}
-use Rattle.lnfs_world.specs.Opens.{has_any}
+use Rattle.lnfs_world.specs.Leases.{over_at}
+use Rattle.lnfs_world.specs.Opens.{has_any, that_give_way, ended}
 use Rattle.lnfs_world.specs.Opens as opens
 use Rattle.lnfs_world.specs.Outcome.{Site, Place, Outcome, Act}
 use Rattle.lnfs_monitor.specs.Rules as rules
@@ -131,12 +132,19 @@ own_open args p w client node = find (same_opening (new_open args p w client nod
 abbrev pub joined : Arguments → Open → Open
 joined args o = opens.joined (access_of args) args.deny o
 
--- Share reservations (RFC 8881 section 9.7): another's open denies what is asked, or is for what is to be denied. Opens of
--- levels that the subject doesn't dominate stand in nobody's way.
+-- who opens: a client of the subject's level, and an owner
+abbrev pub opener : Arguments → Place → (client : ℕ) → Id × List ℕ
+opener args p client = (record { level = p.subject; number = client }, args.owner)
+
+-- whether another's open stands in the way of what is asked (RFC 8881 section 9.7)
 abbrev pub conflicts : Site → Arguments → Place → World → (client : ℕ) → Node → Bool
 conflicts site args p w client n =
-    list_any (λ o. same_id n.id o.node && (site.dom p.subject o.id.level && (not (same_opening (new_open args p w client n.id) o)
-    && (has_any o.deny (access_of args) || has_any o.access args.deny)))) w.opens
+    opens.conflicts site.dom p.subject (Some (opener args p client)) n.id (access_of args) args.deny (over_at w.clients p.moment) w.opens
+
+-- Opens of the subject's own level that give way end (RFC 8881 section 8.4.3). Those of other levels stay.
+abbrev pub passed_over : Arguments → Place → World → (client : ℕ) → Node → List Open
+passed_over args p w client n =
+    that_give_way p.subject (opener args p client) n.id (access_of args) args.deny (over_at w.clients p.moment) w.opens
 
 -- whether the subject's level may have one more open, and has a number for it
 abbrev pub has_open_left : Place → World → Bool
@@ -197,17 +205,18 @@ may_be_there (Some (Exclusive verifier attrs)) n = has_verifier verifier n.verif
 abbrev pub cut : Place → Wanted → Node → List Change
 cut p wanted n = cond wanted.sized (Touch n.id (data_changed p.moment [] n.inner) ∷ []) []
 
-abbrev pub opened_with : Place → Wanted → Node → Cinfo → Open → Change → Outcome (Answer Opened)
-opened_with p wanted n info o change =
+abbrev pub opened_with : Place → Wanted → Node → Cinfo → Open → List Change → Outcome (Answer Opened)
+opened_with p wanted n info o changes =
     done (record p { current = Some n.id }) (record { id = state_of o; info = info; set = bitmap_of (λ attr. wanted.sized && attr == SIZE) }) (
-    cut p wanted n ++ change ∷ [])
+    cut p wanted n ++ changes)
 
--- the open of the client and the owner is joined, or there is a new one
+-- The open of the client and the owner is joined, or there is a new one, for which there is room beside those that end.
 abbrev pub opened : Arguments → Place → World → (client : ℕ) → Wanted → Cinfo → Node → Option Open → Outcome (Answer Opened)
-opened args p w client wanted info n (Some o) = opened_with p wanted n info (joined args o) (SetOpen (joined args o))
+opened args p w client wanted info n (Some o) = opened_with p wanted n info (joined args o) (SetOpen (joined args o) ∷ ended (passed_over args p w client n))
 opened args p w client wanted info n None =
     demand (has_open_left p w) (refuse p gates.Quota NFS4ERR_NOSPC) (
-    opened_with p wanted n info (new_open args p w client n.id) (AddOpen (new_open args p w client n.id)))
+    let o = new_open args p w client n.id in
+    opened_with p wanted n info o (AddOpen o ∷ ended (passed_over args p w client n)))
 
 abbrev pub open_present : Site → Arguments → Place → World → (client : ℕ) → Wanted → Cinfo → Node → Outcome (Answer Opened)
 open_present site args p w client wanted info n =

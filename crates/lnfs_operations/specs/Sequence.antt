@@ -1,6 +1,9 @@
 -- SEQUENCE (RFC 8881 section 18.46).
-use Rattle.std.specs.Prelude.{ℕ, ◌==◌, List, [], Some, nat_le, slice_get}
-use Rattle.lnfs_world.specs.World.{Slot, Session}
+use Rattle.std.specs.Prelude.{ℕ, ◌==◌, List, [], ◌∷◌, Option, Some, None, nat_le, slice_get}
+use Rattle.lnfs_types.specs.declared.event.Moment.{Moment}
+use Rattle.lnfs_world.specs.World.{Client, Slot, Session, World, client_at}
+use Rattle.lnfs_world.specs.Change.{Change, SetClient}
+use Rattle.lnfs_world.specs.Leases.{renewed}
 use Rattle.lnfs_world.specs.Outcome.{Place, Outcome, Act}
 use Rattle.lnfs_arguments.specs.declared.types.Sequence.{Sequence}
 use Rattle.lnfs_arguments.specs.declared.statuses.TheConstants.{NFS4ERR_BADSESSION, NFS4ERR_BADSLOT, NFS4ERR_REQ_TOO_BIG, NFS4ERR_TOO_MANY_OPS}
@@ -28,19 +31,32 @@ pub data Sequenced : Type 0 where
 abbrev pub in_session : Place → Session → Place
 in_session p x = record p { client = Some x.client; session = Some x.id.number }
 
-abbrev pub on_slot : Sequence → Sent → Place → Session → Slot → Outcome (Answer Sequenced)
-on_slot args sent p x slot =
-    in_order p slot.sequence (next_sequence slot.sequence) slot.kept args.sequence sent.arguments (λ reply. done p (Again reply) [])
-    (done (in_session p x) (New x) [])
+abbrev pub renewing : Moment → Option Client → List Change
+renewing moment None = []
+renewing moment (Some c) = SetClient (renewed moment c) ∷ []
 
-abbrev pub under_session : Sequence → Sent → Place → Session → Outcome (Answer Sequenced)
-under_session args sent p x =
+-- The lease of the session's client begins again (RFC 8881 section 8.3).
+abbrev pub renewal : Place → World → Session → List Change
+renewal p w x = renewing p.moment (client_at w.clients (record { level = p.subject; number = x.client }))
+
+-- a new request in a session
+abbrev pub begun_in : Place → World → Session → Outcome (Answer Sequenced)
+begun_in p w x = done (in_session p x) (New x) (renewal p w x)
+
+-- A retry renews no lease.
+abbrev pub on_slot : Sequence → Sent → Place → World → Session → Slot → Outcome (Answer Sequenced)
+on_slot args sent p w x slot =
+    in_order p slot.sequence (next_sequence slot.sequence) slot.kept args.sequence sent.arguments (λ reply. done p (Again reply) [])
+    (begun_in p w x)
+
+abbrev pub under_session : Sequence → Sent → Place → World → Session → Outcome (Answer Sequenced)
+under_session args sent p w x =
     demand (nat_le sent.size x.channel.max_request) (refuse p gates.Session NFS4ERR_REQ_TOO_BIG) (
     demand (nat_le sent.count x.channel.max_operations) (refuse p gates.Session NFS4ERR_TOO_MANY_OPS) (
-    where_there (slice_get x.slots args.slot) (on_slot args sent p x) (refuse p gates.Session NFS4ERR_BADSLOT)))
+    where_there (slice_get x.slots args.slot) (on_slot args sent p w x) (refuse p gates.Session NFS4ERR_BADSLOT)))
 
--- It changes nothing: the slot moves when the result of the whole COMPOUND is kept.
+-- It changes no slot: that moves when the result of the whole COMPOUND is kept.
 abbrev pub sequence : Sequence → Sent → Act (Answer Sequenced)
 sequence args sent p w =
     demand ((session_named args.session).level == p.subject) (refuse p (gates.Monitor M9) NFS4ERR_BADSESSION) (
-    where_there (session_under args.session w.sessions) (under_session args sent p) (refuse p gates.Session NFS4ERR_BADSESSION))
+    where_there (session_under args.session w.sessions) (under_session args sent p w) (refuse p gates.Session NFS4ERR_BADSESSION))

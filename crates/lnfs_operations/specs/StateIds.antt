@@ -1,10 +1,11 @@
 -- State ids (RFC 8881 section 8.2): those with a meaning of their own, and the opens that the others name.
 use Rattle.std.specs.Prelude.{ℕ, ◌==◌, ◌&&◌, ◌||◌, Bool, false, not, List, Option, Some, None, nat_le, if◌then◌else◌}
-use Rattle.std.specs.List.{list_all, list_any, find}
+use Rattle.std.specs.List.{list_all, find}
 use Rattle.lnfs_arguments.specs.declared.stateid.StateId.{StateId}
 use Rattle.lnfs_arguments.specs.declared.statuses.TheConstants.{NFS4ERR_LOCKED, NFS4ERR_OLD_STATEID, NFS4ERR_BAD_STATEID, NFS4ERR_OPENMODE}
 use Rattle.lnfs_world.specs.World.{Id, Node, Open, World, same_id}
-use Rattle.lnfs_world.specs.Opens.{has_any}
+use Rattle.lnfs_world.specs.Leases.{over_at}
+use Rattle.lnfs_world.specs.Opens.{has_any, conflicts}
 use Rattle.lnfs_world.specs.Outcome.{Site, Place, Outcome}
 use Rattle.lnfs_monitor.specs.declared.rule.Rule.TheVariants.{M9}
 use Rattle.lnfs_operations.specs.declared.Gate.TheVariants as gates
@@ -69,9 +70,9 @@ abbrev pub bit_of : Way → ℕ
 bit_of Reading = OPEN4_SHARE_ACCESS_READ
 bit_of Writing = OPEN4_SHARE_ACCESS_WRITE
 
--- Whether an open of a node denies a use. Those of levels that the subject doesn't dominate deny it nothing.
+-- whether an open stands in the way of a use without an open (RFC 8881 section 9.1.2)
 abbrev pub is_denied : Site → Place → World → Node → Way → Bool
-is_denied site p w n way = list_any (λ o. same_id n.id o.node && (site.dom p.subject o.id.level && has_any o.deny (bit_of way))) w.opens
+is_denied site p w n way = conflicts site.dom p.subject None n.id (bit_of way) 0 (over_at w.clients p.moment) w.opens
 
 abbrev pub where_undenied : {R : Type 0} → Site → Place → World → Node → Way → Outcome (Answer R) → Outcome (Answer R)
 where_undenied site p w n way next = demand (not (is_denied site p w n way)) (refuse p gates.Open NFS4ERR_LOCKED) next

@@ -1,5 +1,6 @@
 //! The laws of each operation, as contracts of functions that do nothing.
-ghost use Rattle.std.specs.Prelude.{◌≡◌, ◌≤◌, ◌<◌, ◌+◌, ℕ, Bool, List, [], ◌∷◌, length, Some, None};
+ghost use Rattle.std.specs.Prelude.{◌≡◌, ◌≤◌, ◌<◌, ◌+◌, ◌==◌, ℕ, Bool, true, false, List, [], ◌∷◌, length, Some, None};
+ghost use Rattle.std.specs.List.{AllByRecursion};
 ghost use Rattle.lnfs_calipso.specs.Label.{IsPreorderWithBottom};
 ghost use Rattle.lnfs_types.specs.declared.event.Moment.{Moment};
 ghost use Rattle.lnfs_attrs.specs.declared.bitmap.Bitmap.{Bitmap};
@@ -15,16 +16,18 @@ ghost use Rattle.lnfs_arguments.specs.declared.types.What.{What};
 ghost use Rattle.lnfs_arguments.specs.declared.types.CreateSession.{CreateSession};
 ghost use Rattle.lnfs_arguments.specs.declared.types.Sequence.{Sequence};
 ghost use Rattle.lnfs_results.specs.declared.types.OpResult.{OpResult};
-ghost use Rattle.lnfs_world.specs.World.{Id, Kept, Client, Slot, Session, client_at};
-ghost use Rattle.lnfs_world.specs.Outcome.{Site, Place, View, Footprint, begins_at};
+ghost use Rattle.lnfs_world.specs.World.{Id, Kept, Client, Slot, Session, Node, World, client_at};
+ghost use Rattle.lnfs_world.specs.Leases.{is_over, renewed};
+ghost use Rattle.lnfs_world.specs.Outcome.{Site, Place, Stands, View, Footprint, begins_at, done_to};
+ghost use Rattle.lnfs_world.specs.Tame.{NoneFalls};
 ghost use Rattle.lnfs_world.specs.Both.{Both, both_seen, BothStand};
 ghost use Rattle.lnfs_world.specs.Lawful.{Lawful};
 ghost use Rattle.lnfs_world.specs.Labels.{LabelsRise};
-ghost use Rattle.lnfs_operations.specs.declared.numbers.TheConstants.{LEAST_SIZE, MOST_SIZE, LARGEST_WRAPPING};
+ghost use Rattle.lnfs_operations.specs.declared.numbers.TheConstants.{LEAST_SIZE, MOST_SIZE};
 ghost use Rattle.lnfs_operations.specs.ExchangeId.{Arguments, exchange_id};
 ghost use Rattle.lnfs_operations.specs.CreateSession.{create_session};
 ghost use Rattle.lnfs_operations.specs.DestroySession.{destroy_session};
-ghost use Rattle.lnfs_operations.specs.Sequence.{Sent, sequence};
+ghost use Rattle.lnfs_operations.specs.Sequence.{Sent, begun_in, sequence};
 ghost use Rattle.lnfs_operations.specs.DestroyClientId.{destroy_clientid};
 ghost use Rattle.lnfs_operations.specs.ReclaimComplete.{reclaim_complete};
 ghost use Rattle.lnfs_operations.specs.FileHandles.{put_fh, put_root_fh, get_fh, save_fh, restore_fh};
@@ -34,11 +37,12 @@ ghost use Rattle.lnfs_operations.specs.ReadLink.{read_link};
 ghost use Rattle.lnfs_operations.specs.Keeping.{next_sequence, keep_result, keep_created};
 ghost use Rattle.lnfs_operations.specs.Identifiers.{client_named};
 ghost use Rattle.lnfs_operations.specs.InOrder.{sequence_before};
-ghost use Rattle.lnfs_operations.specs.Served.{operation};
+ghost use Rattle.lnfs_operations.specs.Served.{row, operation};
 ghost use Rattle.lnfs_operations.specs.SlotRule.{served};
 ghost use Rattle.lnfs_operations.specs.Accepted.{IsSent, AllAccepted, too_many};
 ghost use Rattle.lnfs_operations.specs.Retries.{Names};
-ghost use Rattle.lnfs_operations.specs.Sizes.{Sizes, SpellsShortly, IsRead};
+ghost use Rattle.lnfs_operations.specs.Sizes.{Sizes, FitsResponse, LabelsFit, IsRead, is_level, IsOpRead};
+ghost use Rattle.lnfs_operations.specs.Bounds.{Bounds, IsSound};
 ghost use Rattle.lnfs_operations.specs.Bounded.{IsBounded};
 ghost use Rattle.lnfs_operations.specs.Shown.{bitmap_of, answer_to};
 ghost use Rattle.lnfs_operations.specs.Handles.{handle_of};
@@ -49,7 +53,7 @@ ghost use Rattle.lnfs_operations.specs.ReadDir.{Arguments as Listing, read_dir};
 ghost use Rattle.lnfs_operations.specs.Link.{link};
 ghost use Rattle.lnfs_operations.specs.Remove.{remove};
 ghost use Rattle.lnfs_operations.specs.Rename.{rename};
-ghost use Rattle.lnfs_operations.specs.Open.{Arguments as Opening, open_file};
+ghost use Rattle.lnfs_operations.specs.Open.{Arguments as Opening, passed_over, open_file};
 ghost use Rattle.lnfs_operations.specs.Close.{close};
 ghost use Rattle.lnfs_operations.specs.Read.{Arguments as Reading, read};
 ghost use Rattle.lnfs_operations.specs.Write.{Arguments as Writing, write, commit};
@@ -289,9 +293,10 @@ pub fn retries_are_answered_again<X: ExtraRows>()
         served X.extra site sent c (begins_at level moment) b
         ≡ record { answer = too_many c args; place = begins_at level moment; state = b } }
     // So what a slot keeps was accepted: its arguments are read as a COMPOUND of no more operations than the session grants.
-    ensures accepted { (site : Site) → IsPreorderWithBottom site.dom → SpellsShortly site →
+    ensures accepted { (site : Site) → IsPreorderWithBottom site.dom → LabelsFit site →
         (sent : Sent) (c : Compound) (level : ℕ) (moment : Moment) (b : Both X.extra.Row) →
-        BothStand X.extra.Fact site.dom (begins_at level moment) b → Sizes b.world → IsRead c →
+        BothStand X.extra.Fact site.dom (begins_at level moment) b → is_level site level ≡ true →
+        Bounds site b.world → IsRead c →
         IsSent X.extra.grammar sent c → AllAccepted X.extra.grammar b.world →
         AllAccepted X.extra.grammar (served X.extra site sent c (begins_at level moment)
         b).state.world }
@@ -302,46 +307,65 @@ pub fn retries_are_answered_again<X: ExtraRows>()
 /// refused has at most 12 bytes. So it is where world and place stand, labels are short, and what is stored keeps
 /// its limits. These are kept behind each operation, so that the next one finds them.
 pub fn results_are_bounded<X: ExtraRows>()
-    ensures bounded { (site : Site) → IsPreorderWithBottom site.dom → SpellsShortly site →
+    ensures bounded { (site : Site) → IsPreorderWithBottom site.dom → LabelsFit site →
         (sent : Sent) (c : Compound) (so_far : List OpResult) (op : Op) (p : Place)
         (b : Both X.extra.Row) →
         BothStand X.extra.Fact site.dom p b → Sizes b.world →
         IsBounded X.extra.grammar op (operation X.extra site sent c so_far op p b).answer }
-    ensures kept { (site : Site) → IsPreorderWithBottom site.dom → SpellsShortly site →
+    ensures kept { (site : Site) → IsPreorderWithBottom site.dom → LabelsFit site →
         (sent : Sent) (c : Compound) (so_far : List OpResult) (op : Op) (p : Place)
         (b : Both X.extra.Row) →
-        BothStand X.extra.Fact site.dom p b → Sizes b.world →
+        IsOpRead op → is_level site p.subject ≡ true →
+        BothStand X.extra.Fact site.dom p b → Bounds site b.world →
         let t = operation X.extra site sent c so_far op p b in
-        BothStand X.extra.Fact site.dom t.place t.state × Sizes t.state.world }
+        BothStand X.extra.Fact site.dom t.place t.state × Bounds site t.state.world }
 {}
 
 /// The result of a new COMPOUND on an accepted slot leaves room in a response of its session for the largest
 /// wrapping in an RPC message (RFC 8881 section 2.10.6.4).
 pub fn results_leave_room<X: ExtraRows>()
-    ensures { (site : Site) → IsPreorderWithBottom site.dom → SpellsShortly site →
+    ensures { (site : Site) → IsPreorderWithBottom site.dom → LabelsFit site →
         (sent : Sent) (c : Compound) (level : ℕ) (moment : Moment) (b : Both X.extra.Row)
         (args : Sequence) (rest : List Op) (x : Session) (slot : Slot) →
-        BothStand X.extra.Fact site.dom (begins_at level moment) b → Sizes b.world → c.minor ≡ 2 →
-        c.ops ≡ ops.Sequence args ∷ rest →
+        BothStand X.extra.Fact site.dom (begins_at level moment) b → is_level site level ≡ true →
+        Bounds site b.world → c.minor ≡ 2 →
+        c.ops ≡ ops.Sequence args ∷ rest → AllByRecursion IsOpRead rest →
         Names level b.world args sent x slot → args.sequence ≡ next_sequence slot.sequence →
         length c.tag ≤ 1024 → LEAST_SIZE ≤ x.channel.max_response →
-        length (served X.extra site sent c (begins_at level moment) b).answer.result
-        + LARGEST_WRAPPING ≤ x.channel.max_response }
+        FitsResponse x.channel.max_response
+        (served X.extra site sent c (begins_at level moment) b).answer.result }
 {}
 
-/// Whatever COMPOUND that was read is served, what sessions grant, the lengths of kept results, stored labels and
-/// the texts of links stay within the limits of the server, and with its wrapping each result has at most the
-/// greatest size of a response.
-pub fn sizes_are_kept<X: ExtraRows>()
-    ensures kept { (site : Site) → IsPreorderWithBottom site.dom → SpellsShortly site →
+/// All rows stay within their bounds: their levels are those of the site, their numbers and lengths within the limits of the
+/// server, and no level has more rows of a kind than it may have. A site tells labels of its own levels, and the subject
+/// is of one of them; of what a request brings, the reading of its bytes has tested what no operation tests.
+pub fn bounds_are_kept<X: ExtraRows>()
+    // by each operation of the table,
+    ensures table { (site : Site) → IsPreorderWithBottom site.dom → LabelsFit site →
+        (sent : Sent) (op : Op) (p : Place) (w : World) →
+        IsOpRead op → is_level site p.subject ≡ true → Stands site.dom p w →
+        Bounds site w → Bounds site (done_to w (row site sent op p w)) }
+    // and by a whole COMPOUND, further operations and the keeping of its result too. With its wrapping the result has at
+    // most the greatest size of a response.
+    ensures kept { (site : Site) → IsPreorderWithBottom site.dom → LabelsFit site →
         (sent : Sent) (c : Compound) (level : ℕ) (moment : Moment) (b : Both X.extra.Row) →
-        BothStand X.extra.Fact site.dom (begins_at level moment) b → Sizes b.world → IsRead c →
-        Sizes (served X.extra site sent c (begins_at level moment) b).state.world }
-    ensures short { (site : Site) → IsPreorderWithBottom site.dom → SpellsShortly site →
+        IsRead c → is_level site level ≡ true →
+        BothStand X.extra.Fact site.dom (begins_at level moment) b → Bounds site b.world →
+        IsSound site (served X.extra site sent c (begins_at level moment) b).state.world }
+    ensures short { (site : Site) → IsPreorderWithBottom site.dom → LabelsFit site →
         (sent : Sent) (c : Compound) (level : ℕ) (moment : Moment) (b : Both X.extra.Row) →
-        BothStand X.extra.Fact site.dom (begins_at level moment) b → Sizes b.world → IsRead c →
-        length (served X.extra site sent c (begins_at level moment) b).answer.result
-        + LARGEST_WRAPPING ≤ MOST_SIZE }
+        IsRead c → is_level site level ≡ true →
+        BothStand X.extra.Fact site.dom (begins_at level moment) b → Bounds site b.world →
+        FitsResponse MOST_SIZE
+        (served X.extra site sent c (begins_at level moment) b).answer.result }
+{}
+
+/// Whatever COMPOUND is served, no last number of a level falls. So no identifier is given twice.
+pub fn numbers_never_fall<X: ExtraRows>()
+    ensures { (site : Site) → IsPreorderWithBottom site.dom →
+        (sent : Sent) (c : Compound) (p : Place) (b : Both X.extra.Row) →
+        BothStand X.extra.Fact site.dom p b → (level : ℕ) →
+        NoneFalls level b.world.lasts (served X.extra site sent c p b).state.world.lasts }
 {}
 
 /// Whatever COMPOUND is served, labels go up alone: a node that stands before and after has a label afterwards that
@@ -352,6 +376,21 @@ pub fn labels_rise<X: ExtraRows>()
         BothStand X.extra.Fact site.dom (begins_at level moment) b →
         LabelsRise site.dom b.world (served X.extra site sent c (begins_at level moment)
         b).state.world }
+{}
+
+/// A client's lease lasts for 90 seconds from its last renewal (RFC 8881 section 8.3).
+pub fn leases_end()
+    // At 90 seconds it isn't over yet, nor is it at a moment before the renewal; behind them it is.
+    ensures lasts { (seen secs : ℕ) → secs ≤ seen + 90 → is_over secs (Some seen) ≡ false }
+    ensures ends { (seen secs : ℕ) → seen + 90 < secs → is_over secs (Some seen) ≡ true }
+    // The SEQUENCE of a new COMPOUND renews the lease of its session's client.
+    ensures renews { (p : Place) (w : World) (x : Session) (c : Client) →
+        let i : Id = record { level = p.subject; number = x.client } in
+        client_at w.clients i ≡ Some c → client_at (done_to w (begun_in p w x)).clients i
+        ≡ Some (renewed p.moment c) }
+    // What an OPEN ends is of its subject's own level.
+    ensures own { (args : Opening) (p : Place) (w : World) (client : ℕ) (n : Node) →
+        AllByRecursion (λ o. (o.id.level == p.subject) ≡ true) (passed_over args p w client n) }
 {}
 
 /// A bitmap is that of the attributes that it has, and that of a test has those below 256 that pass. What is

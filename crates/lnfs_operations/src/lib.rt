@@ -7,18 +7,23 @@
 
 mod came_laws;
 mod extra;
+mod label_laws;
 mod laws;
+mod named_laws;
 pub mod numbers;
 
 pub use came_laws::requests_act_by_how_they_came;
 pub use extra::ExtraRows;
+pub use label_laws::labels_are_kept_as_given;
 pub use laws::{
-    attributes_are_told, compounds_are_lawful, exchange_id_is_lawful, files_are_lawful,
-    keeping_is_lawful, labels_rise, making_is_lawful, naming_is_lawful, operations_are_lawful,
-    reading_is_lawful, results_are_bounded, results_leave_room, retries_are_answered_again,
-    session_operations_are_lawful, sizes_are_kept,
+    attributes_are_told, bounds_are_kept, compounds_are_lawful, exchange_id_is_lawful,
+    files_are_lawful, keeping_is_lawful, labels_rise, leases_end, making_is_lawful,
+    naming_is_lawful, numbers_never_fall, operations_are_lawful, reading_is_lawful,
+    results_are_bounded, results_leave_room, retries_are_answered_again,
+    session_operations_are_lawful,
 };
 use lnfs_monitor::Rule;
+pub use named_laws::other_sessions_stay;
 
 /// Which kind of test refused an operation.
 #[derive(Clone, Copy, Debug, PartialEq, Eq)]

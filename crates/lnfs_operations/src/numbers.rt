@@ -29,9 +29,8 @@ pub const MOST_OPERATIONS: u32 = 32;
 /// The most requests at a time, and so the most slots, that a session grants.
 pub const MOST_REQUESTS: u32 = 16;
 
-/// The largest wrapping of a result in its RPC message: the 100 bytes of a signed one, and 3 pad
-/// bytes, which only the bytes of a further operation can ask for.
-pub const LARGEST_WRAPPING: u32 = 103;
+/// The largest wrapping of a result in its RPC message, that of a signed reply, without the pad bytes of the result.
+pub const LARGEST_WRAPPING: u32 = 100;
 
 /// The room of a response that no result takes: the largest wrapping of a reply in its RPC message, and a
 /// refusal.

@@ -1,6 +1,9 @@
 -- The outcomes of a CREATE_SESSION that brings the next sequence of its client.
-use Rattle.std.proofs.Common.{◌≡◌, ℕ, ◌+◌, Bool, true, false, not, List, [], ◌∷◌, ◌++◌, Option, Some, None, refl, sym, ap, ◌∙◌, arith}
+use Rattle.std.proofs.Common.{◌≡◌, ℕ, ◌+◌, Bool, true, false, cond, not, List, [], ◌∷◌, ◌++◌, Option, Some, None, refl, sym, ap, ◌∙◌, arith}
 use Rattle.std.specs.Prelude.{◌==◌, filter, find, nat_lt, option_map}
+use Rattle.std.specs.Ordering.{match_ordering}
+use Rattle.std.specs.declared.cmp.Ordering.{Ordering}
+use Rattle.std.specs.declared.cmp.Ordering.TheVariants.{Less, Equal, Greater}
 use Rattle.std.proofs.lemmas.Bool.Decides.{nat_tests}
 use Rattle.lnfs_types.specs.declared.event.Moment.{Moment}
 use Rattle.lnfs_arguments.specs.declared.types.CreateSession.{CreateSession}
@@ -9,23 +12,24 @@ use Rattle.lnfs_world.specs.World.{Id, Client, Session, World, client_order, ses
 use Rattle.lnfs_world.specs.Change.{SetClient, AddSession, is_session_of, apply_all}
 use Rattle.lnfs_world.specs.Outcome.{begins_at}
 use Rattle.lnfs_world.specs.declared.numbers.TheConstants.{LAST_NUMBER}
-use Rattle.lnfs_world.proofs.Keys.{id_same}
+use Rattle.lnfs_world.proofs.Keys.{id_same, id_itself, id_tie}
+use Rattle.lnfs_world.proofs.KeptClients.{client_at-inserted}
 use Rattle.lnfs_operations.specs.declared.numbers.TheConstants.{SESSIONS_OF_A_LEVEL}
 use Rattle.lnfs_operations.specs.Chain.{done}
 use Rattle.lnfs_operations.specs.ExchangeId.{dropped}
-use Rattle.lnfs_operations.specs.CreateSession.{New, Again, create_session, made, is_large_enough, granted_of, is_replaced, new_session, sessions_of}
+use Rattle.lnfs_operations.specs.CreateSession.{New, Again, create_session, made, is_large_enough, granted_of, is_replaced, new_session, sessions_of, confirmed as created_row}
 use Rattle.lnfs_operations.specs.Identifiers.{client_named}
 use Rattle.lnfs_operations.specs.InOrder.{sequence_before}
 use Rattle.lnfs_counts.proofs.Rows.{found_id}
 use Rattle.lnfs_session.specs.Indexed.{own_id}
 use Rattle.lnfs_session.specs.Arrivals.{arrival, Next}
 use Rattle.lnfs_session.proofs.Arriving.{followed, ordered}
-use Rattle.lnfs_session.specs.Standing.{Lists, standing, lists_of, clients_left, sessions_left, confirmed}
+use Rattle.lnfs_session.specs.Standing.{Lists, standing, lists_of, clients_left, sessions_left, clients_set, seen_at}
 
 -- what is done for a client's record that passes the tests
 pub makes : (args : CreateSession) (level : ℕ) (moment : Moment) (rest : World) (lists : Lists) (c : Client) → is_large_enough args.fore ≡ true → nat_lt (sessions_of level lists.sessions) SESSIONS_OF_A_LEVEL ≡ true → nat_lt (last_of level lists.session_lasts) LAST_NUMBER ≡ true → made args (begins_at level moment) (standing rest lists) c ≡
     done (begins_at level moment) (New (last_of level lists.session_lasts + 1) (granted_of args.fore))
-    (dropped (find (is_replaced c) lists.clients) ++ SetClient (confirmed c) ∷ AddSession (new_session (record { level = level; number = last_of level lists.session_lasts + 1 }) c (granted_of args.fore)) ∷ [])
+    (dropped (find (is_replaced c) lists.clients) ++ SetClient (created_row (begins_at level moment) c) ∷ AddSession (new_session (record { level = level; number = last_of level lists.session_lasts + 1 }) c (granted_of args.fore)) ∷ [])
 makes args level moment rest lists c large room number = rw (large, room, number) refl
 
 -- where the next sequence of a client comes, its session is made
@@ -79,3 +83,22 @@ session-added c x clients rows added level client all some = at (find (is_replac
       where
         apart : same_id c.id d.id ≡ false → not (is_session_of d.id x) ≡ true
         apart differ = grind (arith, nat_tests)
+
+-- a row that is set, and is set again in another state
+twice : (secs : ℕ) (row : Client) (rows : List Client) → inserted client_order (seen_at secs row) (inserted client_order row rows) ≡ inserted client_order (seen_at secs row) rows
+twice secs row [] = ap (λ o. match_ordering o (seen_at secs row ∷ row ∷ []) (seen_at secs row ∷ []) (row ∷ seen_at secs row ∷ [])) (id_tie row.id row.id (id_itself row.id))
+twice secs row (x ∷ xs) = by (client_order row x) refl (twice secs row xs)
+  where
+    tie : client_order row row ≡ Equal
+    tie = id_tie row.id row.id (id_itself row.id)
+
+    by : (o : Ordering) → client_order row x ≡ o → inserted client_order (seen_at secs row) (inserted client_order row xs) ≡ inserted client_order (seen_at secs row) xs → inserted client_order (seen_at secs row) (inserted client_order row (x ∷ xs)) ≡ inserted client_order (seen_at secs row) (x ∷ xs)
+    by Less is rest = grind (arith, is, tie)
+    by Equal is rest = grind (arith, is, tie)
+    by Greater is rest = grind (arith, is, rest)
+
+-- the row of a client that was set is there, so its lease begins again
+pub set_renewed : (secs : ℕ) (row : Client) (rows : List Client) → clients_set (seen_at secs) (client_at (inserted client_order row rows) row.id) (inserted client_order row rows) ≡ inserted client_order (seen_at secs row) rows
+set_renewed secs row rows =
+    let there : client_at (inserted client_order row rows) row.id ≡ Some row = client_at-inserted row rows row.id ∙ ap (λ b. cond b (Some row) (client_at rows row.id)) (id_itself row.id) in
+    ap (λ o. clients_set (seen_at secs) o (inserted client_order row rows)) there ∙ twice secs row rows

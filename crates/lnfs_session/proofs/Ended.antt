@@ -1,5 +1,5 @@
 -- The end of a client's sessions, one after the other.
-use Rattle.std.proofs.Common.{◌≡◌, Bool, true, not, ◌||◌, List, [], ◌∷◌, Option, Some, None, refl, ap, ◌∙◌, arith}
+use Rattle.std.proofs.Common.{◌≡◌, Bool, true, false, not, ◌||◌, List, [], ◌∷◌, Option, Some, None, refl, ap, ◌∙◌, arith}
 use Rattle.std.specs.Prelude.{map, find, option_map, is_some}
 use Rattle.std.specs.List.{list_all, list_any}
 use Rattle.std.specs.List.Sorted.{IsStrictlySortedBy}
@@ -14,10 +14,21 @@ use Rattle.lnfs_counts.proofs.Entries.{rising-entries}
 use Rattle.lnfs_session.specs.declared.rows.SessionRef.{SessionRef}
 use Rattle.lnfs_session.specs.declared.rows.Session.{Session}
 use Rattle.lnfs_session.specs.Listed.{session_id_of, session_of}
+use Rattle.lnfs_session.specs.Sessions.{own_id}
 use Rattle.lnfs_session.proofs.Entries.{session_cmp, session_keys}
 
-abbrev own_id : world.Session → world.Id
-own_id x = x.id
+-- ---- whether there is one
+pub some_seen : {X Y : Type 0} (f : X → Y) (o : Option X) → is_some o ≡ is_some (option_map f o)
+some_seen f None = refl
+some_seen f (Some x) = refl
+
+pub none_is : {X : Type 0} (o : Option X) → is_some o ≡ false → o ≡ None
+none_is None e = refl
+none_is (Some x) e = absurd (cc)
+
+pub some_is : {X : Type 0} (o : Option X) → is_some o ≡ true → (x : X) × (o ≡ Some x)
+some_is None e = absurd (cc)
+some_is (Some x) e = (x, refl)
 
 module _ (p : world.Session → Bool) where
   -- no two sessions have one identifier

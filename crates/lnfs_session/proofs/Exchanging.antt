@@ -42,7 +42,7 @@ left_as None clients = refl
 left_as (Some c) clients = refl
 
 -- the lists after the owner's pending record gave way
-pub renewed_as : (rest : World) (lists : Lists) (o : Option Client) (row : Client) →
+pub pending_as : (rest : World) (lists : Lists) (o : Option Client) (row : Client) →
     record { clients = inserted client_order row (left_by o lists.clients); sessions = sessions_left (option_map (λ c. c.id) o) lists.sessions; client_lasts = inserted level_order row.id lists.client_lasts; session_lasts = lists.session_lasts }
     ≡ lists_of (apply_all (dropped o ++ AddClient row ∷ []) (standing rest lists))
-renewed_as rest lists o row = (λ i. record { clients = inserted client_order row (left_as o lists.clients i); sessions = sessions_left (option_map (λ c. c.id) o) lists.sessions; client_lasts = inserted level_order row.id lists.client_lasts; session_lasts = lists.session_lasts }) ∙ sym (replaced rest lists o row)
+pending_as rest lists o row = (λ i. record { clients = inserted client_order row (left_as o lists.clients i); sessions = sessions_left (option_map (λ c. c.id) o) lists.sessions; client_lasts = inserted level_order row.id lists.client_lasts; session_lasts = lists.session_lasts }) ∙ sym (replaced rest lists o row)

@@ -15,4 +15,5 @@ pub mod Entered
 pub mod Replaced
 pub mod Confirming
 pub mod ClientRows
+pub mod Recounted
 mod Slots

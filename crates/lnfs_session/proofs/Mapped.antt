@@ -1,8 +1,7 @@
 -- Rows that are seen through a view.
-use Rattle.std.proofs.Common.{◌≡◌, Bool, true, false, List, [], ◌∷◌, refl, sym, ◌∙◌, arith}
-use Rattle.std.specs.Prelude.{map, filter, find, count_by, length, option_map}
+use Rattle.std.proofs.Common.{◌≡◌, Bool, true, false, List, [], ◌∷◌, refl, arith}
+use Rattle.std.specs.Prelude.{map, filter, find, option_map}
 use Rattle.std.specs.List.{list_any}
-use Rattle.std.proofs.lemmas.List.Sums.{length-filter}
 
 module _ {X Y : Type 0} (f : X → Y) where
   pub find-map : (q : Y → Bool) (xs : List X) → find q (map f xs) ≡ option_map f (find (λ x. q (f x)) xs)
@@ -25,10 +24,3 @@ module _ {X Y : Type 0} (f : X → Y) where
   pub filter-map : (q : Y → Bool) (xs : List X) → filter q (map f xs) ≡ map f (filter (λ x. q (f x)) xs)
   filter-map q [] = refl
   filter-map q (x ∷ xs) = grind (arith, filter-map q xs)
-
-  length-filtered : (q : Y → Bool) (xs : List X) → length (filter q (map f xs)) ≡ length (filter (λ x. q (f x)) xs)
-  length-filtered q [] = refl
-  length-filtered q (x ∷ xs) = grind (arith, length-filtered q xs)
-
-  pub count-map : (q : Y → Bool) (xs : List X) → count_by q (map f xs) ≡ count_by (λ x. q (f x)) xs
-  count-map q xs = sym (length-filter q (map f xs)) ∙ length-filtered q xs ∙ length-filter (λ x. q (f x)) xs

@@ -108,11 +108,11 @@ module _ (rows : List Client) (lasts : List Id) (last records : ℕ → ℕ) (nu
             absurd (omega (arith, given, next, own))
         by false same = same
 
-    pub renewed_rows : clients_left (ids_at row.id.level N.pending) (inserted client_order row rows) ≡ inserted client_order row (left_by (find (is_pending row.id.level row.owner) rows) rows)
-    renewed_rows = commutes N.pending refl ∙ ap (inserted client_order row) (sym (left_at row.id.level row.owner false) ∙ ap (λ o. left_by o rows) (sym (find-pending rows lasts last records numbers ix row.id.level row.owner)))
+    pub pending_rows : clients_left (ids_at row.id.level N.pending) (inserted client_order row rows) ≡ inserted client_order row (left_by (find (is_pending row.id.level row.owner) rows) rows)
+    pending_rows = commutes N.pending refl ∙ ap (inserted client_order row) (sym (left_at row.id.level row.owner false) ∙ ap (λ o. left_by o rows) (sym (find-pending rows lasts last records numbers ix row.id.level row.owner)))
 
-    pub renewed_indexed : IsIndexed (clients_left (ids_at row.id.level N.pending) (inserted client_order row rows)) (inserted level_order row.id lasts) (with_number row.id.level row.id.number last) (with_number row.id.level (without (records row.id.level) N.pending + 1) records) (with_numbers row.id.level row.owner (record N { pending = Some row.id.number }) numbers)
-    renewed_indexed = subst (λ (new : List Client). IsIndexed new (inserted level_order row.id lasts) (with_number row.id.level row.id.number last) (with_number row.id.level (without (records row.id.level) N.pending + 1) records) (with_numbers row.id.level row.owner (record N { pending = Some row.id.number }) numbers)) (sym (commutes N.pending refl)) (by N.pending refl)
+    pub pending_indexed : IsIndexed (clients_left (ids_at row.id.level N.pending) (inserted client_order row rows)) (inserted level_order row.id lasts) (with_number row.id.level row.id.number last) (with_number row.id.level (without (records row.id.level) N.pending + 1) records) (with_numbers row.id.level row.owner (record N { pending = Some row.id.number }) numbers)
+    pending_indexed = subst (λ (new : List Client). IsIndexed new (inserted level_order row.id lasts) (with_number row.id.level row.id.number last) (with_number row.id.level (without (records row.id.level) N.pending + 1) records) (with_numbers row.id.level row.owner (record N { pending = Some row.id.number }) numbers)) (sym (commutes N.pending refl)) (by N.pending refl)
       where
         by : (o : Option ℕ) → N.pending ≡ o → IsIndexed (inserted client_order row (clients_left (ids_at row.id.level o) rows)) (inserted level_order row.id lasts) (with_number row.id.level row.id.number last) (with_number row.id.level (without (records row.id.level) o + 1) records) (with_numbers row.id.level row.owner (record N { pending = Some row.id.number }) numbers)
         by None is = added rows lasts last records numbers ix row pending next is

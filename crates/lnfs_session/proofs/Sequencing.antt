@@ -9,5 +9,5 @@ use Rattle.lnfs_operations.specs.Identifiers.{session_named, session_under}
 use Rattle.lnfs_operations.specs.Sequence.{Sent, sequence, on_slot}
 use Rattle.lnfs_session.specs.Standing.{Lists, standing}
 
-pub came_on : (args : Sequence) (sent : Sent) (level : ℕ) (moment : Moment) (rest : World) (lists : Lists) → ((session_named args.session).level == level) ≡ true → (x : Session) → session_under args.session lists.sessions ≡ Some x → nat_le sent.size x.channel.max_request ≡ true → nat_le sent.count x.channel.max_operations ≡ true → (slot : Slot) → slice_get x.slots args.slot ≡ Some slot → sequence args sent (begins_at level moment) (standing rest lists) ≡ on_slot args sent (begins_at level moment) x slot
+pub came_on : (args : Sequence) (sent : Sent) (level : ℕ) (moment : Moment) (rest : World) (lists : Lists) → ((session_named args.session).level == level) ≡ true → (x : Session) → session_under args.session lists.sessions ≡ Some x → nat_le sent.size x.channel.max_request ≡ true → nat_le sent.count x.channel.max_operations ≡ true → (slot : Slot) → slice_get x.slots args.slot ≡ Some slot → sequence args sent (begins_at level moment) (standing rest lists) ≡ on_slot args sent (begins_at level moment) (standing rest lists) x slot
 came_on args sent level moment rest lists own x found size count slot there = rw (own, found, size, count, there) refl

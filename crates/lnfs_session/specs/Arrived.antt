@@ -1,10 +1,13 @@
 -- What the code's answers of a SEQUENCE stand for.
-use Rattle.std.specs.Prelude.{ℕ, ◌-◌, List}
+use Rattle.std.specs.Prelude.{ℕ, ◌-◌, List, [], Result, Ok, Err}
+use Rattle.lnfs_types.specs.declared.event.Moment.{Moment}
 use Rattle.lnfs_arguments.specs.declared.types.Sequence.{Sequence}
-use Rattle.lnfs_world.specs.World.{Id}
+use Rattle.lnfs_world.specs.World.{Id, Client, client_at}
+use Rattle.lnfs_world.specs.Change.{Change}
 use Rattle.lnfs_operations.specs.Chain.{Answer, Done, Refused}
-use Rattle.lnfs_operations.specs.Sequence.{Sequenced}
+use Rattle.lnfs_operations.specs.Sequence.{Sequenced, renewing}
 use Rattle.lnfs_operations.specs.Sequence as definition
+use Rattle.lnfs_session.specs.declared.clients.SessionError.{SessionError}
 use Rattle.lnfs_session.specs.declared.sequence.Seq.{Seq}
 use Rattle.lnfs_session.specs.declared.sequence.Seq.TheVariants as seq
 use Rattle.lnfs_session.specs.Listed.{id_of, session_id_of}
@@ -28,3 +31,12 @@ arrival_of (seq.Replay reply) = Again reply.now
 abbrev pub answered_as : {R S : Type 0} → (R → S) → Answer R → Answer S
 answered_as f (Done r) = Done (f r)
 answered_as f (Refused why) = Refused why
+
+-- What is left to change where it came so: the lease of the client of a new one begins again.
+abbrev pub renewed_for : Moment → List Client → Arrived → List Change
+renewed_for moment clients (New session slot client room highest) = renewing moment (client_at clients client)
+renewed_for moment clients (Again reply) = []
+
+abbrev pub left_for : Moment → List Client → Result Seq SessionError → List Change
+left_for moment clients (Ok seq) = renewed_for moment clients (arrival_of seq)
+left_for moment clients (Err e) = []

@@ -7,3 +7,4 @@ pub mod Arrived
 pub mod Levels
 pub mod Indexed
 pub mod Records
+pub mod Sessions

@@ -29,6 +29,7 @@ client_of e = record {
   sequence = e.1.sequence;
   kept = option_map kept_of e.1.kept;
   reclaimed = e.1.reclaimed;
+  seen = e.1.seen;
 }
 
 abbrev pub channel_of : Channel → world.Channel
@@ -50,10 +51,6 @@ session_of e = record {
   channel = channel_of e.1.channel;
   slots = map slot_of e.1.slots.items;
 }
-
--- the last number that a level was given
-abbrev pub last_of : ℕ × ℕ → world.Id
-last_of e = record { level = e.0; number = e.1 }
 
 -- the key of a session id
 abbrev pub session_key : List ℕ → SessionRef

@@ -24,8 +24,8 @@ abbrev pub next_id : ℕ → List Id → Id
 next_id level lasts = record { level = level; number = last_of level lasts + 1 }
 
 -- after an EXCHANGE_ID that makes a record (RFC 8881 section 18.35): the owner's pending one gives way to it
-abbrev pub renewed : ℕ → List ℕ → List ℕ → ClientLists → ClientLists
-renewed level owner verifier lists = record {
+abbrev pub pending_replaced : ℕ → List ℕ → List ℕ → ClientLists → ClientLists
+pending_replaced level owner verifier lists = record {
   clients = inserted client_order (new_client (next_id level lists.lasts) (record { verifier = verifier; owner = owner; flags = 0 })) (left_by (find (is_pending level owner) lists.clients) lists.clients);
   lasts = inserted level_order (next_id level lists.lasts) lists.lasts;
 }

@@ -1,7 +1,7 @@
 -- The clients and the sessions of a world: what of it is kept here.
-use Rattle.std.specs.Prelude.{ℕ, true, not, List, [], filter, Option, Some, None}
+use Rattle.std.specs.Prelude.{ℕ, true, not, List, [], filter, Option, Some, None, option_and_then}
 use Rattle.lnfs_world.specs.Rows.{inserted}
-use Rattle.lnfs_world.specs.World.{Id, Kept, Client, Slot, Session, World, client_order, session_order, same_id}
+use Rattle.lnfs_world.specs.World.{Id, Kept, Client, Slot, Session, World, client_order, session_order, client_at, same_id}
 use Rattle.lnfs_operations.specs.Keeping.{next_sequence, with_slot}
 use Rattle.lnfs_world.specs.Change.{is_session_of}
 
@@ -56,6 +56,14 @@ answered kept c = record c { sequence = next_sequence c.sequence; kept = Some ke
 -- one whose client has said that it reclaims no more
 abbrev pub reclaimed : Client → Client
 reclaimed c = record c { reclaimed = true }
+
+-- one whose lease begins again at so many seconds
+abbrev pub seen_at : ℕ → Client → Client
+seen_at secs c = record c { seen = Some secs }
+
+-- the seconds at which the lease of a client was last renewed, if there is such a client and it was
+abbrev pub seen_of : List Client → Id → Option ℕ
+seen_of clients i = option_and_then (λ c. c.seen) (client_at clients i)
 
 abbrev pub sessions_set : (Session → Session) → Option Session → List Session → List Session
 sessions_set g None sessions = sessions

@@ -5,7 +5,7 @@ ghost use Rattle.lnfs_world.specs.World.{client_order, client_at};
 ghost use Rattle.lnfs_operations.specs.ExchangeId.{new_client};
 ghost use Rattle.lnfs_operations.specs.Keeping.{next_sequence};
 ghost use Rattle.lnfs_session.specs.Listed.{id_of, client_of, kept_of};
-ghost use Rattle.lnfs_session.specs.Standing.{answered, clients_left, clients_set, confirmed, reclaimed};
+ghost use Rattle.lnfs_session.specs.Standing.{answered, clients_left, clients_set, confirmed, reclaimed, seen_at};
 
 use crate::maps::drop_client;
 use crate::rows::{Client, ClientRef, Kept};
@@ -35,6 +35,7 @@ pub fn add_new(
         sequence: 1,
         kept: None,
         reclaimed: false,
+        seen: None,
     };
     rows.insert(id, client)?;
     Ok(())
@@ -93,4 +94,15 @@ pub fn mark_reclaimed(rows: &mut BTreeMap<ClientRef, Client>, id: ClientRef)
         return;
     };
     row.reclaimed = true;
+}
+
+/// A client's lease begins again at so many seconds.
+pub fn set_seen(rows: &mut BTreeMap<ClientRef, Client>, id: ClientRef, secs: u64)
+    ensures { map client_of rows.new.entries ≡ clients_set (seen_at secs)
+        (client_at (map client_of rows.old.entries) (id_of id)) (map client_of rows.old.entries) }
+{
+    let Some(row) = rows.get_mut(&id) else {
+        return;
+    };
+    row.seen = Some(secs);
 }

@@ -3,9 +3,8 @@ ghost use Rattle.std.specs.Prelude.{◌≡◌, true, false};
 ghost use Rattle.lnfs_session.specs.Standing.{no_lists};
 
 use crate::records::Records;
-use crate::rows::{Session, SessionRef};
+use crate::sessions::Sessions;
 use std::alloc::{AllocError, Global};
-use std::collections::BTreeMap;
 use std::marker::Model;
 use thiserror::Error;
 
@@ -37,22 +36,19 @@ impl From<AllocError> for SessionError {
 pub struct Clients {
     pub(crate) alloc: Global,
     pub(crate) records: Records,
-    pub(crate) sessions: BTreeMap<SessionRef, Session>,
-    pub(crate) session_lasts: BTreeMap<u32, u32>,
+    pub(crate) sessions: Sessions,
 }
 
 impl Model for Clients {
-    ghost use Rattle.std.specs.Prelude.{map};
     ghost use Rattle.lnfs_session.specs.Standing.{Lists};
-    ghost use Rattle.lnfs_session.specs.Listed.{session_of, last_of};
 
     ghost Value = { Lists };
 
     ghost view = { λ c. record {
       clients = c.records.clients;
-      sessions = map session_of c.sessions.entries;
+      sessions = c.sessions.sessions;
       client_lasts = c.records.lasts;
-      session_lasts = map last_of c.session_lasts.entries;
+      session_lasts = c.sessions.lasts;
     } };
 }
 
@@ -64,8 +60,7 @@ impl Clients {
         Clients {
             alloc,
             records: Records::new(alloc),
-            sessions: BTreeMap::new(alloc),
-            session_lasts: BTreeMap::new(alloc),
+            sessions: Sessions::new(alloc),
         }
     }
 }

@@ -13,7 +13,6 @@ ghost use Rattle.lnfs_session.specs.Standing.{lists_of, standing};
 
 use crate::arrival::{Arrival, came};
 use crate::clients::{Clients, SessionError, foreign, refused};
-use crate::maps::{add_session, drop_any_sessions, last_of, sessions_of};
 use crate::named::client_named;
 use crate::rows::{ClientRef, Session, Slot};
 use lnfs_arguments::statuses::{
@@ -103,13 +102,19 @@ impl Clients {
     }
 
     /// Makes a session of a client that has a record: the owner's other confirmed record gives way with its
-    /// sessions, and this one is confirmed.
-    fn make_session(&mut self, id: ClientRef, args: &CreateSession) -> Result<Created, SessionError>
+    /// sessions, this one is confirmed, and its lease begins again.
+    fn make_session(
+        &mut self,
+        id: ClientRef,
+        args: &CreateSession,
+        secs: u64,
+    ) -> Result<Created, SessionError>
         ensures answer { (moment : Moment) (rest : World) (c : world.Client) →
             client_at self.old.clients (id_of id) ≡ Some c →
             Answers (created_of self.old args.now) result
             (made args.now (begins_at id.level moment) (standing rest self.old) c).answer }
         ensures lists { UnlessMemory result ((moment : Moment) (rest : World) (c : world.Client) →
+            moment.secs ≡ secs →
             client_at self.old.clients (id_of id) ≡ Some c →
             self.new
             ≡ lists_of (done_to (standing rest self.old)
@@ -121,14 +126,12 @@ impl Clients {
         if !is_large_enough(&args.fore) {
             return Err(refused(NFS4ERR_TOOSMALL));
         }
-        if sessions_of(&self.sessions, id.level) >= SESSIONS_OF_A_LEVEL as usize {
+        if self.sessions.count(id.level) >= SESSIONS_OF_A_LEVEL {
             return Err(refused(NFS4ERR_NOSPC));
         }
-        let last = last_of(&self.session_lasts, id.level);
-        if last >= LAST_NUMBER {
+        if self.sessions.last(id.level) >= LAST_NUMBER {
             return Err(refused(NFS4ERR_NOSPC));
         }
-        let number = last + 1;
         let granted = granted_of(&args.fore);
         let session = Session {
             client: id.number,
@@ -136,15 +139,10 @@ impl Clients {
             slots: fresh_slots(self.alloc, granted.requests)?,
         };
         // What takes memory comes before all that changes.
-        add_session(
-            &mut self.sessions,
-            &mut self.session_lasts,
-            id.level,
-            number,
-            session,
-        )?;
+        let number = self.sessions.add(id.level, session)?;
         let dropped = self.records.confirm(id);
-        drop_any_sessions(&mut self.sessions, dropped);
+        self.records.renew(id, secs);
+        self.sessions.remove_any(dropped);
         Ok(Created::New {
             session: number,
             granted,
@@ -163,12 +161,14 @@ impl Clients {
         level: u32,
         args: &CreateSession,
         bytes: &[u8],
+        secs: u64,
     ) -> Result<Created, SessionError>
         ensures answer { (moment : Moment) (rest : World) →
             Answers (created_of self.old args.now) result
             (create_session args.now bytes.now (begins_at level moment)
             (standing rest self.old)).answer }
         ensures lists { UnlessMemory result ((moment : Moment) (rest : World) →
+            moment.secs ≡ secs →
             self.new
             ≡ lists_of (done_to (standing rest self.old)
             (create_session args.now bytes.now (begins_at level moment)
@@ -192,7 +192,7 @@ impl Clients {
             Arrival::Again(_) => Ok(Created::Replay),
             Arrival::FalseRetry => Err(refused(NFS4ERR_SEQ_FALSE_RETRY)),
             Arrival::Misordered => Err(refused(NFS4ERR_SEQ_MISORDERED)),
-            Arrival::Next => self.make_session(id, args),
+            Arrival::Next => self.make_session(id, args, secs),
         }
     }
 }

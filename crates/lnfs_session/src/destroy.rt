@@ -13,8 +13,7 @@ ghost use Rattle.lnfs_session.specs.Listed.{id_of, session_of};
 ghost use Rattle.lnfs_session.specs.Standing.{lists_of, standing};
 
 use crate::clients::{Clients, SessionError, foreign, refused};
-use crate::maps::{drop_session, has_session};
-use crate::named::{client_named, session_named, session_under};
+use crate::named::{client_named, session_named};
 use lnfs_arguments::statuses::{NFS4ERR_BADSESSION, NFS4ERR_CLIENTID_BUSY, NFS4ERR_STALE_CLIENTID};
 
 impl Clients {
@@ -35,8 +34,8 @@ impl Clients {
         if name.level != level {
             return Err(foreign(NFS4ERR_BADSESSION));
         }
-        let None = session_under(&self.sessions, &id) else {
-            drop_session(&mut self.sessions, name);
+        let None = self.sessions.under(&id) else {
+            self.sessions.remove(name);
             return Ok(());
         };
         Err(refused(NFS4ERR_BADSESSION))
@@ -64,7 +63,7 @@ impl Clients {
         let Some(_) = self.records.at(client) else {
             return Err(refused(NFS4ERR_STALE_CLIENTID));
         };
-        if has_session(&self.sessions, client) || opens {
+        if self.sessions.any_of(client) || opens {
             return Err(refused(NFS4ERR_CLIENTID_BUSY));
         }
         self.records.remove(client);

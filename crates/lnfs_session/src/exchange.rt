@@ -8,7 +8,6 @@ ghost use Rattle.lnfs_session.specs.Answers.{Answers, UnlessMemory, told_of};
 ghost use Rattle.lnfs_session.specs.Standing.{lists_of, standing};
 
 use crate::clients::{Clients, SessionError, refused};
-use crate::maps::drop_any_sessions;
 use crate::rows::ClientRef;
 use lnfs_arguments::statuses::{NFS4ERR_INVAL, NFS4ERR_NOSPC};
 use lnfs_operations::numbers::{
@@ -73,8 +72,8 @@ impl Clients {
         if self.records.last(level) >= LAST_NUMBER {
             return Err(refused(NFS4ERR_NOSPC));
         }
-        let (client, pending) = self.records.renew(level, owner, verifier)?;
-        drop_any_sessions(&mut self.sessions, pending);
+        let (client, pending) = self.records.replace_pending(level, owner, verifier)?;
+        self.sessions.remove_any(pending);
         Ok(ClientInfo {
             client,
             sequence: 1,

@@ -4,9 +4,11 @@ ghost use Rattle.lnfs_world.specs.World.{World, client_at, session_at};
 ghost use Rattle.lnfs_world.specs.Outcome.{Place, done_to};
 ghost use Rattle.lnfs_operations.specs.Keeping.{next_sequence, with_slot, keep_created, keep_result};
 ghost use Rattle.lnfs_operations.specs.ReclaimComplete.{reclaim_complete};
+ghost use Rattle.lnfs_counts.specs.Counters.{Counters};
 ghost use Rattle.lnfs_session.specs.Answers.{Answers, UnlessMemory, IfRefused, TakesNone, nothing_of};
 ghost use Rattle.lnfs_session.specs.Listed.{id_of, session_id_of, client_of, session_of, slot_of, kept_of};
 ghost use Rattle.lnfs_session.specs.Standing.{lists_of, standing, answered, reclaimed, clients_set, settled, sessions_set};
+ghost use Rattle.lnfs_session.specs.Sessions.{AreCounted};
 
 use crate::clients::{Clients, SessionError, refused};
 use crate::rows::{ClientRef, Kept, Session, SessionRef, Slot};
@@ -26,10 +28,12 @@ fn fill_slot(slots: &mut Vec<Slot>, number: u32, filled: Slot)
 }
 
 /// A slot of a session holds another request, if there is such a session and a slot.
-fn keep_result(sessions: &mut BTreeMap<SessionRef, Session>, at: SlotRef, filled: Slot)
-    ensures { map session_of sessions.new.entries ≡ sessions_set (settled at.slot (slot_of filled))
+pub fn keep_result(sessions: &mut BTreeMap<SessionRef, Session>, at: SlotRef, filled: Slot)
+    ensures set { map session_of sessions.new.entries ≡ sessions_set (settled at.slot (slot_of filled))
         (session_at (map session_of sessions.old.entries) (session_id_of at.session))
         (map session_of sessions.old.entries) }
+    ensures counted { (counters : Counters) → AreCounted sessions.old.entries counters →
+        AreCounted sessions.new.entries counters }
 {
     let Some(session) = sessions.get_mut(&at.session) else {
         return;
@@ -91,7 +95,7 @@ fn refill_slot(
 }
 
 /// A slot of a session holds another request in the buffers that it has, if there is such a session and a slot.
-fn refill_session(
+pub fn refill_session(
     alloc: Global,
     sessions: &mut BTreeMap<SessionRef, Session>,
     at: SlotRef,
@@ -99,9 +103,12 @@ fn refill_session(
     bytes: &[u8],
     reply: &[u8],
 ) -> Result<(), AllocError>
-    ensures { OnOk result (map session_of sessions.new.entries
+    ensures set { OnOk result (map session_of sessions.new.entries
         ≡ sessions_set (settled at.slot
         (record { sequence = sequence; kept = Some (record { arguments = bytes.now; reply = reply.now }) })) (session_at (map session_of sessions.old.entries) (session_id_of at.session)) (map session_of sessions.old.entries)) }
+    // So too where memory was wanting.
+    ensures counted { (counters : Counters) → AreCounted sessions.old.entries counters →
+        AreCounted sessions.new.entries counters }
 {
     let Some(session) = sessions.get_mut(&at.session) else {
         return Ok(());
@@ -175,7 +182,7 @@ impl Clients {
             sequence,
             kept: Some(kept),
         };
-        keep_result(&mut self.sessions, at, filled);
+        self.sessions.fill(at, filled);
     }
 
     /// Keeps the result of a COMPOUND that was new on its slot, as `settle` does, in the buffers of what the slot kept.
@@ -198,7 +205,7 @@ impl Clients {
             (record p { subject = at.session.level; session = Some at.session.number })
             (standing rest self.old)))) }
     {
-        refill_session(alloc, &mut self.sessions, at, sequence, bytes, reply)?;
+        self.sessions.refill(alloc, at, sequence, bytes, reply)?;
         Ok(())
     }
 }

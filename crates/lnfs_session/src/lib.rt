@@ -9,6 +9,7 @@ mod create;
 mod destroy;
 mod exchange;
 mod keep;
+mod leases;
 mod levels;
 mod maps;
 mod named;
@@ -17,6 +18,7 @@ mod owners;
 mod records;
 mod rows;
 mod sequence;
+mod sessions;
 
 pub use clients::{Clients, SessionError};
 pub use create::Created;

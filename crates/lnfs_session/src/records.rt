@@ -5,10 +5,10 @@ ghost use Rattle.std.specs.List.{find};
 ghost use Rattle.lnfs_world.specs.World.{client_at, last_of, same_id};
 ghost use Rattle.lnfs_operations.specs.ExchangeId.{is_confirmed_as, is_pending, others_of};
 ghost use Rattle.lnfs_session.specs.Listed.{id_of, client_of, kept_of};
-ghost use Rattle.lnfs_session.specs.Standing.{answered, reclaimed, clients_set};
-ghost use Rattle.lnfs_session.specs.Records.{no_clients, next_id, renewed, replaced_by, with_confirmed};
+ghost use Rattle.lnfs_session.specs.Standing.{answered, reclaimed, seen_at, clients_set};
+ghost use Rattle.lnfs_session.specs.Records.{no_clients, next_id, pending_replaced, replaced_by, with_confirmed};
 
-use crate::client_rows::{add_new, drop_any, keep_answer, mark_reclaimed, set_confirmed};
+use crate::client_rows::{add_new, drop_any, keep_answer, mark_reclaimed, set_confirmed, set_seen};
 use crate::levels::{LevelRecords, count, free_place, last_given, make_place, numbers_at};
 use crate::maps::drop_client;
 use crate::named::client_at;
@@ -109,7 +109,7 @@ impl Records {
 
     /// Makes a record of an owner under the level's next number, and takes out the one of it that no
     /// CREATE_SESSION has confirmed. Answers the identifiers of both. An error leaves all as it was.
-    pub fn renew(
+    pub fn replace_pending(
         &mut self,
         level: u32,
         owner: &[u8],
@@ -119,7 +119,7 @@ impl Records {
         ensures made { IfOk result (λ ids. id_of ids.0 ≡ next_id level self.old.lasts) }
         ensures gone { IfOk result (λ ids. option_map id_of ids.1
             ≡ option_map (λ c. c.id) (find (is_pending level owner.now) self.old.clients)) }
-        ensures lists { OnOk result (self.new ≡ renewed level owner.now verifier self.old) }
+        ensures lists { OnOk result (self.new ≡ pending_replaced level owner.now verifier self.old) }
         ensures kept { OnErr result (self.new ≡ self.old) }
     {
         let number = last_given(&self.levels, level) + 1;
@@ -167,6 +167,14 @@ impl Records {
             ≡ record self.old { clients = clients_set reclaimed (client_at self.old.clients (id_of id)) self.old.clients } }
     {
         mark_reclaimed(&mut self.rows, id);
+    }
+
+    /// The lease of a client begins again at so many seconds (RFC 8881 section 8.3).
+    pub fn renew(&mut self, id: ClientRef, secs: u64)
+        ensures { self.new
+            ≡ record self.old { clients = clients_set (seen_at secs) (client_at self.old.clients (id_of id)) self.old.clients } }
+    {
+        set_seen(&mut self.rows, id, secs);
     }
 
     /// A client's record goes.

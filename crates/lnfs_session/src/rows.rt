@@ -40,6 +40,8 @@ pub struct Client {
     pub kept: Option<Kept>,
     /// Whether it said that it reclaims no more (RFC 8881 section 18.51).
     pub reclaimed: bool,
+    /// The seconds of the moment at which its lease was last renewed, if it was (RFC 8881 section 8.3).
+    pub seen: Option<u64>,
 }
 
 /// A slot: its last sequence, and the COMPOUND that came under it.

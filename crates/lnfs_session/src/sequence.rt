@@ -5,14 +5,14 @@ ghost use Rattle.lnfs_world.specs.World.{World};
 ghost use Rattle.lnfs_world.specs.Outcome.{Place, begins_at};
 ghost use Rattle.lnfs_operations.specs.Sequence.{Sent, sequence, under_session, on_slot};
 ghost use Rattle.lnfs_session.specs.Answers.{Answers, TakesNone};
-ghost use Rattle.lnfs_session.specs.Arrived.{arrival_of, arrived, answered_as};
+ghost use Rattle.lnfs_session.specs.Arrived.{arrival_of, arrived, answered_as, left_for};
 ghost use Rattle.lnfs_session.specs.Listed.{session_of, slot_of};
 ghost use Rattle.lnfs_session.specs.Standing.{standing};
 
 use crate::arrival::{Arrival, came};
 use crate::client_rows::next_sequence;
 use crate::clients::{Clients, SessionError, foreign, refused};
-use crate::named::{session_named, session_under};
+use crate::named::session_named;
 use crate::rows::{ClientRef, Session, SessionRef, Slot};
 use lnfs_arguments::Sequence;
 use lnfs_arguments::statuses::{
@@ -50,9 +50,13 @@ fn on_slot<'a>(
     args: &Sequence,
     bytes: &[u8],
 ) -> Result<Seq<'a>, SessionError>
-    ensures answer { (p : Place) (sent : Sent) → sent.arguments ≡ bytes.now →
+    ensures answer { (p : Place) (w : World) (sent : Sent) → sent.arguments ≡ bytes.now →
         Answers arrival_of result (answered_as (arrived args.now)
-        (on_slot args.now sent p (session_of (name, session.now)) (slot_of slot.now)).answer) }
+        (on_slot args.now sent p w (session_of (name, session.now)) (slot_of slot.now)).answer) }
+    ensures changes { (p : Place) (w : World) (sent : Sent) → sent.arguments ≡ bytes.now →
+        p.subject ≡ name.level →
+        (on_slot args.now sent p w (session_of (name, session.now)) (slot_of slot.now)).changes
+        ≡ left_for p.moment w.clients result }
     ensures memory { TakesNone result }
 {
     let next = next_sequence(slot.sequence);
@@ -77,7 +81,8 @@ fn on_slot<'a>(
 
 impl Clients {
     /// How a SEQUENCE of a level came, by the arguments of its COMPOUND, the length of its record and the
-    /// count of its operations. Takes no memory: it answers no want of it.
+    /// count of its operations. Takes no memory: it answers no want of it. The lease of the client of a new one
+    /// isn't renewed yet.
     ///
     /// A session of another level or one that isn't there is NFS4ERR_BADSESSION. A record or a COMPOUND that
     /// is larger than the session grants is NFS4ERR_REQ_TOO_BIG or NFS4ERR_TOO_MANY_OPS, a slot that it
@@ -95,13 +100,18 @@ impl Clients {
             Answers arrival_of result (answered_as (arrived args.now)
             (sequence args.now (record { arguments = bytes.now; size = size; count = count })
             (begins_at level moment) (standing rest self.now)).answer) }
+        // What it changes is left to `renew`.
+        ensures changes { (moment : Moment) (rest : World) →
+            (sequence args.now (record { arguments = bytes.now; size = size; count = count })
+            (begins_at level moment) (standing rest self.now)).changes
+            ≡ left_for moment self.now.clients result }
         ensures memory { TakesNone result }
     {
         let name = session_named(&args.session);
         if name.level != level {
             return Err(foreign(NFS4ERR_BADSESSION));
         }
-        let Some(session) = session_under(&self.sessions, &args.session) else {
+        let Some(session) = self.sessions.under(&args.session) else {
             return Err(refused(NFS4ERR_BADSESSION));
         };
         if size > session.channel.maxrequest {

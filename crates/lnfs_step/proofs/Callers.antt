@@ -23,7 +23,7 @@ use Rattle.lnfs_gss3.specs.declared.numbers.TheConstants.{LABEL, PROC_NULL, AUTH
 use Rattle.lnfs_gss3.specs.Mechanism.{Signing}
 use Rattle.lnfs_gss3.specs.Grammar.{alone, whole, Credential, credential, context_handle, parent_handle, Body, Assertion, assertion, create_args}
 use Rattle.lnfs_gss3.specs.Who.{demand, where_there, guest_by, guest_in, guest, guest_of, not_known, is_signed, body_under, Named, named_by, named_in, named, HeldContext, is_cleared, held_by, held_in, held, asserted, asserting, create, data_in, in_context, destroy, by_procedure, by_gss, who}
-use Rattle.lnfs_step.proofs.Compounds.{Gives, gives_opaque, gives_done, gives_then, gives_any}
+use Rattle.lnfs_step.proofs.Gives.{Gives, gives_opaque, gives_done, gives_then, gives_any}
 
 -- ---- the grammar
 

@@ -1,65 +1,33 @@
 -- What holds of every COMPOUND that is read: its tag is short, and it has no more operations than it counts.
-use Rattle.std.proofs.Common.{◌≡◌, ◌≤◌, ◌+◌, ℕ, zero, suc, Bool, true, false, cond, eqb, List, [], ◌∷◌, ◌++◌, length, take, drop, Ok, Err, nat_lt, nat_le, refl, ap, subst, arith}
+use Rattle.std.proofs.Common.{◌≡◌, ◌≤◌, ◌+◌, ℕ, zero, suc, Bool, true, false, cond, eqb, List, [], ◌∷◌, ◌++◌, length, take, drop, Ok, Err, nat_le, refl, ap, subst, arith}
 use Rattle.std.specs.Prelude.{◌==◌, Result}
-use Rattle.std.specs.Int.{w32}
 use Rattle.std.specs.List.{AllByRecursion}
-use Rattle.std.proofs.lemmas.Bool.{ltb-false}
 use Rattle.std.proofs.lemmas.Bool.Decides.{nat_tests}
-use Rattle.std.proofs.lemmas.List.{length-take, length-append}
+use Rattle.std.proofs.lemmas.List.{length-append}
 use Rattle.lnfs_xdr.specs.declared.error.XdrError.{XdrError}
-use Rattle.lnfs_xdr.specs.declared.error.XdrError.TheVariants.{Short, TooLong}
-use Rattle.lnfs_xdr.specs.Format.{Format, Word, Opaque, Done, If, Then, padding}
-use Rattle.lnfs_xdr.specs.Reading.{Read, Fault, Leaves, read, number_at, count_at, padded_at, opaque_at}
-use Rattle.lnfs_xdr.proofs.Fields.{after_ok, guard_ok, here_ok}
+use Rattle.lnfs_xdr.specs.Format.{Format, Word}
+use Rattle.lnfs_xdr.specs.Reading.{Read, Fault, Leaves, read}
 use Rattle.lnfs_arguments.specs.declared.types.Op.{Op}
 use Rattle.lnfs_arguments.specs.declared.types.Op.TheVariants as ops
 use Rattle.lnfs_arguments.specs.declared.types.Compound.{Compound}
 use Rattle.lnfs_xdr.specs.Message.{Message, Closed, Unread, Next, Measured, parse, decided, cut_at}
 use Rattle.lnfs_arguments.specs.Further.{Further}
 use Rattle.lnfs_arguments.specs.Whole.{header, compound, operations, served, is_cut, with_op, ended, chosen}
-use Rattle.lnfs_operations.specs.Sizes.{IsRead}
+use Rattle.lnfs_operations.specs.Sizes.{IsRead, IsOpRead}
+use Rattle.lnfs_world.proofs.Rows.{all_weaker}
+use Rattle.lnfs_step.proofs.Arguments.{op_read}
 use Rattle.lnfs_step.proofs.Denials.{OutsideIs}
+use Rattle.lnfs_step.proofs.Gives.{Gives, gives_opaque, gives_done, gives_then, gives_any, gives_if}
 use Rattle.lnfs_step.proofs.Outsides.{inside_read, outside_left}
 
-opaque_short : (max : ℕ) (bytes : List ℕ) (x : List ℕ × List ℕ) → opaque_at max bytes ≡ Ok x → length x.0 ≤ max
-opaque_short max bytes x e =
-    let a = after_ok (count_at max bytes) (λ n rest. padded_at n rest) x e in
-    let b = after_ok (number_at w32 bytes) (λ n rest. cond (nat_lt max n) (Err TooLong) (Ok (n, rest))) a.0 a.1 in
-    let below = guard_ok (nat_lt max b.0.0) TooLong b.0 a.0 b.2 in
-    let few : b.0.0 ≤ max = ltb-false _ _ below.0 in
-    let same : b.0.0 ≡ a.0.0 = ap (λ (p : ℕ × List ℕ). p.0) below.1 in
-    let c = guard_ok (nat_lt (length a.0.1) (a.0.0 + padding a.0.0)) Short (take a.0.0 a.0.1, drop (padding a.0.0) (drop a.0.0 a.0.1)) x a.2 in
-    let cut : take a.0.0 a.0.1 ≡ x.0 = ap (λ (p : List ℕ × List ℕ). p.0) c.1 in
-    omega (arith, length-take a.0.0 a.0.1, ap length cut)
-
--- whatever a format reads has the property
-pub record Gives {E A : Type 0} (f : Format E A) (P : A → Type 0) : Type 0 where
-  pub is : (bytes : List ℕ) (x : A × List ℕ) → read f bytes ≡ Ok x → P x.0
-
-pub gives_opaque : {E : Type 0} (max : ℕ) → Gives {E = E} (Opaque max) (λ v. length v ≤ max)
-gives_opaque max = record { is = λ bytes x e. opaque_short max bytes x (here_ok bytes (opaque_at max bytes) x e) }
-
-pub gives_done : {E A : Type 0} {P : A → Type 0} (y : A) → P y → Gives {E = E} (Done y) P
-gives_done {P = P} y p = record { is = λ bytes x e. let same : (y, bytes) ≡ x = cc in subst (λ (q : _ × List ℕ). P q.0) same p }
-
-pub gives_then : {E A B : Type 0} {f : Format E A} {k : A → Format E B} {P : B → Type 0} (Q : A → Type 0) → Gives f Q → ((a : A) → Q a → Gives (k a) P) → Gives (Then f k) P
-gives_then {f = f} {k = k} {P = P} Q first next = record {
-  is = λ bytes x e.
-      let a = after_ok (read f bytes) (λ a rest. read (k a) rest) x e in
-      (next a.0.0 (first.is bytes a.0 a.1)).is a.0.1 x a.2;
-}
-
-pub gives_any : {E A : Type 0} (f : Format E A) → Gives f (λ x. Unit {0})
-gives_any f = record { is = λ bytes x e. tt }
+-- an operation as it was read: one that is outside is refused with a status of its gate, and arguments are as long as they may be
+abbrev IsAsRead : Op → Type 0
+IsAsRead op = OutsideIs op × IsOpRead op
 
 -- the tag is short, and no operation is there yet
 record Begins (c : Compound) : Type 0 where
   short : length c.tag ≤ 1024
   none : c.ops ≡ []
-
-gives_if : {E A : Type 0} {f g : Format E A} {P : A → Type 0} (b : Bool) → Gives f P → Gives g P → Gives (If b f g) P
-gives_if true first other = record { is = λ bytes x e. first.is bytes x e }
-gives_if false first other = record { is = λ bytes x e. other.is bytes x e }
 
 header_gives : Gives header Begins
 unfolding header
@@ -113,28 +81,28 @@ tells_chosen : {B : Type 0} {P : B → Type 0} (b : Bool) (m n : Message B) → 
 tells_chosen true m n p q = p
 tells_chosen false m n p q = q
 
--- the same tag and count, and at most so many operations, each of which is refused with a status of its gate where it is outside
+-- the same tag and count, and at most so many operations, each as it was read
 record Few (tag : List ℕ) (count most : ℕ) (c : Compound) : Type 0 where
   tag_is : c.tag ≡ tag
   count_is : c.count ≡ count
   few : length c.ops ≤ most
-  outside : AllByRecursion OutsideIs c.ops
+  each : AllByRecursion IsAsRead c.ops
 
 few_more : (c : Compound) (op : Op) → length (with_op c op).ops ≡ length c.ops + 1
 few_more c op = length-append c.ops (op ∷ [])
 
-all_more : (os : List Op) (op : Op) → AllByRecursion OutsideIs os → OutsideIs op → AllByRecursion OutsideIs (os ++ op ∷ [])
+all_more : (os : List Op) (op : Op) → AllByRecursion IsAsRead os → IsAsRead op → AllByRecursion IsAsRead (os ++ op ∷ [])
 all_more [] op all is = (is, tt)
 all_more (o ∷ os) op all is = (all.0, all_more os op all.1 is)
 
-operations_tell : (x : Further) (cut : Bool) (n : ℕ) (c : Compound) (tag : List ℕ) (count most : ℕ) → c.tag ≡ tag → c.count ≡ count → length c.ops + n ≤ most → AllByRecursion OutsideIs c.ops → Tells (operations x cut n c) (Few tag count most)
+operations_tell : (x : Further) (cut : Bool) (n : ℕ) (c : Compound) (tag : List ℕ) (count most : ℕ) → c.tag ≡ tag → c.count ≡ count → length c.ops + n ≤ most → AllByRecursion IsAsRead c.ops → Tells (operations x cut n c) (Few tag count most)
 unfolding operations
-operations_tell x cut zero c tag count most is counts few outside = tells_ended cut c (record { tag_is = is; count_is = counts; few = omega arith; outside = outside })
-operations_tell x cut (suc n) c tag count most is counts few outside =
+operations_tell x cut zero c tag count most is counts few each = tells_ended cut c (record { tag_is = is; count_is = counts; few = omega arith; each = each })
+operations_tell x cut (suc n) c tag count most is counts few each =
     tells_next (λ number. Unit {0}) (gives_any Word) (λ number _. tells_chosen (x.serves number) _ _
-    (tells_measured (λ args. operations_tell x cut n (with_op c (ops.Extra number args)) tag count most is counts (omega (arith, few_more c (ops.Extra number args))) (all_more c.ops (ops.Extra number args) outside tt)))
-    (tells_next OutsideIs (record { is = λ bytes x e. inside_read number bytes x e }) (λ op inside. operations_tell x cut n (with_op c op) tag count most is counts (omega (arith, few_more c op)) (all_more c.ops op outside inside))
-    (λ bytes e left. record { tag_is = is; count_is = counts; few = omega (arith, few_more c (ops.Outside e.0 e.1)); outside = all_more c.ops (ops.Outside e.0 e.1) outside (outside_left number bytes e left) })))
+    (tells_measured (λ args. operations_tell x cut n (with_op c (ops.Extra number args)) tag count most is counts (omega (arith, few_more c (ops.Extra number args))) (all_more c.ops (ops.Extra number args) each (tt, tt))))
+    (tells_next IsAsRead (record { is = λ bytes x e. (inside_read number bytes x e, op_read number bytes x e) }) (λ op inside. operations_tell x cut n (with_op c op) tag count most is counts (omega (arith, few_more c op)) (all_more c.ops op each inside))
+    (λ bytes e left. record { tag_is = is; count_is = counts; few = omega (arith, few_more c (ops.Outside e.0 e.1)); each = all_more c.ops (ops.Outside e.0 e.1) each (outside_left number bytes e left, tt) })))
     (λ bytes e left. absurd e)
 
 served_few : (minor count : ℕ) → served minor count ≤ count
@@ -143,13 +111,13 @@ served_few minor count = grind (arith, nat_tests)
 served_most : (minor count : ℕ) → served minor count ≤ 32
 served_most minor count = grind (arith, nat_tests)
 
-compound_tells : (x : Further) → Tells (compound x) (λ c. IsRead c × (length c.ops ≤ 32) × AllByRecursion OutsideIs c.ops)
+compound_tells : (x : Further) → Tells (compound x) (λ c. IsRead c × (length c.ops ≤ 32) × AllByRecursion IsAsRead c.ops)
 unfolding compound
 compound_tells x = tells_next Begins header_gives (λ h begins. record {
   is = λ bytes c e.
       let n = served h.minor h.count in
       let f = (operations_tell x (is_cut h.minor h.count) n h h.tag h.count n refl refl (omega (arith, ap length begins.none)) (rw begins.none tt)).is bytes c e in
-      (record { tag = rw f.tag_is begins.short; operations = omega (arith, f.few, f.count_is, served_few h.minor h.count) }, omega (arith, f.few, served_most h.minor h.count), f.outside);
+      (record { tag = rw f.tag_is begins.short; operations = omega (arith, f.few, f.count_is, served_few h.minor h.count); arguments = all_weaker IsAsRead IsOpRead (λ op is. is.1) c.ops f.each }, omega (arith, f.few, served_most h.minor h.count), f.each);
 }) (λ bytes e left. absurd e)
 
 pub compound_read : (x : Further) (bytes : List ℕ) (c : Compound) → parse (compound x) bytes ≡ Ok c → IsRead c
@@ -161,4 +129,4 @@ compound_few x bytes c e = ((compound_tells x).is bytes c e).1
 
 -- and one that is outside is refused with a status of its gate
 pub compound_outside : (x : Further) (bytes : List ℕ) (c : Compound) → parse (compound x) bytes ≡ Ok c → AllByRecursion OutsideIs c.ops
-compound_outside x bytes c e = ((compound_tells x).is bytes c e).2
+compound_outside x bytes c e = all_weaker IsAsRead OutsideIs (λ op is. is.0) c.ops ((compound_tells x).is bytes c e).2

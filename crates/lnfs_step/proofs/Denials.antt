@@ -7,6 +7,8 @@ use Rattle.lnfs_arguments.specs.declared.types.CreateSession.{CreateSession}
 use Rattle.lnfs_arguments.specs.declared.types.Sequence.{Sequence}
 use Rattle.lnfs_arguments.specs.declared.stateid.StateId.{StateId}
 use Rattle.lnfs_arguments.specs.declared.types.What.{What}
+use Rattle.lnfs_arguments.specs.declared.statuses.TheConstants.{NFS4ERR_STALE}
+use Rattle.lnfs_monitor.specs.declared.rule.Rule.TheVariants.{M8}
 use Rattle.lnfs_world.specs.World.{Stored, Node, Entry, World}
 use Rattle.lnfs_world.specs.Change.{Change}
 use Rattle.lnfs_world.specs.Outcome.{LabelRead, LevelOf, WrongFormat, BadLabel, Site, Place, Outcome}
@@ -89,8 +91,13 @@ destroy_clientid_denies client p w = search walk depth 40 fits 4000
 pub reclaim_complete_denies : (one_fs : Bool) (p : Place) (w : World) → Denies (reclaim_complete one_fs p w)
 reclaim_complete_denies one_fs p w = search walk depth 40 fits 4000
 
+-- a node of a home that isn't dominated is stale, by a rule of labels or without one
+home_denies : {R : Type 0} (limited : Bool) (p : Place) → Denies {R = R} (refuse p (cond limited gates.Namespace (gates.Monitor M8)) NFS4ERR_STALE)
+home_denies true p = record { is = refl }
+home_denies false p = record { is = refl }
+
 pub put_fh_denies : (site : Site) (handle : List ℕ) (p : Place) (w : World) → Denies (put_fh site handle p w)
-put_fh_denies site handle p w = search walk depth 40 fits 4000
+put_fh_denies site handle p w = search (home_denies, walk) depth 40 fits 4000
 
 pub get_fh_denies : (p : Place) (w : World) → Denies (get_fh p w)
 get_fh_denies p w = search walk depth 40 fits 4000

@@ -19,10 +19,11 @@ use Rattle.lnfs_world.proofs.Rows.{all_find}
 use Rattle.lnfs_world.proofs.Sorted.{all_inserted}
 use Rattle.lnfs_world.proofs.FirstTrees.{first_keeps}
 use Rattle.lnfs_types.specs.declared.limits.TheConstants.{LABEL_LIMIT}
-use Rattle.lnfs_operations.specs.Sizes.{SessionFits, ClientFits, NodeFits, Sizes, SpellsShortly}
+use Rattle.lnfs_operations.specs.Sizes.{SessionFits, ClientFits, NodeFits, Sizes, LabelsFit}
 use Rattle.lnfs_operations.proofs.ReadingRows.{all_found}
 use Rattle.lnfs_site.specs.Site.{is_limited, told_by, carried, unspelled, spelled_as, spelled_in, spelling, site_of, first_label, first_dir, first_world}
 use Rattle.lnfs_site.proofs.FirstWorlds.{first_bare}
+use Rattle.lnfs_step.proofs.SiteLevels.{read_level}
 
 -- ---- labels
 
@@ -53,9 +54,9 @@ taken_short : (p : Policy) (spelled : Stored) (level : ℕ) (limited : Bool) →
 taken_short p spelled level true is taken = carried_short spelled level (nat_le (length spelled.bytes) MAX_SPELLING) refl taken
 taken_short p spelled level false is taken = absurd cc
 
--- what a site writes of labels is short, and what it takes where they are carried alone
-pub spells_shortly : (p : Policy) → SpellsShortly (site_of p)
-spells_shortly p = record { spelling = spelling_short p; taken = λ limited spelled level taken. taken_short p spelled level (is_limited p.mode) limited taken }
+-- what a site writes of labels is short, and what it takes where they are carried alone; and it reads those of its levels
+pub labels_fit : (p : Policy) → LabelsFit (site_of p)
+labels_fit p = record { spelling = spelling_short p; taken = λ limited spelled level taken. taken_short p spelled level (is_limited p.mode) limited taken; levels = read_level p }
 
 abbrev IsShort : Option Stored → Type 0
 IsShort stored = IfSome stored (λ s. length s.bytes ≤ LABEL_LIMIT)

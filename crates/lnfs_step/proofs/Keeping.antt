@@ -14,7 +14,6 @@ use Rattle.lnfs_operations.specs.CreateSession.{granted_of}
 use Rattle.lnfs_operations.specs.Extra.{Extra, AreLawful}
 use Rattle.lnfs_operations.specs.Sequence.{Sent}
 use Rattle.lnfs_operations.specs.Served.{Keeper, Nowhere, Slot, Record, operation}
-use Rattle.lnfs_operations.specs.Sizes.{SpellsShortly}
 use Rattle.lnfs_operations.specs.SlotRule.{run_all, result_of, keep_in, served}
 use Rattle.lnfs_operations.proofs.SessionLaws.{session_at-id}
 use Rattle.lnfs_operations.proofs.SlotRules.{served_lawful}
@@ -59,11 +58,17 @@ module _ (Q : ℕ → Kept → Type 0) where
   keeps_walk Spells = record {
     Holds = Keeps Q;
     OfSession = SessionKeeps Q;
+    OfClient = ClientKeeps Q;
     OfSlot = λ x kept. Q x.id.level kept;
     OfRecord = Q;
     sessions = λ w keeps. keeps.sessions;
     clients = λ w keeps. keeps.clients;
     holds = λ w v keeps sessions clients nodes. record { sessions = sessions; clients = clients };
+    is_new = λ i args. tt;
+    when_confirmed = λ p c keeps. keeps;
+    when_renewed = λ moment c keeps. keeps;
+    when_reclaimed = λ c keeps. keeps;
+    when_kept = λ c kept keeps is. is;
     made = λ i c fore large. all_fresh (SlotKeeps Q i.level) tt (granted_of fore).max_requests;
     kept = λ x slot sequence kept keeps is. all_with_slot (SlotKeeps Q x.id.level) slot (record { sequence = sequence; kept = Some kept }) x.slots is keeps;
   }
@@ -88,6 +93,6 @@ module _ (Q : ℕ → Kept → Type 0) where
         let r = run_all (operation X site sent c) c (begins_at level moment) b in
         let kept : Kept = record { arguments = sent.arguments; reply = result_of c r.results r.again } in
         let subject : r.place.subject ≡ level = ap (λ (q : Place). q.subject) (sym (keep_place r.keeper kept r.place r.state.world)) ∙ (served_lawful X owed site lattice sent c).subject (begins_at level moment) b stands in
-        let walk = keeps_walk (SpellsShortly site) in
-        keep_left walk r.place r.state.world (run_left site walk sent X owed lattice c (begins_at level moment) b stands keeps) kept r.keeper
-        (may_keep (SpellsShortly site) r.keeper kept r.place r.state.world (subst (λ s. Q s kept) (sym subject) is))
+        let walk = keeps_walk ⊥ in
+        keep_left walk r.place r.state.world (run_left site (λ none. absurd none) walk sent (λ none. none) X owed lattice c (begins_at level moment) b stands keeps) kept r.keeper
+        (may_keep ⊥ r.keeper kept r.place r.state.world (subst (λ s. Q s kept) (sym subject) is))

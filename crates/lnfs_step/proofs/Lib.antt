@@ -6,10 +6,16 @@ pub mod Purging
 pub mod ContextLaws
 pub mod Steps
 pub mod FirstSizes
+pub mod SiteLevels
+pub mod Gives
+pub mod Arguments
+pub mod StepBounds
+pub mod FirstBounds
 pub mod Wrappings
 pub mod Lengths
 pub mod Accepted
 pub mod Labels
+pub mod OtherSessions
 pub mod SlotSteps
 pub mod Slots
 pub mod Keeping
@@ -21,3 +27,5 @@ pub mod Recorded
 pub mod Letters
 pub mod Denials
 pub mod Outsides
+pub mod LimitedSites
+pub mod Carrying

@@ -34,7 +34,7 @@ use Rattle.lnfs_operations.specs.Identifiers.{client_named, session_named, sessi
 use Rattle.lnfs_operations.specs.InOrder.{sequence_before, in_order}
 use Rattle.lnfs_operations.specs.Keeping.{next_sequence}
 use Rattle.lnfs_operations.specs.Results.{Denial, failed}
-use Rattle.lnfs_operations.specs.Sequence.{Sent, Sequenced, New, Again, in_session, sequence}
+use Rattle.lnfs_operations.specs.Sequence.{Sent, Sequenced, New, Again, begun_in, sequence}
 use Rattle.lnfs_operations.specs.Admission.{is_first, is_alone, unless, place_refusal, room_refusal, or_else, admission}
 use Rattle.lnfs_operations.specs.Served.{Keeper, Nowhere, success, plainly, told_reply, opened_reply, zeros, Slot, Record, Reply, Own, Kept, created_keeper, created_reply, sequence_reply, reply_of, under, said_reply, further_reply, row, row_in, admitted, operation}
 use Rattle.lnfs_operations.specs.SlotRule.{Ran, Answer, kept_by, own_reply, followed, run_behind, run_all, result_of, kept_after, served}
@@ -290,7 +290,7 @@ module _ (Q : Stored → Type 0) (sent : Sent) (p : Place) where
         demand_any (Back Again) (nat_le sent.size x.channel.max_request) _ _ (back_refused Again _ _) (λ short.
         demand_any (Back Again) (nat_le sent.count x.channel.max_operations) _ _ (back_refused Again _ _) (λ few.
         where_any (Back Again) (slice_get x.slots args.slot) _ _ (λ slot there.
-        in_order_told (Back Again) p slot.sequence (next_sequence slot.sequence) slot.kept args.sequence sent.arguments (λ reply. done p (Again reply) []) (done (in_session p x) (New x) []) (λ status. back_refused Again _ _)
+        in_order_told (Back Again) p slot.sequence (next_sequence slot.sequence) slot.kept args.sequence sent.arguments (λ reply. done p (Again reply) []) (begun_in p w x) (λ status. back_refused Again _ _)
         (λ k kept same reply e. (let told : k.reply ≡ reply = cc in subst Q (λ i. record { arguments = same i; reply = told i }) (have.slots (session_named args.session) x args.slot slot k (grind (arith, nat_tests, own)) (session_under-at args.session w.sessions x found) there kept), refl, refl))
         (λ reply e. absurd (let f = e in cc))) (back_refused Again _ _)))) (back_refused Again _ _))
 

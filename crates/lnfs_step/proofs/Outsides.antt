@@ -245,7 +245,7 @@ left P (Opaque max) by bytes e is = here_stays bytes _ e is
 left P (Fixed n) by bytes e is = here_stays bytes _ e is
 left P (Raw n) by bytes e is = here_stays bytes _ e is
 
-ends : {E A : Type 0} (Q : A → Type 0) (f : Format E A) → EndsBy Q f → (bytes : List ℕ) (x : A × List ℕ) → read f bytes ≡ Ok x → Q x.0
+pub ends : {E A : Type 0} (Q : A → Type 0) (f : Format E A) → EndsBy Q f → (bytes : List ℕ) (x : A × List ℕ) → read f bytes ≡ Ok x → Q x.0
 ends Q (Outside e) by bytes x is = absurd (let f = is in cc)
 ends Q (Done y) by bytes x is = done_at Q y bytes x by is
 ends Q (If true f g) by bytes x is = ends Q f by.0 bytes x is

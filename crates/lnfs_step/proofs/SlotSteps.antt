@@ -1,6 +1,6 @@
 -- A COMPOUND that comes again is answered again and acts once, and its reply fits a response of its session: on any
 -- state that keeps the facts.
-use Rattle.std.proofs.Common.{◌≡◌, ◌≤◌, ◌<◌, ℕ, Bool, true, false, cond, List, length, Option, Some, None, refl, sym, ap, ◌∙◌, subst, arith}
+use Rattle.std.proofs.Common.{◌≡◌, ◌≤◌, ◌<◌, ℕ, Bool, true, false, cond, List, length, Option, Some, None, refl, sym, ap, ◌∙◌, subst, arith, Ok}
 use Rattle.std.specs.Prelude.{nat_le, IfSome}
 use Rattle.std.proofs.lemmas.Bool.Decides.{nat_tests}
 use Rattle.lnfs_calipso.specs.Label.{IsPreorderWithBottom}
@@ -20,7 +20,9 @@ use Rattle.lnfs_operations.specs.InOrder.{sequence_before}
 use Rattle.lnfs_operations.specs.Keeping.{next_sequence}
 use Rattle.lnfs_operations.specs.Results.{Denial}
 use Rattle.lnfs_operations.specs.Retries.{Names}
-use Rattle.lnfs_operations.specs.Sizes.{Sizes}
+use Rattle.lnfs_operations.specs.Bounds.{Bounds}
+use Rattle.lnfs_policy.specs.PolicyText.{policy_of}
+use Rattle.lnfs_step.proofs.SiteLevels.{event_level}
 use Rattle.lnfs_operations.specs.SlotRule.{Answer, served}
 use Rattle.lnfs_operations.proofs.AcceptedLaws.{accepted_again}
 use Rattle.lnfs_operations.proofs.Retries.{answered_again, refused_again, created_again}
@@ -34,8 +36,8 @@ use Rattle.lnfs_step.specs.Request.{Call, Run}
 use Rattle.lnfs_step.specs.Step.{Step, answered, done_for, refused_to, step_with, step_of, sent_of}
 use Rattle.lnfs_step.specs.Journal.{Holds}
 use Rattle.lnfs_step.specs.Sessions.{AsksAt, ComesOnSlotAt, ComesToClientAt, IsGivenAt, IsAnsweredAt, ActsOnceAt}
-use Rattle.lnfs_step.proofs.FirstSizes.{spells_shortly}
-use Rattle.lnfs_step.proofs.Requests.{asked_parsed, asked_read}
+use Rattle.lnfs_step.proofs.FirstSizes.{labels_fit}
+use Rattle.lnfs_step.proofs.Requests.{asked_parsed, asked_read, level_in, request_level}
 use Rattle.lnfs_step.proofs.Steps.{begins}
 use Rattle.lnfs_step.proofs.Wrappings.{answer_length}
 
@@ -144,11 +146,12 @@ module _ (X : Extra) (owed : AreLawful X) (m : Signing) (p : Policy) (lattice : 
           let both = once_refused event later call other arguments c args x slot comes (grind (arith, nat_tests, is)) asks own size in
           (both, λ few. absurd (grind (arith, nat_tests, is, few)))
 
-  pub room_at : IsSized m → Sizes b.world → (event : Event) (call : Call) (arguments : List ℕ) (c : Compound) (args : Sequence) (x : Session) (slot : SlotRow) → ComesOnSlotAt X m p b event call arguments c args x slot →
+  pub room_at : (text : List ℕ) → policy_of text ≡ Ok p → IsSized m → Bounds (site_of p) b.world → (event : Event) (call : Call) (arguments : List ℕ) (c : Compound) (args : Sequence) (x : Session) (slot : SlotRow) → ComesOnSlotAt X m p b event call arguments c args x slot →
       IfSome (step_with X m p b event).reply (λ reply. length reply ≤ x.channel.max_response)
-  room_at sized sizes event call arguments c args x slot comes =
+  room_at text is sized bounds event call arguments c args x slot comes =
       let sent = sent_of event arguments c in
       let result = (serving X p event call arguments c b).answer.result in
-      let fits = fits_named X owed (site_of p) lattice (spells_shortly p) sent c call.level event.moment b (begins X owed m p lattice call.level event.moment b holds) sizes (asked_read X.grammar m p event call arguments c comes.asks.request) args comes.begins.rest x slot comes.begins.minor comes.begins.first comes.names in
+      let level = event_level p text is m event.class event.message call.level (sym (request_level X.grammar m p event.class event.message) ∙ ap level_in comes.asks.request) in
+      let fits = fits_named X owed (site_of p) lattice (labels_fit p) sent c call.level event.moment b (begins X owed m p lattice call.level event.moment b holds) level bounds (asked_read X.grammar m p event call arguments c comes.asks.request) args comes.begins.rest x slot comes.begins.minor comes.begins.first comes.names in
       subst (λ (o : Option (List ℕ)). IfSome o (λ reply. length reply ≤ x.channel.max_response)) (sym (ap (λ (s : Step (Both X.Row)). s.reply) (step_at X m p b event call arguments c comes.asks)))
       (omega (arith, answer_length m sized call.wrapping call.xid result, fits))

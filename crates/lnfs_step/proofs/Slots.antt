@@ -1,6 +1,6 @@
 -- After a journal, a COMPOUND that comes again is answered again and acts once, and its reply fits a response of its
 -- session.
-use Rattle.std.proofs.Common.{◌≡◌, ◌≤◌, ◌<◌, ℕ, List, [], ◌∷◌, ◌++◌, length, Some, None, sym, ◌∙◌, subst}
+use Rattle.std.proofs.Common.{◌≡◌, ◌≤◌, ◌<◌, ℕ, List, [], ◌∷◌, ◌++◌, length, Some, None, sym, ◌∙◌, subst, Ok}
 use Rattle.std.specs.Prelude.{IfSome}
 use Rattle.lnfs_calipso.specs.Label.{IsPreorderWithBottom}
 use Rattle.lnfs_types.specs.declared.event.Event.{Event}
@@ -21,7 +21,8 @@ use Rattle.lnfs_step.specs.Step.{answered, step_with}
 use Rattle.lnfs_step.specs.Journal.{state_after, first_state, reply_with, line_with}
 use Rattle.lnfs_step.specs.Sessions.{AsksAt, Asks, ComesOnSlot, ComesToClient, IsGivenAt, IsAnsweredAt, IsGiven, IsAnswered}
 use Rattle.lnfs_step.proofs.Accepted.{accepted_after}
-use Rattle.lnfs_step.proofs.Lengths.{sizes_after}
+use Rattle.lnfs_step.proofs.StepBounds.{bounds_after}
+use Rattle.lnfs_policy.specs.PolicyText.{policy_of}
 use Rattle.lnfs_step.proofs.SlotSteps.{serving, GetsAgain, step_at, again_at, retry_at, created_at, many_at, once_at, room_at}
 use Rattle.lnfs_step.proofs.Steps.{state_from-append, holds_after}
 
@@ -75,10 +76,10 @@ Once X m p journal event later call other accepted =
     (result : List ℕ) × (reply_with X m p journal event ≡ Some (answer_text m call.wrapping call.xid result)) × IsGiven X m p (journal ++ event ∷ []) later other result × (accepted → line_with X m p (journal ++ event ∷ []) later ≡ None)
 
 module _ (X : Extra) (owed : AreLawful X) (m : Signing) (p : Policy) (lattice : IsPreorderWithBottom (dominance p)) (journal : List Event) where
-  pub retry_answered : (event : Event) (call : Call) (arguments : List ℕ) (c : Compound) (args : Sequence) (x : Session) (slot : SlotRow) (result : List ℕ) → ComesOnSlot X m p journal event call arguments c args x slot →
+  pub retry_answered : (text : List ℕ) → policy_of text ≡ Ok p → (event : Event) (call : Call) (arguments : List ℕ) (c : Compound) (args : Sequence) (x : Session) (slot : SlotRow) (result : List ℕ) → ComesOnSlot X m p journal event call arguments c args x slot →
       slot ≡ record { sequence = args.sequence; kept = Some (record { arguments = arguments; reply = result }) } → IsAnswered X m p journal event call result
-  retry_answered event call arguments c args x slot result comes same =
-      answered_after X m p journal event call result (retry_at X m p (state_after X m p journal) (accepted_after X owed m p lattice journal) event call arguments c args x slot result comes same)
+  retry_answered text is event call arguments c args x slot result comes same =
+      answered_after X m p journal event call result (retry_at X m p (state_after X m p journal) (accepted_after X owed m p lattice text is journal) event call arguments c args x slot result comes same)
 
   pub once_answered : (event later : Event) (call other : Call) (arguments : List ℕ) (c : Compound) (args : Sequence) (x : Session) (slot : SlotRow) → ComesOnSlot X m p journal event call arguments c args x slot → args.sequence ≡ next_sequence slot.sequence →
       Asks X m p (journal ++ event ∷ []) later other arguments c → other.level ≡ call.level → length later.message ≤ x.channel.max_request →
@@ -92,8 +93,8 @@ module _ (X : Extra) (owed : AreLawful X) (m : Signing) (p : Policy) (lattice : 
         λ few. unrecorded_behind X m p journal event later (once.1 few),
       )
 
-  pub room_left : IsSized m → (event : Event) (call : Call) (arguments : List ℕ) (c : Compound) (args : Sequence) (x : Session) (slot : SlotRow) → ComesOnSlot X m p journal event call arguments c args x slot →
+  pub room_left : (text : List ℕ) → policy_of text ≡ Ok p → IsSized m → (event : Event) (call : Call) (arguments : List ℕ) (c : Compound) (args : Sequence) (x : Session) (slot : SlotRow) → ComesOnSlot X m p journal event call arguments c args x slot →
       IfSome (reply_with X m p journal event) (λ reply. length reply ≤ x.channel.max_response)
   unfolding reply_with
-  room_left sized event call arguments c args x slot comes =
-      room_at X owed m p lattice (state_after X m p journal) (holds_after X owed m p lattice journal) sized (sizes_after X owed m p lattice journal) event call arguments c args x slot comes
+  room_left text is sized event call arguments c args x slot comes =
+      room_at X owed m p lattice (state_after X m p journal) (holds_after X owed m p lattice journal) text is sized (bounds_after X owed m p text is journal) event call arguments c args x slot comes

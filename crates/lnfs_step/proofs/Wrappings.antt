@@ -9,6 +9,7 @@ use Rattle.lnfs_xdr.proofs.Sizes.{length-word, length-opaque}
 use Rattle.lnfs_rpc.specs.declared.numbers.TheConstants.{PROG_MISMATCH, NFS_VERSION}
 use Rattle.lnfs_rpc.specs.Replies.{accepted, reply_text, head_text}
 use Rattle.lnfs_policy.specs.declared.rows.Parent.{Parent}
+use Rattle.lnfs_operations.specs.declared.numbers.TheConstants.{LARGEST_WRAPPING}
 use Rattle.lnfs_gss3.specs.Mechanism.{Signing, IsSized}
 use Rattle.lnfs_gss3.specs.Grammar.{databody, signed_text}
 use Rattle.lnfs_gss3.specs.Replies.{replied}
@@ -41,7 +42,7 @@ module _ (m : Signing) (sized : IsSized m) where
   verifier_length (Signed parent header sequence) = omega (arith, signature_length parent (replied header))
 
   -- what results are wrapped in: their length, the sequence number, pad bytes, and the signature
-  wrapped_length : (w : Wrapping) (results : List ℕ) → length (wrapped_in m w results) ≤ length results + 47
+  wrapped_length : (w : Wrapping) (results : List ℕ) → length (wrapped_in m w results) ≤ length results + padding (length results) + 44
   unfolding signed_text databody
   wrapped_length Plain results = omega arith
   wrapped_length (Signed parent header sequence) results =
@@ -53,7 +54,7 @@ module _ (m : Signing) (sized : IsSized m) where
   accepted_length w xid stat results = simp (length-append, length-word) (omega (arith, verifier_length w))
 
   -- the largest wrapping of results
-  pub answer_length : (w : Wrapping) (xid : ℕ) (results : List ℕ) → length (answer_text m w xid results) ≤ length results + 103
+  pub answer_length : (w : Wrapping) (xid : ℕ) (results : List ℕ) → length (answer_text m w xid results) ≤ length results + padding (length results) + LARGEST_WRAPPING
   answer_length w xid results = omega (arith, accepted_length w xid SUCCESS (wrapped_in m w results), wrapped_length w results)
 
   pub bare_length : (w : Wrapping) (xid : ℕ) → length (bare_text m w xid) ≤ RECORD_LIMIT

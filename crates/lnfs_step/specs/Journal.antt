@@ -5,10 +5,11 @@ use Rattle.lnfs_types.specs.declared.event.Event.{Event}
 use Rattle.lnfs_policy.specs.Policy.{Policy, dominance}
 use Rattle.lnfs_world.specs.Facts.{Facts}
 use Rattle.lnfs_world.specs.Both.{Both, both, both_seen}
+use Rattle.lnfs_operations.specs.Bounds.{IsSound}
 use Rattle.lnfs_operations.specs.Extra.{Extra, no_extra}
 use Rattle.lnfs_gss3.specs.Mechanism.{Signing}
 use Rattle.lnfs_step.specs.Purged.{purged_for}
-use Rattle.lnfs_site.specs.Site.{first_world}
+use Rattle.lnfs_site.specs.Site.{site_of, first_world}
 use Rattle.lnfs_step.specs.Step.{Line, step_with}
 
 -- ---- with further operations
@@ -16,6 +17,11 @@ use Rattle.lnfs_step.specs.Step.{Line, step_with}
 -- what holds of every state that is kept
 pub record Holds (X : Extra) (p : Policy) (b : Both X.Row) : Type 0 where
   pub facts : Facts (dominance p) b.world
+  pub own : X.Fact b.world b.own
+
+-- and the same with the bounds of all rows, by the site of the policy
+pub record IsKept (X : Extra) (p : Policy) (b : Both X.Row) : Type 0 where
+  pub sound : IsSound (site_of p) b.world
   pub own : X.Fact b.world b.own
 
 -- what a level sees of a state

@@ -6,4 +6,6 @@ pub mod Level
 pub mod Purged
 pub mod Journal
 pub mod Sessions
+pub mod Named
 pub mod Lines
+pub mod Limited

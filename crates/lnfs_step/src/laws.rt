@@ -4,13 +4,13 @@ ghost use Rattle.lnfs_calipso.specs.Label.{IsPreorderWithBottom};
 ghost use Rattle.lnfs_types.specs.declared.limits.TheConstants.{RECORD_LIMIT};
 ghost use Rattle.lnfs_types.specs.declared.event.Event.{Event};
 ghost use Rattle.lnfs_policy.specs.Policy.{Policy, dominance};
+ghost use Rattle.lnfs_policy.specs.PolicyText.{IsPolicy};
 ghost use Rattle.lnfs_world.specs.Both.{Both};
 ghost use Rattle.lnfs_world.specs.Labels.{LabelsRise};
-ghost use Rattle.lnfs_operations.specs.Sizes.{Sizes};
 ghost use Rattle.lnfs_step.specs.Level.{level_of};
 ghost use Rattle.lnfs_step.specs.Purged.{is_dominated, IsSecret};
 ghost use Rattle.lnfs_step.specs.Step.{step_with};
-ghost use Rattle.lnfs_step.specs.Journal.{Holds, seen_at, state_after, reply_with, answer_with};
+ghost use Rattle.lnfs_step.specs.Journal.{Holds, IsKept, seen_at, state_after, reply_with, answer_with};
 
 use lnfs_gss3::Mechanism;
 use lnfs_operations::ExtraRows;
@@ -42,9 +42,9 @@ pub fn purge<X: ExtraRows, M: Mechanism>()
         ≡ seen_at X.extra p level a }
     ensures facts { (p : Policy) → IsPreorderWithBottom (dominance p) → (journal : List Event) →
         Holds X.extra p (state_after X.extra M.signing p journal) }
-    // What sessions grant and the lengths of kept results stay within the limits of the server.
-    ensures sizes { (p : Policy) → IsPreorderWithBottom (dominance p) → (journal : List Event) →
-        Sizes (state_after X.extra M.signing p journal).world }
+    // With the facts the bounds of all rows hold, under a policy that was read.
+    ensures kept { (p : Policy) → IsPolicy p → (journal : List Event) →
+        IsKept X.extra p (state_after X.extra M.signing p journal) }
     // Labels go up alone: a node that stands before and after an event has a label afterwards that dominates
     // the one that it had.
     ensures labels { (p : Policy) → IsPreorderWithBottom (dominance p) →
@@ -52,7 +52,7 @@ pub fn purge<X: ExtraRows, M: Mechanism>()
         LabelsRise (dominance p) (state_after X.extra M.signing p journal).world
         (state_after X.extra M.signing p (journal ++ event ∷ [])).world }
     // A reply is a record that a fragment holds.
-    ensures short { (p : Policy) → IsPreorderWithBottom (dominance p) →
+    ensures short { (p : Policy) → IsPolicy p →
         (journal : List Event) (event : Event) →
         IfSome (reply_with X.extra M.signing p journal event) (λ reply. length reply
         ≤ RECORD_LIMIT) }

@@ -7,6 +7,7 @@
 
 mod context_laws;
 mod laws;
+mod limited_laws;
 mod line_laws;
 pub mod numbers;
 mod session_laws;
@@ -14,6 +15,7 @@ mod step_laws;
 
 pub use context_laws::{contexts_are_lawful, contexts_are_signed};
 pub use laws::{purge, secrecy};
+pub use limited_laws::labels_are_carried;
 pub use line_laws::denials_are_recorded;
 pub use session_laws::sessions;
 pub use step_laws::{one_step, session_step};

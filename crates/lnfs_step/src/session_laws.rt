@@ -6,6 +6,7 @@ ghost use Rattle.lnfs_arguments.specs.declared.types.Compound.{Compound};
 ghost use Rattle.lnfs_arguments.specs.declared.types.CreateSession.{CreateSession};
 ghost use Rattle.lnfs_arguments.specs.declared.types.Sequence.{Sequence};
 ghost use Rattle.lnfs_policy.specs.Policy.{Policy, dominance};
+ghost use Rattle.lnfs_policy.specs.PolicyText.{IsPolicy};
 ghost use Rattle.lnfs_world.specs.World.{Id, Kept, Client, Slot, Session, client_at, session_at};
 ghost use Rattle.lnfs_operations.specs.Accepted.{WasAccepted, too_many};
 ghost use Rattle.lnfs_operations.specs.InOrder.{sequence_before};
@@ -23,7 +24,7 @@ use lnfs_operations::ExtraRows;
 /// come in a context: what is kept and given again is the result without its wrapping.
 pub fn sessions<X: ExtraRows, M: Mechanism>()
     // The COMPOUND whose result its slot keeps gets that result (RFC 8881 section 2.10.6.1).
-    ensures retry { (p : Policy) → IsPreorderWithBottom (dominance p) →
+    ensures retry { (p : Policy) → IsPolicy p →
         (journal : List Event) (event : Event) (call : Call) (arguments : List ℕ) (c : Compound)
         (args : Sequence) (x : Session) (slot : Slot) (result : List ℕ) →
         ComesOnSlot X.extra M.signing p journal event call arguments c args x slot →
@@ -85,14 +86,14 @@ pub fn sessions<X: ExtraRows, M: Mechanism>()
         client.kept ≡ Some kept →
         HasOrigin X.extra M.signing p journal i.level kept }
     // What a slot keeps was accepted: its arguments are read as a COMPOUND of no more operations than the session grants.
-    ensures accepted { (p : Policy) → IsPreorderWithBottom (dominance p) →
+    ensures accepted { (p : Policy) → IsPolicy p →
         (journal : List Event) (i : Id) (x : Session) (n : ℕ) (slot : Slot) (kept : Kept) →
         session_at (state_after X.extra M.signing p journal).world.sessions i ≡ Some x →
         slice_get x.slots n ≡ Some slot → slot.kept ≡ Some kept →
         WasAccepted X.extra.grammar x.channel.max_operations kept }
     // With its wrapping the reply to a COMPOUND on a slot has no more bytes than its session's responses, be the COMPOUND
     // new, a retry or out of order (RFC 8881 section 2.10.6.4).
-    ensures room { (p : Policy) → IsPreorderWithBottom (dominance p) →
+    ensures room { (p : Policy) → IsPolicy p →
         (journal : List Event) (event : Event) (call : Call) (arguments : List ℕ) (c : Compound)
         (args : Sequence) (x : Session) (slot : Slot) →
         ComesOnSlot X.extra M.signing p journal event call arguments c args x slot →

@@ -9,7 +9,7 @@ use Rattle.lnfs_world.specs.Both.{Both, both}
 use Rattle.lnfs_operations.specs.Extra.{Extra}
 use Rattle.lnfs_gss3.specs.Mechanism.{Signing}
 use Rattle.lnfs_site.specs.Site.{first_label, first_dir, first_world}
-use Rattle.lnfs_step.specs.Journal.{state_after, state_from}
+use Rattle.lnfs_step.specs.Journal.{IsKept, state_after, state_from}
 use Rattle.lnfs_world.proofs.FirstTrees.{IsBare, first_empty}
 use Rattle.lnfs_site.proofs.FirstWorlds.{first_bare}
 use Rattle.lnfs_step.specs.Step.{step_with}
@@ -36,3 +36,7 @@ no_bytes p rows is = subst (λ (r : Rows). AllByRecursion (λ n. bytes_of n n.ki
 pub said : (X : Extra) (m : Signing) (p q : Policy) (journal : List Event) (event : Event) (place : ℕ) (before after : Both X.Row) (served : Served) → q ≡ p → before ≡ state_after X m p journal → SaysServed place after (step_with X m q before event) served → SaysServed place after (step_with X m p (state_after X m p journal) event) served
 said X m p q journal event place before after served same is says =
     subst (λ (b : Both X.Row). SaysServed place after (step_with X m p b event) served) is (subst (λ r. SaysServed place after (step_with X m r before event) served) same says)
+
+-- so it is kept as the state after a journal is
+pub stands_kept : (X : Extra) (m : Signing) (p q : Policy) (journal : List Event) (before : Both X.Row) → q ≡ p → before ≡ state_after X m p journal → IsKept X p (state_after X m p journal) → IsKept X q before
+stands_kept X m p q journal before same is kept = subst (λ r. IsKept X r before) (sym same) (subst (IsKept X p) (sym is) kept)

@@ -6,13 +6,15 @@ ghost use Rattle.lnfs_format.specs.declared.formats.TheConstants.{MAX_SPELLING};
 ghost use Rattle.lnfs_policy.specs.Policy.{Policy as any_policy, dominance};
 ghost use Rattle.lnfs_world.specs.Outcome.{begins_at};
 ghost use Rattle.lnfs_world.specs.Both.{both, BothStand};
-ghost use Rattle.lnfs_operations.specs.Sizes.{Sizes, IsRead};
+ghost use Rattle.lnfs_operations.specs.Sizes.{IsRead, is_level};
+ghost use Rattle.lnfs_operations.specs.Bounds.{Bounds};
 ghost use Rattle.lnfs_gss3.specs.Contexts.{has_context};
+ghost use Rattle.lnfs_site.specs.Site.{site_of};
 ghost use Rattle.lnfs_step.specs.Wrapping.{refusal_text, bare_text, Plain};
 ghost use Rattle.lnfs_step.specs.Request.{Run as run_task, MakeContext as make_task, EndContext as end_task, Asked as asked};
 ghost use Rattle.lnfs_step.specs.Contexts.{is_there};
 ghost use Rattle.lnfs_step.specs.Step.{step_with, step_of, done_for, line_of_cause};
-ghost use Rattle.lnfs_step.specs.Journal.{Holds};
+ghost use Rattle.lnfs_step.specs.Journal.{IsKept};
 ghost use Rattle.lnfs_vault.specs.Lines.{IsLineOf};
 ghost use Rattle.lnfs_vault.specs.Requests.{seen_cause, seen_wrapping, seen_context, seen_call, seen_task, IsTask, HasForm};
 ghost use Rattle.lnfs_vault.specs.Says.{Says};
@@ -95,10 +97,11 @@ fn run<X: Extra, M: Mechanism>(
     requires event { Fits arrival.event.now }
     requires read { IsRead run.now.compound }
     requires few { length run.now.compound.ops ≤ 32 }
+    requires level { is_level (site_of site.now) call.now.level.0 ≡ true }
     requires facts { BothStand X.extra.Fact (dominance site.now)
         (begins_at call.now.level.0 arrival.event.now.moment)
         (both engine.old.store (X.rows engine.old.extra)) }
-    requires sizes { Sizes engine.old.store }
+    requires bounds { Bounds (site_of site.now) engine.old.store }
     ensures { IfOk result (λ said.
         Says arrival.entry.at (both engine.new.store (X.rows engine.new.extra))
         (done_for X.extra M.signing site.now (both engine.old.store (X.rows engine.old.extra))
@@ -223,8 +226,8 @@ fn answer<X: Extra, M: Mechanism>(
     requires event { Fits arrival.event.now }
     requires task { IsTask (seen_task task.now) }
     requires form { HasForm call.now task.now }
-    requires holds { Holds X.extra site.now (both engine.old.store (X.rows engine.old.extra)) }
-    requires sizes { Sizes engine.old.store }
+    requires level { is_level (site_of site.now) call.now.level.0 ≡ true }
+    requires kept { IsKept X.extra site.now (both engine.old.store (X.rows engine.old.extra)) }
     ensures { IfOk result (λ said.
         Says arrival.entry.at (both engine.new.store (X.rows engine.new.extra))
         (step_of X.extra M.signing site.now (both engine.old.store (X.rows engine.old.extra))
@@ -259,16 +262,18 @@ pub fn say<X: Extra, M: Mechanism>(
     arrival: JournaledEvent<'_>,
 ) -> Result<Said, AllocError>
     requires event { Fits arrival.event.now }
-    requires holds { Holds X.extra site.now (both engine.old.store (X.rows engine.old.extra)) }
-    requires sizes { Sizes engine.old.store }
+    requires kept { IsKept X.extra site.now (both engine.old.store (X.rows engine.old.extra)) }
     ensures { IfOk result (λ said.
         Says arrival.entry.at (both engine.new.store (X.rows engine.new.extra))
         (step_with X.extra M.signing site.now (both engine.old.store (X.rows engine.old.extra))
         arrival.entry.event.now) said) }
 {
+    // a caller that has a level has one of the site
+    let policy = site.policy();
+    policy.law_policy();
     match request_of(
         alloc,
-        site.policy(),
+        policy,
         codecs,
         mechanism,
         &engine.extra,

@@ -14,10 +14,9 @@ ghost use Rattle.lnfs_operations.specs.InOrder.{sequence_before};
 ghost use Rattle.lnfs_site.specs.Site.{first_world};
 ghost use Rattle.lnfs_tree.specs.Rows.{rows_of};
 ghost use Rattle.lnfs_engine.specs.Stores.{only_tree};
-ghost use Rattle.lnfs_operations.specs.Sizes.{Sizes};
 ghost use Rattle.lnfs_step.specs.Request.{Call};
 ghost use Rattle.lnfs_step.specs.Step.{step_with};
-ghost use Rattle.lnfs_step.specs.Journal.{Holds, state_after, reply_with, line_with, answer_with};
+ghost use Rattle.lnfs_step.specs.Journal.{Holds, IsKept, state_after, reply_with, line_with, answer_with};
 ghost use Rattle.lnfs_step.specs.Sessions.{ComesOnSlot, ComesToClient};
 ghost use Rattle.lnfs_vault.specs.Lines.{IsLineOf};
 ghost use Rattle.lnfs_vault.specs.Retried.{IsRetried};
@@ -69,8 +68,7 @@ fn attempt<X: Extra, M: Mechanism>(
     event: Event,
 ) -> Result<Served, AllocError>
     requires event { Fits event }
-    requires holds { Holds X.extra site.now (both engine.old.store (X.rows engine.old.extra)) }
-    requires sizes { Sizes engine.old.store }
+    requires kept { IsKept X.extra site.now (both engine.old.store (X.rows engine.old.extra)) }
     ensures says { IfOk result (λ served.
         SaysServed (length journal.old.items + 1) (both engine.new.store (X.rows engine.new.extra))
         (step_with X.extra M.signing site.now (both engine.old.store (X.rows engine.old.extra))
@@ -239,6 +237,7 @@ impl<M: Mechanism + Drop, X: Extra> VaultOf<M, X> {
         purge::<X, M>();
         sessions::<X, M>();
         self.policy.law_preorder();
+        self.policy.law_policy();
         if self.stopped {
             return Err(AllocError);
         }

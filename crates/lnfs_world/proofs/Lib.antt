@@ -31,5 +31,6 @@ pub mod LinkedNames
 pub mod MovedNames
 pub mod Alone
 pub mod WholeWalks
+pub mod Leases
 pub mod FirstTrees
 pub mod FirstDirs

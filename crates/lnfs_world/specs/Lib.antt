@@ -8,6 +8,7 @@ pub mod Change
 pub mod Facts
 pub mod Within
 pub mod Effects
+pub mod Leases
 pub mod Opens
 pub mod Outcome
 pub mod Tame

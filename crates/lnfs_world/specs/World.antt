@@ -32,6 +32,8 @@ pub record Client : Type 0 where
   pub kept : Option Kept
   -- whether it said that it reclaims no more (RFC 8881 section 18.51)
   pub reclaimed : Bool
+  -- the seconds of the moment at which its lease was last renewed, if it was (RFC 8881 section 8.3)
+  pub seen : Option ℕ
 
 -- What a session grants of a channel (RFC 8881 section 18.36).
 pub record Channel : Type 0 where

@@ -1,8 +1,8 @@
-use Rattle.std.proofs.Common.{sym, ap, ◌∙◌}
+use Rattle.std.proofs.Common.{sym, ap}
 use Rattle.lnfs_arguments.specs.declared.types.Op.TheVariants as ops
 use Rattle.lnfs_world.specs.Outcome.{begins_at}
 use Rattle.lnfs_operations.specs.ExchangeId.{Arguments, exchange_id}
-use Rattle.lnfs_operations.specs.Served.{Nowhere, told_reply, reply_of}
+use Rattle.lnfs_operations.specs.Served.{told_reply, reply_of}
 use Rattle.lnfs_session.specs.declared.exchange.ClientInfo.{ClientInfo}
 use Rattle.lnfs_session.specs.Standing.{standing}
 use Rattle.lnfs_session.specs.Answers.{told_of}

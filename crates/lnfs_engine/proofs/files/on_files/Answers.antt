@@ -1,65 +1,29 @@
-use Rattle.std.proofs.Common.{ℕ, List, sym, ap, ◌∙◌}
-use Rattle.lnfs_arguments.specs.declared.types.Op.TheVariants as ops
-use Rattle.lnfs_world.specs.World.{World}
-use Rattle.lnfs_files.specs.Worlds.{with_opens, with_files}
+use Rattle.std.proofs.Common.{rules, ◌≡◌, ◌∙◌, List, sym, ap}
+use Rattle.std.proofs.lemmas.Result.{IfOk-weaker}
+use Rattle.lnfs_world.specs.World.{Client, World}
+use Rattle.lnfs_world.specs.Leases.{over_at}
+use Rattle.lnfs_open.specs.Listed.{client_id}
+use Rattle.lnfs_files.specs.Worlds.{with_files}
+use Rattle.lnfs_engine.specs.declared.place.Keeper as code
+use Rattle.lnfs_engine.specs.declared.reply.Came.{Came}
 use Rattle.lnfs_engine.specs.Places.{place_of}
-use Rattle.lnfs_engine.specs.Performs.{site_in, sent_of}
-use Rattle.lnfs_engine.proofs.Telling.{told_from}
+use Rattle.lnfs_engine.specs.Performs.{site_in, sent_of, turn, Performs}
+use Rattle.lnfs_engine.proofs.Acting.{some_world}
 use Rattle.lnfs_engine.proofs.files.on_files.Goals as goal
 
-pub returns-in_ok-answer-in-Open-clause-performs : goal.returns-in_ok-answer-in-Open-clause-performs
-returns-in_ok-answer-in-Open-clause-performs c =
+-- The leases are those of a world that has the clients.
+pub returns-clause-performs : goal.returns-clause-performs
+returns-clause-performs c =
     let r = c.args.request.now in
     let p = place_of c.args.place.now in
-    let x = c.in-Open in
-    let owner = c.as_slice in
-    let op = ops.Open x.seqid x.access x.deny x.client owner.result.now x.making x.claim in
-    let answer = c.in_ok-answer-in-Open in
-    let said = c.say in
-    told_from r.begin c.args.out.now said.new.out (site_in r) (sent_of r) c.args.op.now op p (place_of c.on_open.new.place) answer.answer (x.is ∙ ap (λ (n : List ℕ). ops.Open x.seqid x.access x.deny x.client n x.making x.claim) (sym owner.ensures)) said.result said.ensures
-    (λ (rest : World). with_files rest c.args.tree.now c.args.opens.now) (λ (rest : World). with_files rest c.on_open.new.tree c.on_open.new.opens) (λ rest. answer.ensures.serves rest op)
+    let clients = c.args.clients.now.clients in
+    let before = λ (rest : World). with_files rest c.args.tree.now c.args.opens.now in
+    let after = λ (rest : World). with_files rest c.serve_files.new.tree c.serve_files.new.opens in
+    IfOk-weaker c.serve_files.result _ (λ (came : Came). (keeper : code.Keeper) (rest : World) → rest.clients ≡ clients → Performs r.begin c.args.out.now c.serve_files.new.out keeper keeper (place_of c.serve_files.new.place) (after rest) (turn (site_in r) (sent_of r) c.args.op.now p (before rest)) came)
+    (λ came did keeper rest own. did keeper rest (λ client answer known few told. let now : answer ≡ over_at clients p.moment (client_id client) = search rules in now ∙ ap (λ (cs : List Client). over_at cs p.moment (client_id client)) (sym own)))
+    c.serve_files.ensures.performs
 
-pub returns-in-Close-clause-performs : goal.returns-in-Close-clause-performs
-returns-in-Close-clause-performs c =
-    let r = c.args.request.now in
+pub returns-clause-counts : goal.returns-clause-counts
+returns-clause-counts c =
     let p = place_of c.args.place.now in
-    let x = c.in-Close in
-    let op = ops.Close x.seqid x.id in
-    let answer = c.on_close-answer in
-    let said = c.say-in-Close in
-    told_from r.begin c.args.out.now said.new.out (site_in r) (sent_of r) c.args.op.now op p p answer.result x.is said.result said.ensures
-    (λ (rest : World). with_files rest c.args.tree.now c.args.opens.now) (λ (rest : World). with_files rest c.args.tree.now answer.new.opens) (λ rest. answer.ensures.serves rest op)
-
-pub returns-in_ok-answer-in-Write-clause-performs : goal.returns-in_ok-answer-in-Write-clause-performs
-returns-in_ok-answer-in-Write-clause-performs c =
-    let r = c.args.request.now in
-    let p = place_of c.args.place.now in
-    let x = c.in-Write in
-    let content = c.as_slice-in-Write in
-    let op = ops.Write x.id x.offset x.stable content.result.now in
-    let answer = c.in_ok-answer-in-Write in
-    let said = c.say-in-Write in
-    told_from r.begin c.args.out.now said.new.out (site_in r) (sent_of r) c.args.op.now op p p answer.answer (x.is ∙ ap (ops.Write x.id x.offset x.stable) (sym content.ensures)) said.result said.ensures
-    (λ (rest : World). with_files rest c.args.tree.now c.args.opens.now) (λ (rest : World). with_files rest c.on_write.new.tree c.args.opens.now) (λ rest. answer.ensures.serves rest op)
-
-pub returns-in-Commit-clause-performs : goal.returns-in-Commit-clause-performs
-returns-in-Commit-clause-performs c =
-    let r = c.args.request.now in
-    let p = place_of c.args.place.now in
-    let x = c.in-Commit in
-    let op = ops.Commit x.offset x.count in
-    let answer = c.on_commit-answer in
-    let said = c.say-in-Commit in
-    told_from r.begin c.args.out.now said.new.out (site_in r) (sent_of r) c.args.op.now op p p answer.result x.is said.result said.ensures
-    (λ (rest : World). with_files rest c.args.tree.now c.args.opens.now) (λ (rest : World). with_files rest c.args.tree.now c.args.opens.now) (λ rest. answer.ensures.serves (with_opens rest c.args.opens.now) op)
-
-pub returns-in_ok-answer-in-SetAttr-clause-performs : goal.returns-in_ok-answer-in-SetAttr-clause-performs
-returns-in_ok-answer-in-SetAttr-clause-performs c =
-    let r = c.args.request.now in
-    let p = place_of c.args.place.now in
-    let x = c.in-SetAttr in
-    let op = ops.SetAttr x.id x.attrs in
-    let answer = c.in_ok-answer-in-SetAttr in
-    let said = c.say-in-SetAttr in
-    told_from r.begin c.args.out.now said.new.out (site_in r) (sent_of r) c.args.op.now op p p answer.answer x.is said.result said.ensures
-    (λ (rest : World). with_files rest c.args.tree.now c.args.opens.now) (λ (rest : World). with_files rest c.on_set_attr.new.tree c.args.opens.now) (λ rest. answer.ensures.serves rest op)
+    c.serve_files.ensures.counts (record some_world { clients = c.args.clients.now.clients }) (λ client answer known few told. search rules)

@@ -18,7 +18,8 @@ use Rattle.lnfs_engine.specs.declared.reply.Came.{Came}
 use Rattle.lnfs_engine.specs.Replies.{SaysWritten}
 use Rattle.lnfs_engine.specs.Performs.{sent_of, turn, Performs}
 use Rattle.lnfs_engine.specs.Counts.{AreAsMany}
-use Rattle.lnfs_engine.proofs.Acting.{some_world}
+use Rattle.lnfs_files.specs.Leases.{Leases}
+use Rattle.lnfs_engine.proofs.Told.{told_at}
 use Rattle.lnfs_engine.proofs.Counting.{many_counts}
 use Rattle.lnfs_engine.proofs.NamesCounts.{read_many}
 use Rattle.lnfs_engine.proofs.OnNodes.{wrote_performs}
@@ -28,7 +29,7 @@ abbrev result_of : Data → OpResult
 result_of d = results.Read d.eof d.content
 
 pub returns-clause-performs : goal.returns-clause-performs
-returns-clause-performs c =
+returns-clause-performs g c =
     let r = c.args.request.now in
     let p = place_of c.args.place.now in
     let x = c.args.args.now in
@@ -39,18 +40,18 @@ returns-clause-performs c =
     let s = c.args.opens.now in
     let mid = c.read.new.out in
     let answer = c.in_ok-answer in
-    let Goal : Op → Came → Type 0 = λ o came. (keeper : code.Keeper) (rest : World) → Performs r.begin c.args.out.now c.wrote.new.out keeper keeper p (with_files rest u s) (turn (site_in r) (sent_of r) o p (with_files rest t s)) came in
+    let Goal : Op → Came → Type 0 = λ o came. (keeper : code.Keeper) (rest : World) → Leases (goal.F-post g c.args.over.now) rest p.moment → Performs r.begin c.args.out.now c.wrote.new.out keeper keeper p (with_files rest u s) (turn (site_in r) (sent_of r) o p (with_files rest t s)) came in
     IfOk-weaker c.wrote.result _ (Goal c.args.op.now)
-    (λ came more. subst (λ o. Goal o came) (sym c.requires.op) (λ keeper rest.
+    (λ came more. subst (λ o. Goal o came) (sym c.requires.op) (λ keeper rest tells.
     let before = with_files rest t s in
     let after = with_files rest u s in
     wrote_performs result_of (λ d. refl) op r.begin c.args.out.now mid c.wrote.new.out keeper p before after (read (site_in r) args p before) answer.answer came
-    (subst (λ (q : Place). Writes c.args.out.now mid result_of q before after (read (site_in r) args q before) answer.answer) c.caller_of-caller.ensures (answer.ensures.writes p rest refl))
+    (subst (λ (q : Place). Writes c.args.out.now mid result_of q before after (read (site_in r) args q before) answer.answer) c.caller_of-caller.ensures (answer.ensures.writes p rest (told_at _ rest p c.caller_of-caller.result c.caller_of-caller.ensures tells) refl))
     (subst (λ o. SaysWritten mid c.wrote.new.out o answer.answer came) c.requires.op more)))
     c.wrote.ensures
 
 pub returns-clause-counts : goal.returns-clause-counts
-returns-clause-counts c = λ rows counts.
+returns-clause-counts g c = λ rows rest tells counts.
     let p = place_of c.args.place.now in
     let site = site_in c.args.request.now in
     let x = c.args.args.now in
@@ -60,4 +61,4 @@ returns-clause-counts c = λ rows counts.
     let s = c.args.opens.now in
     let at : Place = placed p c.caller_of-caller.result in
     many_counts rows t.nodes u.nodes counts
-    (subst (λ (w : World). AreAsMany t.nodes w.nodes) (sym (c.in_ok-answer.ensures.writes p some_world refl).world) (read_many site at (with_opens some_world s) t c.requires.facts args))
+    (subst (λ (w : World). AreAsMany t.nodes w.nodes) (sym (c.in_ok-answer.ensures.writes p rest (told_at _ rest p c.caller_of-caller.result c.caller_of-caller.ensures tells) refl).world) (read_many site at (with_opens rest s) t c.requires.facts args))

@@ -27,7 +27,8 @@ returns-in-Sequence-clause-performs c =
     let r = c.args.request.now in
     let p = place_of c.args.place.now in
     let tree = c.store.inside.tree in
-    let Goal : World → Came → Type 0 = λ w came. Performs r.begin c.args.out.now c.sequence.new.out c.args.keeper.now c.sequence.new.keeper (place_of c.sequence.new.place) w (turn (site_in r) (sent_of r) c.args.op.now p w) came in
+    let after = stored c.sequence.new.clients tree c.store.inside.opens c.store.inside.contexts in
+    let Goal : World → Came → Type 0 = λ w came. Performs r.begin c.args.out.now c.sequence.new.out c.args.keeper.now c.sequence.new.keeper (place_of c.sequence.new.place) after (turn (site_in r) (sent_of r) c.args.op.now p w) came in
     IfOk-weaker c.sequence.result _ (Goal c.args.store.now)
     (λ came did. subst (λ w. Goal w came) c.store.view_is (did (with_opens (beside tree c.store.inside.contexts) c.store.inside.opens)))
     c.sequence.ensures.performs
@@ -100,7 +101,7 @@ returns-in-Open-clause-performs c =
     let after = stored clients c.on_files.new.tree c.on_files.new.opens c.store.inside.contexts in
     let Goal : World → Came → Type 0 = λ w came. Performs r.begin c.args.out.now c.on_files.new.out here here q after (turn (site_in r) (sent_of r) c.args.op.now p w) came in
     IfOk-weaker c.on_files.result _ (Goal c.args.store.now)
-    (λ came did. subst (λ w. Goal w came) c.store.view_is (did here (stored clients c.store.inside.tree c.store.inside.opens c.store.inside.contexts)))
+    (λ came did. subst (λ w. Goal w came) c.store.view_is (did here (stored clients c.store.inside.tree c.store.inside.opens c.store.inside.contexts) refl))
     c.on_files.ensures.performs
 
 pub on_nodes-requires-clause-own : goal.on_nodes-requires-clause-own

@@ -1,7 +1,6 @@
 use Rattle.std.proofs.Common.{refl, sym, ap, ◌∙◌, subst}
 use Rattle.std.proofs.lemmas.Result.{IfOk-weaker}
 use Rattle.lnfs_arguments.specs.declared.types.Op.TheVariants as ops
-use Rattle.lnfs_arguments.specs.declared.types.CreateSession.{CreateSession}
 use Rattle.lnfs_world.specs.World.{World, client_at}
 use Rattle.lnfs_world.specs.Outcome.{begins_at}
 use Rattle.lnfs_operations.specs.Identifiers.{client_named}
@@ -32,7 +31,7 @@ returns-in-Some-clause-performs c =
     let w = standing (with_opens rest c.args.opens.now) before in
     let v = standing (with_opens rest c.make_session.new.opens) after in
     let keeper = created_keeper args p w in
-    let did = subst (λ answer. Acts (row (site_in r) (sent_of r) (ops.CreateSession args) p w) (made_of (ops.CreateSession args) keeper after args answer) p w v) c.in-Some.is (c.in_ok-answer.ensures.acts (site_in r) r.size r.compound.now.count at.moment rest) in
+    let did = subst (λ answer. Acts (row (site_in r) (sent_of r) (ops.CreateSession args) p w) (made_of (ops.CreateSession args) keeper after args answer) p w v) c.in-Some.is (c.in_ok-answer.ensures.acts (site_in r) r.size r.compound.now.count at.moment rest refl) in
     subst (λ q. Performs r.begin c.args.out.now c.say.new.out c.args.keeper.now next q v (turn (site_in r) (sent_of r) op q w) came) (sym c.requires.first.place)
     (performs r.begin c.args.out.now c.say.new.out c.args.keeper.now next p (site_in r) (sent_of r) op p p w v (own_of op keeper c.in-Some.answer) came
     (named (site_in r) (sent_of r) op (ops.CreateSession args) p p w v (λ o. own_of o keeper c.in-Some.answer) c.requires.op did)
@@ -65,7 +64,7 @@ returns-in-None-clause-performs c =
     let v = standing (with_opens rest c.make_session.new.opens) after in
     let keeper = created_keeper args p w in
     let kept = or_none (kept_reply (client_at after.clients (client_named args.client))) in
-    let did = subst (λ answer. Acts (row (site_in r) (sent_of r) (ops.CreateSession args) p w) (made_of (ops.CreateSession args) keeper after args answer) p w v) c.in-None.is (c.in_ok-answer.ensures.acts (site_in r) r.size r.compound.now.count at.moment rest) in
+    let did = subst (λ answer. Acts (row (site_in r) (sent_of r) (ops.CreateSession args) p w) (made_of (ops.CreateSession args) keeper after args answer) p w v) c.in-None.is (c.in_ok-answer.ensures.acts (site_in r) r.size r.compound.now.count at.moment rest refl) in
     subst (λ q. Performs r.begin c.args.out.now c.repeat.new.out here here q v (turn (site_in r) (sent_of r) op q w) came) (sym c.requires.first.place)
     (performs r.begin c.args.out.now c.repeat.new.out here here p (site_in r) (sent_of r) op p p w v (Kept kept) came
     (named (site_in r) (sent_of r) op (ops.CreateSession args) p p w v (λ o. Kept kept) c.requires.op did)

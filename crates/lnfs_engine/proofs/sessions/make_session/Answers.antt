@@ -38,7 +38,7 @@ refused_opens client opens f a (Status code foreign) why is answers = ap (opens_
 refused_opens client opens f a Memory why is answers = absurd is
 
 pub returns-in-Ok-New-clause-acts : goal.returns-in-Ok-New-clause-acts
-returns-in-Ok-New-clause-acts c = λ site size count moment rest.
+returns-in-Ok-New-clause-acts c = λ site size count moment rest at.
     let args = c.args.args.now in
     let op = ops.CreateSession args in
     let p = begins_at c.args.level moment in
@@ -62,10 +62,10 @@ returns-in-Ok-New-clause-acts c = λ site size count moment rest.
     ∙ ap (λ r. own_of op keeper (Ok r)) (sym c.created_result.ensures.created) in
     let sent : Sent = record { arguments = c.args.bytes.now; size = size; count = count } in
     subst (λ (v : opens.Lists). Acts (row site sent op p w) (own_of op keeper (Ok c.created_result.result)) p w (standing (with_opens rest v) c.create_session.new.self)) (sym c.drop_opens.ensures)
-    (acts here stays l c.create_session.new.self o _ p _ own same (x.ensures.lists moment here))
+    (acts here stays l c.create_session.new.self o _ p _ own same (x.ensures.lists moment here at))
 
 pub returns-in_ok-refused_by-in-Err-clause-acts : goal.returns-in_ok-refused_by-in-Err-clause-acts
-returns-in_ok-refused_by-in-Err-clause-acts c = λ site size count moment rest.
+returns-in_ok-refused_by-in-Err-clause-acts c = λ site size count moment rest at.
     let args = c.args.args.now in
     let op = ops.CreateSession args in
     let p = begins_at c.args.level moment in
@@ -80,10 +80,10 @@ returns-in_ok-refused_by-in-Err-clause-acts c = λ site size count moment rest.
     let own : IsOwn p w s.opens o = subst (λ opens. IsOwn p w opens o) (refused_opens (given_way args l.clients) s.opens (created_of l args) o.answer c.in-Err.error why is answers) (create_session_own c.args.level moment w args c.args.bytes.now) in
     acts here s.opens l c.create_session.new.self o _ p _ own
     (ap (under (created_keeper args p w)) (refused_as (created_of l args) op (created_reply c.args.level args) _ c.in-Err.error why is answers))
-    (not_memory code.Created c.in-Err.error why is c.in-Err.ensures.lists moment here)
+    (not_memory code.Created c.in-Err.error why is c.in-Err.ensures.lists moment here at)
 
 pub returns-in-Ok-Replay-clause-acts : goal.returns-in-Ok-Replay-clause-acts
-returns-in-Ok-Replay-clause-acts c = λ site size count moment rest.
+returns-in-Ok-Replay-clause-acts c = λ site size count moment rest at.
     let args = c.args.args.now in
     let op = ops.CreateSession args in
     let p = begins_at c.args.level moment in
@@ -96,7 +96,7 @@ returns-in-Ok-Replay-clause-acts c = λ site size count moment rest.
     let x = c.in-Ok-Replay in
     let answer : Done (created_of l args variants.Replay) ≡ o.answer = ap (λ y. Done (created_of l args y)) (sym x.field-0-is) ∙ x.ensures.answer moment here in
     let own : IsOwn p w s.opens o = subst (λ opens. IsOwn p w opens o) (ap (opens_by (given_way args l.clients) s.opens) (sym answer)) (create_session_own c.args.level moment w args c.args.bytes.now) in
-    let same : c.create_session.new.self ≡ l = x.ensures.lists moment here ∙ ap lists_of (create_session_again c.args.level moment w args c.args.bytes.now _ (sym answer)) in
+    let same : c.create_session.new.self ≡ l = x.ensures.lists moment here at ∙ ap lists_of (create_session_again c.args.level moment w args c.args.bytes.now _ (sym answer)) in
     acts here s.opens l c.create_session.new.self o _ p _ own
     (ap (λ a. under keeper (reply_of op (created_reply c.args.level args) a)) (sym answer) ∙ ap (λ (k : Lists). Kept (or_none (kept_reply (client_at k.clients (client_named args.client))))) (sym same))
-    (x.ensures.lists moment here)
+    (x.ensures.lists moment here at)

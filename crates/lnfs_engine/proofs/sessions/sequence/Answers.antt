@@ -1,8 +1,7 @@
-use Rattle.std.proofs.Common.{◌≡◌, Some, Ok, Err, refl, sym, ap, ◌∙◌, subst}
+use Rattle.std.proofs.Common.{◌≡◌, List, Some, Ok, Err, refl, sym, ap, ◌∙◌, subst}
 use Rattle.std.proofs.lemmas.Result.{IfOk-weaker}
 use Rattle.lnfs_arguments.specs.declared.types.Op.TheVariants as ops
-use Rattle.lnfs_arguments.specs.declared.types.Sequence.{Sequence}
-use Rattle.lnfs_world.specs.World.{World}
+use Rattle.lnfs_world.specs.World.{Session, World, client_at}
 use Rattle.lnfs_world.specs.Outcome.{Place, begins_at}
 use Rattle.lnfs_operations.specs.Chain.{Answer, Done, Refused}
 use Rattle.lnfs_operations.specs.Sequence.{sequence}
@@ -13,7 +12,7 @@ use Rattle.lnfs_session.specs.declared.sequence.Seq.{Seq}
 use Rattle.lnfs_session.specs.Answers.{Answers}
 use Rattle.lnfs_session.specs.Listed.{id_of, session_id_of}
 use Rattle.lnfs_session.specs.Arrived.{Arrived, arrival_of}
-use Rattle.lnfs_session.specs.Standing.{standing}
+use Rattle.lnfs_session.specs.Standing.{Lists, standing}
 use Rattle.lnfs_operations.specs.declared.Refusal.{Refusal}
 use Rattle.lnfs_engine.specs.declared.place.Keeper.TheVariants as keepers
 use Rattle.lnfs_engine.specs.declared.reply.Came.{Came}
@@ -23,7 +22,7 @@ use Rattle.lnfs_engine.specs.Replies.{IsRefusal, own_of}
 use Rattle.lnfs_engine.specs.Results.{sequence_result}
 use Rattle.lnfs_engine.specs.Performs.{first_kept, site_in, sent_of, turn, Performs}
 use Rattle.lnfs_engine.proofs.Acting.{performs, named, first_nowhere, starts_stands, some_world}
-use Rattle.lnfs_engine.proofs.Sequencing.{is_new, is_again, is_refused, acts_new, acts_again, acts_refused, new_place, new_stands}
+use Rattle.lnfs_engine.proofs.Sequencing.{is_new, is_again, is_refused, acts_new, acts_again, acts_refused, new_place, new_stands, renewed_stands, renewed_sessions}
 use Rattle.lnfs_engine.proofs.sessions.sequence.Goals as goal
 
 -- the refusal of a test
@@ -43,15 +42,18 @@ returns-in-Ok-New-clause-performs c =
     let p = begins_at at.subject at.moment in
     let next = keepers.Session (record { at = x.at; sequence = args.sequence; client = x.client; room = x.room }) in
     let later : Place = record at { client = Some x.client.number; session = Some x.at.session.number } in
-    let Goal : Came → Type 0 = λ came. (rest : World) → Performs r.begin c.args.out.now c.say_sequence.new.out c.args.keeper.now next later (standing rest c.args.clients.now) (turn site sent op at (standing rest c.args.clients.now)) came in
+    let Goal : Came → Type 0 = λ came. (rest : World) → Performs r.begin c.args.out.now c.say_sequence.new.out c.args.keeper.now next later (standing rest c.renew.new.self) (turn site sent op at (standing rest c.args.clients.now)) came in
     IfOk-weaker c.say_sequence.result _ Goal
     (λ came says rest.
     let w = standing rest c.args.clients.now in
+    let v = standing rest c.renew.new.self in
+    let o = client_at c.args.clients.now.clients (id_of x.client) in
+    let after = ap (standing rest) (c.renew.ensures at.moment rest refl) ∙ renewed_stands at.moment o rest c.args.clients.now in
     let n = is_new args sent p w (session_id_of x.at.session) x.at.slot (id_of x.client) x.room x.highest (ap (λ (y : Seq). Done (arrival_of y)) (sym x.field-0-is) ∙ x.ensures.answer at.moment rest) in
     let keeper = Slot x.at.slot args.sequence in
-    subst (λ (q : Place). Performs r.begin c.args.out.now c.say_sequence.new.out c.args.keeper.now next (record q { client = Some x.client.number; session = Some x.at.session.number }) w (turn site sent op q w) came) (sym c.requires.first.place)
-    (performs r.begin c.args.out.now c.say_sequence.new.out c.args.keeper.now next _ site sent op p _ w w (own_of op keeper (Ok (sequence_result args x.highest))) came
-    (named site sent op (ops.Sequence args) p _ w w (λ o. own_of o keeper (Ok (sequence_result args x.highest))) c.requires.op (acts_new site args sent p w _ x.at.slot _ x.room x.highest n))
+    subst (λ (q : Place). Performs r.begin c.args.out.now c.say_sequence.new.out c.args.keeper.now next (record q { client = Some x.client.number; session = Some x.at.session.number }) v (turn site sent op q w) came) (sym c.requires.first.place)
+    (performs r.begin c.args.out.now c.say_sequence.new.out c.args.keeper.now next _ site sent op p _ w v (own_of op keeper (Ok (sequence_result args x.highest))) came
+    (named site sent op (ops.Sequence args) p _ w v (λ o. own_of o keeper (Ok (sequence_result args x.highest))) c.requires.op (acts_new site args sent p w _ x.at.slot _ x.room x.highest n v after))
     (new_place at.subject at.moment args w (sequence args sent p w) x.at x.client x.room x.highest n)
     (ap (λ k. first_kept (keeper_of k) keeper) c.requires.first.nowhere)
     (says r.begin keeper)))
@@ -70,8 +72,9 @@ returns-in-Ok-New-clause-stands c =
     let later : Place = record at { client = Some x.client.number; session = Some x.at.session.number } in
     let w = standing some_world c.args.clients.now in
     let n = is_new args sent p w (session_id_of x.at.session) x.at.slot (id_of x.client) x.room x.highest (ap (λ (y : Seq). Done (arrival_of y)) (sym x.field-0-is) ∙ x.ensures.answer at.moment some_world) in
-    IfOk-weaker c.say_sequence.result _ (λ (came : Came). Stands later c.args.clients.now.sessions next)
-    (λ came says. subst (λ (q : Place). Stands (record q { client = Some x.client.number; session = Some x.at.session.number }) c.args.clients.now.sessions next) (sym c.requires.first.place) (new_stands at.subject at.moment args w (sequence args sent p w) x.at x.client x.room x.highest n))
+    let sessions = ap (λ (l : Lists). l.sessions) (c.renew.ensures at.moment some_world refl) ∙ renewed_sessions at.moment (client_at c.args.clients.now.clients (id_of x.client)) some_world c.args.clients.now in
+    IfOk-weaker c.say_sequence.result _ (λ (came : Came). Stands later c.renew.new.self.sessions next)
+    (λ came says. subst (λ (xs : List Session). Stands later xs next) (sym sessions) (subst (λ (q : Place). Stands (record q { client = Some x.client.number; session = Some x.at.session.number }) c.args.clients.now.sessions next) (sym c.requires.first.place) (new_stands at.subject at.moment args w (sequence args sent p w) x.at x.client x.room x.highest n)))
     c.say_sequence.ensures
 
 pub returns-in-Ok-Replay-clause-performs : goal.returns-in-Ok-Replay-clause-performs

@@ -1,4 +1,4 @@
-use Rattle.std.proofs.Common.{◌≡◌, ◌<◌, refl, ap, sym, subst, ◌∙◌, ℕ, true, false, List, length, Option, Some, None, arith}
+use Rattle.std.proofs.Common.{◌≡◌, ◌<◌, refl, ap, sym, subst, ◌∙◌, ℕ, List, length, Option, Some, None, Ok, arith}
 use Rattle.std.specs.Option.{option_map}
 use Rattle.lnfs_calipso.specs.declared.lattice.TheConstants.{MAX_LEVELS}
 use Rattle.lnfs_calipso.specs.declared.Level.{Level}
@@ -14,7 +14,7 @@ use Rattle.lnfs_operations.specs.Open as operation
 use Rattle.lnfs_operations.specs.Open.{Arguments, Opened, Wanted, access_of}
 use Rattle.lnfs_tree.specs.Rows.{Rows, id_of}
 use Rattle.lnfs_tree.specs.Changed.{ran, new_node}
-use Rattle.lnfs_open.specs.Opening.{own_open, new_open}
+use Rattle.lnfs_open.specs.Opening.{Wish, Does, opened_of, own_open, new_open}
 use Rattle.lnfs_open.specs.Listed.{node_id}
 use Rattle.lnfs_nodes.specs.Acts.{placed}
 use Rattle.lnfs_tree.proofs.Kept.{kept}
@@ -32,7 +32,7 @@ use Rattle.lnfs_files.specs.Openings as files
 use Rattle.lnfs_files.specs.declared.opened.Opened as code_opened
 use Rattle.lnfs_world.proofs.NewNames.{next_absent}
 use Rattle.lnfs_files.proofs.Makes.{makes, none_of}
-use Rattle.lnfs_files.proofs.Opens.{wished, did_wish, only_memory}
+use Rattle.lnfs_files.proofs.Opens.{wished, wished_so, only_memory}
 use Rattle.lnfs_files.proofs.Absents.{behind, by_label, opens_left, is_full, is_spent, is_made, absent_in, made_in, counts_in, same_changes, no_label}
 use Rattle.lnfs_files.proofs.absent.open_absent.Goals as goal
 
@@ -172,7 +172,8 @@ returns-in-Ok-open-clause-acts c = λ p rest d holds.
     (sym c.if-not-has_room.false ∙ c.has_room.ensures.room t.nodes c.requires.counts)
     (ap (λ (l : Level). has_number t.lasts l.0 && has_cookie d) (sym c.in_ok-fresh.ensures.home) ∙ there.0))))
     (makes args at rest t u s v number d name wanted.set n c.in-Ok-open.id r c.in-Ok.made.1 none
-    (did_wish s v _ c.args.opener.now.client.level.0 at.subject number args (node_id c.node_key.result) n.id c.share.result (access_of args) level (c.node_key.ensures ∙ id) c.share.ensures c.in-Ok-open.ensures)
+    (wished_so (λ (x : Wish). Does (opened_of s x) s v (Ok c.in-Ok-open.id)) c.args.opener.now.client.level.0 at.subject number args (node_id c.node_key.result) n.id level (c.node_key.ensures ∙ id)
+    (subst (λ (access : ℕ). Does (opened_of s (wished c.args.opener.now.client.level.0 number args (node_id c.node_key.result) access)) s v (Ok c.in-Ok-open.id)) c.share.ensures c.in-Ok-open.ensures))
     (there.2 ∙ ap (λ (cs : List Change). ran cs t) (same_changes at.moment t d name fresh n home node refl))
     c.state_id_of.ensures id c.cinfo.ensures (ap (λ r. r.1) there.1) refl)
 

@@ -1,4 +1,4 @@
-use Rattle.std.proofs.Common.{◌∙◌, sym, refl, subst, true, []}
+use Rattle.std.proofs.Common.{◌∙◌, sym, refl, subst, []}
 use Rattle.lnfs_attrs.specs.declared.bitmap.Bitmap.{Bitmap}
 use Rattle.lnfs_world.specs.World.{World}
 use Rattle.lnfs_world.specs.Effects.{parent_labels}

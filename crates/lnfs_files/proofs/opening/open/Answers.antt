@@ -11,10 +11,10 @@ use Rattle.lnfs_files.proofs.OpenFiles.{moved, by_words, behind_words, behind_cl
 use Rattle.lnfs_files.proofs.opening.open.Goals as goal
 
 pub open_claimed-requires-clause-listed : goal.open_claimed-requires-clause-listed
-open_claimed-requires-clause-listed c = rw c.in-Ok.is at c.in_ok-wanted.ensures.listed
+open_claimed-requires-clause-listed g c = rw c.in-Ok.is at c.in_ok-wanted.ensures.listed
 
 pub returns-clause-acts : goal.returns-clause-acts
-returns-clause-acts c = IfOk-weaker c.open_claimed.result _ _ (λ told acts. λ p rest client.
+returns-clause-acts g c = IfOk-weaker c.open_claimed.result _ _ (λ told acts. λ p rest tells client.
     let at : Place = placed p c.args.caller.now in
     let w : World = with_files rest c.args.tree.now c.args.opens.now in
     let site = site_of c.args.site.now in
@@ -23,4 +23,4 @@ returns-clause-acts c = IfOk-weaker c.open_claimed.result _ _ (λ told acts. λ 
     moved at rest c.args.tree.now c.open_claimed.new.tree c.args.opens.now c.open_claimed.new.opens _ _ told
     (by_words site args at w number (client ∙ c.in-Some.is) _
     (c.in_default-check_words.ensures at (behind_words site args at w number) ∙ c.in_default-check_claim.ensures at (behind_claim site args at w number) ∙ (rw c.in-Ok.is at c.in_ok-wanted.ensures.tests) at (claimed site args at w number)))
-    (acts p rest)) c.open_claimed.ensures.acts
+    (acts p rest tells)) c.open_claimed.ensures.acts

@@ -13,7 +13,7 @@ use Rattle.lnfs_files.proofs.OpenFiles.{moved}
 use Rattle.lnfs_files.proofs.opening.open_claimed.Goals as goal
 
 pub returns-in-Name-clause-acts : goal.returns-in-Name-clause-acts
-returns-in-Name-clause-acts c = IfOk-weaker c.open_name.result _ _ (λ told acts. λ p rest.
+returns-in-Name-clause-acts g c = IfOk-weaker c.open_name.result _ _ (λ told acts. λ p rest tells.
     let at : Place = placed p c.args.opener.now.caller.now in
     let w : World = with_files rest c.args.tree.now c.args.opens.now in
     let site = site_of c.args.opener.now.site.now in
@@ -22,10 +22,10 @@ returns-in-Name-clause-acts c = IfOk-weaker c.open_name.result _ _ (λ told acts
     let wanted : Wanted = wanted_of c.args.wanted in
     moved at rest c.args.tree.now c.open_name.new.tree c.args.opens.now c.open_name.new.opens _ _ told
     (ap (operation.open_claimed site args at w number wanted) c.in-Name.is ∙ ap (λ (name : List ℕ). operation.open_name site args at w number wanted name) (sym c.as_slice.ensures))
-    (acts p rest)) c.open_name.ensures.acts
+    (acts p rest tells)) c.open_name.ensures.acts
 
 pub returns-in-Handle-clause-acts : goal.returns-in-Handle-clause-acts
-returns-in-Handle-clause-acts c = IfOk-weaker c.open_handle.result _ _ (λ told acts. λ p rest.
+returns-in-Handle-clause-acts g c = IfOk-weaker c.open_handle.result _ _ (λ told acts. λ p rest tells.
     let at : Place = placed p c.args.opener.now.caller.now in
     let w : World = with_files rest c.args.tree.now c.args.opens.now in
     let site = site_of c.args.opener.now.site.now in
@@ -34,4 +34,4 @@ returns-in-Handle-clause-acts c = IfOk-weaker c.open_handle.result _ _ (λ told 
     let wanted : Wanted = wanted_of c.args.wanted in
     moved at rest c.args.tree.now c.open_handle.new.tree c.args.opens.now c.open_handle.new.opens _ _ told
     (ap (operation.open_claimed site args at w number wanted) c.in-Handle.is)
-    (acts p rest)) c.open_handle.ensures.acts
+    (acts p rest tells)) c.open_handle.ensures.acts

@@ -14,7 +14,7 @@ use Rattle.lnfs_files.proofs.OpenFiles.{moved}
 use Rattle.lnfs_files.proofs.opening.open_handle.Goals as goal
 
 pub returns-clause-acts : goal.returns-clause-acts
-returns-clause-acts c = IfOk-weaker c.open_present.result _ _ (λ told acts. λ p rest.
+returns-clause-acts g c = IfOk-weaker c.open_present.result _ _ (λ told acts. λ p rest tells.
     let at : Place = placed p c.args.opener.now.caller.now in
     let t = c.args.tree.now in
     let s = c.args.opens.now in
@@ -26,4 +26,4 @@ returns-clause-acts c = IfOk-weaker c.open_present.result _ _ (λ told acts. λ 
     let x = current at rest t s c.in-Ok.held c.in-Ok.ensures in
     moved at rest t c.open_present.new.tree s c.open_present.new.opens _ (operation.open_present site args at w number wanted c.no_change.result x.0) told
     (x.1.1 (operation.open_present site args at w number wanted operation.no_change) ∙ ap (λ (info : Cinfo). operation.open_present site args at w number wanted info x.0) (sym c.no_change.ensures))
-    (acts p rest x.0 x.1.0)) c.open_present.ensures.acts
+    (acts p rest x.0 tells x.1.0)) c.open_present.ensures.acts

@@ -14,17 +14,17 @@ use Rattle.lnfs_files.proofs.OpenFiles.{moved}
 use Rattle.lnfs_files.proofs.opening.open_name.Goals as goal
 
 pub returns-in-Err-clause-acts : goal.returns-in-Err-clause-acts
-returns-in-Err-clause-acts c = λ p rest. record { outcome = c.in-Err.ensures.leads p rest c.args.opens.now _; tree = refl; opens = refl }
+returns-in-Err-clause-acts g c = λ p rest tells. record { outcome = c.in-Err.ensures.leads p rest c.args.opens.now _; tree = refl; opens = refl }
 
 pub returns-in-Err-find_name-clause-acts : goal.returns-in-Err-find_name-clause-acts
-returns-in-Err-find_name-clause-acts c = λ p rest.
+returns-in-Err-find_name-clause-acts g c = λ p rest tells.
     let at : Place = placed p c.args.opener.now.caller.now in
     let l = c.in-Ok.ensures.leads p rest c.args.opens.now in
     let directory : is_directory l.0.kind ≡ true = ap is_directory (sym l.1.0.tells.kind) ∙ c.in-Ok.ensures.kind in
     record { outcome = l.1.1 _ ∙ c.in-Err-find_name.ensures at l.0 l.1.0 directory _ _; tree = refl; opens = refl }
 
 pub open_present-requires-clause-there : goal.open_present-requires-clause-there
-open_present-requires-clause-there c =
+open_present-requires-clause-there g c =
     let at : Place = begins_at 0 c.args.opener.now.caller.now.moment in
     let x = is_there c.args.tree.now _ c.in-Ok.dir c.in-Ok.ensures.held in
     let directory : is_directory x.0.kind ≡ true = ap is_directory (sym x.1.tells.kind) ∙ c.in-Ok.ensures.kind in
@@ -32,7 +32,7 @@ open_present-requires-clause-there c =
     (f.0, f.1.0)
 
 pub open_absent-requires-clause-there : goal.open_absent-requires-clause-there
-open_absent-requires-clause-there c =
+open_absent-requires-clause-there g c =
     let at : Place = begins_at 0 c.args.opener.now.caller.now.moment in
     let x = is_there c.args.tree.now _ c.in-Ok.dir c.in-Ok.ensures.held in
     let directory : is_directory x.0.kind ≡ true = ap is_directory (sym x.1.tells.kind) ∙ c.in-Ok.ensures.kind in
@@ -40,7 +40,7 @@ open_absent-requires-clause-there c =
     (x.0, (x.1, directory, f.0))
 
 pub returns-in-Some-clause-acts : goal.returns-in-Some-clause-acts
-returns-in-Some-clause-acts c = IfOk-weaker c.open_present.result _ _ (λ told acts. λ p rest.
+returns-in-Some-clause-acts g c = IfOk-weaker c.open_present.result _ _ (λ told acts. λ p rest tells.
     let at : Place = placed p c.args.opener.now.caller.now in
     let t = c.args.tree.now in
     let s = c.args.opens.now in
@@ -55,10 +55,10 @@ returns-in-Some-clause-acts c = IfOk-weaker c.open_present.result _ _ (λ told a
     moved at rest t c.open_present.new.tree s c.open_present.new.opens _ (operation.open_present site args at w number wanted c.unchanged-info.result f.0) told
     (l.1.1 _ ∙ f.1.1 (operation.open_present site args at w number wanted _) (operation.open_absent site args at w number l.0 c.args.name.now wanted args.making)
     ∙ ap (λ (info : Cinfo). operation.open_present site args at w number wanted info f.0) (sym (c.unchanged-info.ensures l.0 l.1.0.tells.change)))
-    (acts p rest f.0 f.1.0)) c.open_present.ensures.acts
+    (acts p rest f.0 tells f.1.0)) c.open_present.ensures.acts
 
 pub returns-in-None-clause-acts : goal.returns-in-None-clause-acts
-returns-in-None-clause-acts c = IfOk-weaker c.open_absent.result _ _ (λ told acts. λ p rest.
+returns-in-None-clause-acts g c = IfOk-weaker c.open_absent.result _ _ (λ told acts. λ p rest tells.
     let at : Place = placed p c.args.opener.now.caller.now in
     let t = c.args.tree.now in
     let s = c.args.opens.now in

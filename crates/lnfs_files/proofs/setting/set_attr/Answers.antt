@@ -16,7 +16,8 @@ use Rattle.lnfs_files.proofs.SetAttrs.{on_node, refused, taken, sized_not, acted
 use Rattle.lnfs_files.proofs.setting.set_attr.Goals as goal
 
 pub set_wanted-requires : goal.set_wanted-requires
-set_wanted-requires c = record {
+set_wanted-requires g c = record {
+  told = c.requires.told;
   facts = c.requires.facts;
   counts = c.requires.counts;
   held = c.in-Ok-node_held.ensures;
@@ -25,7 +26,7 @@ set_wanted-requires c = record {
 }
 
 pub returns-in-Err-clause-acts : goal.returns-in-Err-clause-acts
-returns-in-Err-clause-acts c = λ p rest client.
+returns-in-Err-clause-acts g c = λ p rest tells client.
     let at : Place = placed p c.args.caller.now in
     record {
       outcome = refused (site_of c.args.site.now) c.args.id.now c.args.given.now at (with_files rest c.args.tree.now c.args.opens.now) c.in-Err.why (rw c.in-Err.is at c.in_ok-wanted.ensures);
@@ -34,7 +35,7 @@ returns-in-Err-clause-acts c = λ p rest client.
     }
 
 pub returns-in-Err-node_held-clause-acts : goal.returns-in-Err-node_held-clause-acts
-returns-in-Err-node_held-clause-acts c = λ p rest client.
+returns-in-Err-node_held-clause-acts g c = λ p rest tells client.
     let at : Place = placed p c.args.caller.now in
     let s = c.args.opens.now in
     let w : World = with_files rest c.args.tree.now s in
@@ -48,7 +49,7 @@ returns-in-Err-node_held-clause-acts c = λ p rest client.
     }
 
 pub returns-in-Some-clause-acts : goal.returns-in-Some-clause-acts
-returns-in-Some-clause-acts c = λ p rest client.
+returns-in-Some-clause-acts g c = λ p rest tells client.
     let at : Place = placed p c.args.caller.now in
     let t = c.args.tree.now in
     record {
@@ -58,7 +59,7 @@ returns-in-Some-clause-acts c = λ p rest client.
     }
 
 pub returns-in-Ok-set_wanted-clause-acts : goal.returns-in-Ok-set_wanted-clause-acts
-returns-in-Ok-set_wanted-clause-acts c = λ p rest client.
+returns-in-Ok-set_wanted-clause-acts g c = λ p rest tells client.
     let at : Place = placed p c.args.caller.now in
     let t = c.args.tree.now in
     let u = c.set_wanted.new.tree in
@@ -66,14 +67,14 @@ returns-in-Ok-set_wanted-clause-acts c = λ p rest client.
     let site = site_of c.args.site.now in
     subst (λ (set : Bitmap). Succeeds set at rest t u s s (set_attr site c.args.id.now c.args.given.now at (with_files rest t s))) (sym c.set_of.ensures)
     (acted site c.args.id.now c.args.given.now at rest t u s c.in-Ok-node_held.held (wanted_of c.in-Ok.wanted) c.in-Ok-node_held.ensures (rw c.in-Ok.is at c.in_ok-wanted.ensures) (Ok c.in-Ok-set_wanted.field-0) (c.in_default.ensures ∙ ap (λ (b : Bool). size_refusal b (kind_of c.in-Ok-node_held.held.facts.kind)) c.is_some.ensures)
-    (λ n set holds. c.in-Ok-set_wanted.ensures.acts n p rest set client holds))
+    (λ n set holds. c.in-Ok-set_wanted.ensures.acts n p rest set tells client holds))
 
 pub returns-in-Err-set_wanted-clause-acts : goal.returns-in-Err-set_wanted-clause-acts
-returns-in-Err-set_wanted-clause-acts c = λ p rest client.
+returns-in-Err-set_wanted-clause-acts g c = λ p rest tells client.
     let at : Place = placed p c.args.caller.now in
     let t = c.args.tree.now in
     let u = c.set_wanted.new.tree in
     let s = c.args.opens.now in
     let site = site_of c.args.site.now in
     acted site c.args.id.now c.args.given.now at rest t u s c.in-Ok-node_held.held (wanted_of c.in-Ok.wanted) c.in-Ok-node_held.ensures (rw c.in-Ok.is at c.in_ok-wanted.ensures) (Err c.in-Err-set_wanted.why) (c.in_default.ensures ∙ ap (λ (b : Bool). size_refusal b (kind_of c.in-Ok-node_held.held.facts.kind)) c.is_some.ensures)
-    (λ n set holds. c.in-Err-set_wanted.ensures.acts n p rest set client holds)
+    (λ n set holds. c.in-Err-set_wanted.ensures.acts n p rest set tells client holds)

@@ -19,7 +19,7 @@ use Rattle.lnfs_files.proofs.SetAttrs.{spelling_wanted, level_wanted}
 use Rattle.lnfs_files.proofs.setting.set_wanted.Goals as goal
 
 pub returns-then-is_limited-clause-acts : goal.returns-then-is_limited-clause-acts
-returns-then-is_limited-clause-acts c = λ n p rest set client holds.
+returns-then-is_limited-clause-acts g c = λ n p rest set tells client holds.
     let site = site_of c.args.site.now in
     let at : Place = placed p c.args.caller.now in
     let t = c.args.tree.now in
@@ -31,7 +31,7 @@ returns-then-is_limited-clause-acts c = λ n p rest set client holds.
     (c.respell.ensures.acts n p rest s set holds))
 
 pub returns-else-is_limited-clause-acts : goal.returns-else-is_limited-clause-acts
-returns-else-is_limited-clause-acts c = λ n p rest set client holds.
+returns-else-is_limited-clause-acts g c = λ n p rest set tells client holds.
     let site = site_of c.args.site.now in
     let at : Place = placed p c.args.caller.now in
     let t = c.args.tree.now in
@@ -44,7 +44,7 @@ returns-else-is_limited-clause-acts c = λ n p rest set client holds.
     (c.raise.ensures.acts n p rest s set holds))
 
 pub returns-in_default-clause-acts : goal.returns-in_default-clause-acts
-returns-in_default-clause-acts c = λ n p rest set client holds.
+returns-in_default-clause-acts g c = λ n p rest set tells client holds.
     let site = site_of c.args.site.now in
     let at : Place = placed p c.args.caller.now in
     let t = c.args.tree.now in
@@ -52,4 +52,4 @@ returns-in_default-clause-acts c = λ n p rest set client holds.
     let s = c.args.opens.now in
     let w : World = with_files rest t s in
     subst (λ (l : Option code.GivenLabel). Acts {A = Unit {0}} (λ it. set) at rest t u s s (set_on site c.args.id.now at w n (unlabelled c.args.wanted.size c.args.wanted.mode) (option_map given_of l) set) c.set_values.result)
-    (sym c.in_default.is) (c.set_values.ensures.acts n p rest set client holds)
+    (sym c.in_default.is) (c.set_values.ensures.acts n p rest set tells client holds)

@@ -15,20 +15,20 @@ use Rattle.lnfs_files.proofs.Openable.{file_off, is_file, asks, there, to_shares
 use Rattle.lnfs_files.proofs.sharing.check_openable.Goals as goal
 
 pub returns-in_err-check_file-clause-checked : goal.returns-in_err-check_file-clause-checked
-returns-in_err-check_file-clause-checked c = λ p rest t n next holds.
+returns-in_err-check_file-clause-checked g c = λ p rest t n next tells holds.
     let at : Place = placed p c.args.caller.now in
     let why : Refusal = c.in_err-check_file.field-0.0 in
     file_off at n (there (site_of c.args.site.now) (args_of c.args.args.now) at (with_files rest t c.args.opens.now) c.args.client.number c.args.sized n next) why (c.in_err-check_file.ensures at n holds.tells.kind)
     ∙ sym (err_checked at c.from_residual.result (λ it. next) why c.from_residual.ensures.1)
 
 pub returns-then-not-may_be_there-clause-checked : goal.returns-then-not-may_be_there-clause-checked
-returns-then-not-may_be_there-clause-checked c = λ p rest t n next holds.
+returns-then-not-may_be_there-clause-checked g c = λ p rest t n next tells holds.
     let at : Place = placed p c.args.caller.now in
     not_there (site_of c.args.site.now) (args_of c.args.args.now) at (with_files rest t c.args.opens.now) c.args.client.number c.args.sized n next (c.in_ok-check_file.ensures at n holds.tells.kind) (sym (c.may_be_there.ensures n holds.tells.verifier) ∙ c.if-not-may_be_there.true)
     ∙ ap (λ (r : Refusal). refuse {R = Opened} at r.gate r.status) (sym c.namespace.ensures)
 
 pub returns-in_err-check_shared-clause-checked : goal.returns-in_err-check_shared-clause-checked
-returns-in_err-check_shared-clause-checked c = λ p rest t n next holds.
+returns-in_err-check_shared-clause-checked g c = λ p rest t n next tells holds.
     let at : Place = placed p c.args.caller.now in
     let why : Refusal = c.in_err-check_shared.field-0.0 in
     let site = site_of c.args.site.now in
@@ -39,7 +39,7 @@ returns-in_err-check_shared-clause-checked c = λ p rest t n next holds.
     ∙ sym (err_checked at c.from_residual-in_err-check_shared.result (λ it. next) why c.from_residual-in_err-check_shared.ensures.1)
 
 pub returns-in_err-check_asked-clause-checked : goal.returns-in_err-check_asked-clause-checked
-returns-in_err-check_asked-clause-checked c = λ p rest t n next holds.
+returns-in_err-check_asked-clause-checked g c = λ p rest t n next tells holds.
     let at : Place = placed p c.args.caller.now in
     let why : Refusal = c.in_err-check_asked.field-0.0 in
     let site = site_of c.args.site.now in
@@ -49,25 +49,25 @@ returns-in_err-check_asked-clause-checked c = λ p rest t n next holds.
     ∙ sym (err_checked at c.from_residual-in_err-check_asked.result (λ it. next) why c.from_residual-in_err-check_asked.ensures.1)
 
 pub returns-then-has_conflict-clause-checked : goal.returns-then-has_conflict-clause-checked
-returns-then-has_conflict-clause-checked c = λ p rest t n next holds.
+returns-then-has_conflict-clause-checked g c = λ p rest t n next tells holds.
     let at : Place = placed p c.args.caller.now in
     let site = site_of c.args.site.now in
     let args : Arguments = args_of c.args.args.now in
     let w : World = with_files rest t c.args.opens.now in
     to_undenied site args at w c.args.client.number c.args.sized n next _ holds.tells.label (c.in_ok-check_file.ensures at n holds.tells.kind) (sym (c.may_be_there.ensures n holds.tells.verifier) ∙ c.if-not-may_be_there.false) (c.in_ok-check_shared.ensures at) c.in_ok-check_asked.ensures
-    ∙ in_way site args at w c.args.client.number c.args.sized n next (sym (c.has_conflict.ensures p rest t n c.requires.level holds.id) ∙ c.if-has_conflict.true)
+    ∙ in_way site args at w c.args.client.number c.args.sized n next (sym (c.has_conflict.ensures p rest t n tells c.requires.level holds.id) ∙ c.if-has_conflict.true)
 
 pub returns-clause-file : goal.returns-clause-file
-returns-clause-file c =
+returns-clause-file g c =
     let at : Place = begins_at 0 c.args.caller.now.moment in
     let n : Node = record { id = record { level = 0; number = 0 }; kind = kind_of c.args.held.now.facts.kind; label = 0; verifier = None; inner = new_inner at.moment None 0 [] } in
     is_file at n n.kind refl (c.in_ok-check_file.ensures at n refl)
 
 pub returns-clause-checked : goal.returns-clause-checked
-returns-clause-checked c = λ p rest t n next holds.
+returns-clause-checked g c = λ p rest t n next tells holds.
     let at : Place = placed p c.args.caller.now in
     let site = site_of c.args.site.now in
     let args : Arguments = args_of c.args.args.now in
     let w : World = with_files rest t c.args.opens.now in
     to_undenied site args at w c.args.client.number c.args.sized n next _ holds.tells.label (c.in_ok-check_file.ensures at n holds.tells.kind) (sym (c.may_be_there.ensures n holds.tells.verifier) ∙ c.if-not-may_be_there.false) (c.in_ok-check_shared.ensures at) c.in_ok-check_asked.ensures
-    ∙ out_of_way site args at w c.args.client.number c.args.sized n next (sym (c.has_conflict.ensures p rest t n c.requires.level holds.id) ∙ c.if-has_conflict.false)
+    ∙ out_of_way site args at w c.args.client.number c.args.sized n next (sym (c.has_conflict.ensures p rest t n tells c.requires.level holds.id) ∙ c.if-has_conflict.false)

@@ -15,7 +15,7 @@ use Rattle.lnfs_files.proofs.Sizes.{asks_held, not_asked, not_sized, values_done
 use Rattle.lnfs_files.proofs.values.set_values.Goals as goal
 
 pub put_values-requires : goal.put_values-requires
-put_values-requires c = record {
+put_values-requires g c = record {
   counts = c.requires.counts;
   held = c.requires.held;
   file = c.requires.file;
@@ -24,7 +24,7 @@ put_values-requires c = record {
 }
 
 pub returns-in-Some-clause-acts : goal.returns-in-Some-clause-acts
-returns-in-Some-clause-acts c = λ n p rest set client holds.
+returns-in-Some-clause-acts g c = λ n p rest set tells client holds.
     let site = site_of c.args.site.now in
     let at : Place = placed p c.args.caller.now in
     let w : World = with_files rest c.args.tree.now c.args.opens.now in
@@ -35,7 +35,7 @@ returns-in-Some-clause-acts c = λ n p rest set client holds.
     }
 
 pub returns-in_err-check_given-clause-acts : goal.returns-in_err-check_given-clause-acts
-returns-in_err-check_given-clause-acts c = λ n p rest set client holds.
+returns-in_err-check_given-clause-acts g c = λ n p rest set tells client holds.
     let site = site_of c.args.site.now in
     let at : Place = placed p c.args.caller.now in
     let t = c.args.tree.now in
@@ -46,13 +46,13 @@ returns-in_err-check_given-clause-acts c = λ n p rest set client holds.
     subst (λ (told : Result (Unit {0}) Refusal). Acts {A = Unit {0}} (λ it. set) at rest t t s s (values_set site c.args.id.now at w n (unlabelled c.args.size c.args.mode) set) told)
     (sym (err_is c.from_residual.result why c.from_residual.ensures.1))
     (record {
-      outcome = not_sized site c.args.id.now at w n c.args.size c.args.mode set may why (c.in_err-check_given.ensures.refused n p rest client holds);
+      outcome = not_sized site c.args.id.now at w n c.args.size c.args.mode set may why (c.in_err-check_given.ensures.refused n p rest tells client holds);
       tree = refl;
       opens = refl;
     })
 
 pub returns-clause-acts : goal.returns-clause-acts
-returns-clause-acts c = λ n p rest set client holds.
+returns-clause-acts g c = λ n p rest set tells client holds.
     let site = site_of c.args.site.now in
     let at : Place = placed p c.args.caller.now in
     let t = c.args.tree.now in
@@ -61,5 +61,5 @@ returns-clause-acts c = λ n p rest set client holds.
     let w : World = with_files rest t s in
     let may = c.in_default.ensures ∙ asks_held site at.subject c.args.size c.args.mode c.is_some.result c.writes-writes.result n.label c.args.held.now.facts.label.0 c.is_some.ensures c.writes-writes.ensures holds.tells.label in
     subst (λ (o : Outcome (Answer Bitmap)). Succeeds set at rest t u s s o)
-    (sym (values_done site c.args.id.now at w n c.args.size c.args.mode set may (c.in_ok-check_given.ensures.refused n p rest client holds)))
+    (sym (values_done site c.args.id.now at w n c.args.size c.args.mode set may (c.in_ok-check_given.ensures.refused n p rest tells client holds)))
     (record { answer = refl; place = refl; world = c.put_values.ensures.done n p rest s holds })

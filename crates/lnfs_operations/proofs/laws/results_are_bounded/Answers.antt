@@ -1,6 +1,6 @@
 use Rattle.lnfs_operations.proofs.Bounded.{operation_bounded}
 use Rattle.lnfs_operations.proofs.ServedLaws.{operation_lawful}
-use Rattle.lnfs_operations.proofs.SizeChanges.{operation_sizes}
+use Rattle.lnfs_operations.proofs.BoundLaws.{operation_bounds}
 use Rattle.lnfs_operations.proofs.laws.results_are_bounded.Goals as goal
 
 pub returns : goal.returns
@@ -9,5 +9,5 @@ returns g c =
     let owed = g.X.ExtraRows.lawful in
     record {
       bounded = λ site lattice spells sent compound so_far op p b stands sizes. operation_bounded X owed site lattice spells sent compound so_far p b stands sizes op;
-      kept = λ site lattice spells sent compound so_far op p b stands sizes. ((operation_lawful X owed site lattice sent compound so_far op).stands p b stands, operation_sizes X owed site lattice spells sent compound so_far op p b stands sizes);
+      kept = λ site lattice labels sent compound so_far op p b read known stands bounds. ((operation_lawful X owed site lattice sent compound so_far op).stands p b stands, operation_bounds X owed site lattice labels sent compound p b stands known bounds so_far op read);
     }

@@ -18,6 +18,6 @@ returns g c =
       once = λ site lattice sent again compound level moment later b args rest x slot stands minor is names few next same size count.
           acts_once X owed site lattice sent compound level moment later b args rest x slot again stands minor is names few next same size count;
       refused = λ site sent compound level moment b args rest x slot minor is names many. refused_again X site sent compound level moment b args rest x slot minor is names many;
-      accepted = λ site lattice spells sent compound level moment b stands sizes read sends all. served_accepted X owed site lattice spells sent compound level moment b stands sizes read sends all;
+      accepted = λ site lattice labels sent compound level moment b stands known bounds read sends all. served_accepted X owed site lattice labels sent compound level moment b stands known bounds read sends all;
       created_once = λ site sent again compound level moment later b args client minor count is own found next same. created_once X site sent compound args level moment b client own found next later again minor count is same;
     }

@@ -1,4 +1,4 @@
-use Rattle.std.proofs.Common.{◌≡◌, Some, None, map, refl, ap, sym, ◌∙◌}
+use Rattle.std.proofs.Common.{◌≡◌, Some, None, map, refl, ap, sym, subst, ◌∙◌}
 use Rattle.std.specs.Option.{option_map}
 use Rattle.lnfs_world.specs.Rows.{inserted}
 use Rattle.lnfs_world.specs.World as world
@@ -7,11 +7,13 @@ use Rattle.lnfs_counts.proofs.Entries.{find-entries, set-entries}
 use Rattle.lnfs_session.specs.declared.rows.Session.{Session}
 use Rattle.lnfs_session.specs.Listed.{session_id_of, session_of}
 use Rattle.lnfs_session.specs.Standing.{settled, sessions_set}
+use Rattle.lnfs_session.specs.Sessions.{AreCounted}
 use Rattle.lnfs_session.proofs.Entries.{session_cmp, session_keys}
+use Rattle.lnfs_session.proofs.Recounted.{counted_set}
 use Rattle.lnfs_session.proofs.keep.refill_session.Goals as goal
 
-pub returns-in_default : goal.returns-in_default
-returns-in_default c =
+pub returns-in_default-clause-set : goal.returns-in_default-clause-set
+returns-in_default-clause-set c =
     let filled : world.Slot = record { sequence = c.args.sequence; kept = Some (record { arguments = c.args.bytes.now; reply = c.args.reply.now }) } in
     let rows = map session_of c.args.sessions.now.entries in
     let key = c.args.at.session in
@@ -19,8 +21,8 @@ returns-in_default c =
     let gone : session_at rows (session_id_of key) ≡ None = found ∙ ap (option_map (λ v. session_of (key, v))) (sym c.in_default.ensures.value) in
     ap (λ m. map session_of m.entries) c.get_mut.follows.holds-at-none ∙ sym (ap (λ o. sessions_set (settled c.args.at.slot filled) o rows) gone)
 
-pub returns : goal.returns
-returns c =
+pub returns-clause-set : goal.returns-clause-set
+returns-clause-set c =
     let filled : world.Slot = record { sequence = c.args.sequence; kept = Some (record { arguments = c.args.bytes.now; reply = c.args.reply.now }) } in
     let rows = map session_of c.args.sessions.now.entries in
     let key = c.args.at.session in
@@ -29,3 +31,17 @@ returns c =
     let there : session_at rows (session_id_of key) ≡ Some (session_of (key, c.in-Some.session.now)) = found ∙ ap (option_map (λ v. session_of (key, v))) (sym c.in-Some.ensures.value) in
     let put = ap (map session_of) (c.get_mut.follows.holds row).0 ∙ set-entries session_id_of session_cmp session_keys session_of (λ r. r.id) (λ e. refl) key row c.in-Some.session.now c.args.sessions.now.entries c.get_mut.ensures.ordered (sym c.in-Some.ensures.value) in
     put ∙ ap (λ slots. inserted session_order (record (session_of (key, row)) { slots = slots }) rows) c.in_ok-refill_slot.ensures ∙ sym (ap (λ o. sessions_set (settled c.args.at.slot filled) o rows) there)
+
+pub returns-in_default-clause-counted : goal.returns-in_default-clause-counted
+returns-in_default-clause-counted c = λ counters counted.
+    subst (λ m. AreCounted m.entries counters) (sym c.get_mut.follows.holds-at-none) counted
+
+pub returns-in_err-refill_slot-clause-counted : goal.returns-in_err-refill_slot-clause-counted
+returns-in_err-refill_slot-clause-counted c =
+    let row : Session = record c.in-Some.session.now { slots = c.refill_slot.new.slots } in
+    counted_set c.args.at.session row c.in-Some.session.now c.args.sessions.now.entries _ c.get_mut.ensures.ordered (sym c.in-Some.ensures.value) (c.get_mut.follows.holds row).0
+
+pub returns-clause-counted : goal.returns-clause-counted
+returns-clause-counted c =
+    let row : Session = record c.in-Some.session.now { slots = c.refill_slot.new.slots } in
+    counted_set c.args.at.session row c.in-Some.session.now c.args.sessions.now.entries _ c.get_mut.ensures.ordered (sym c.in-Some.ensures.value) (c.get_mut.follows.holds row).0

@@ -1,5 +1,7 @@
 use Rattle.lnfs_step.proofs.Steps.{seen, unseen, holds_after, reply_is_answer}
-use Rattle.lnfs_step.proofs.Lengths.{sizes_after, reply_short}
+use Rattle.lnfs_policy.proofs.Site.{preordered}
+use Rattle.lnfs_step.proofs.Lengths.{reply_short}
+use Rattle.lnfs_step.proofs.StepBounds.{kept_after}
 use Rattle.lnfs_step.proofs.Labels.{labels_after}
 use Rattle.lnfs_step.proofs.laws.purge.Goals as goal
 
@@ -13,7 +15,7 @@ returns g c =
       seen = λ p lattice level s event a b. seen X owed m p lattice level s event a b;
       unseen = λ p lattice level event a. unseen X owed m p lattice level event a;
       facts = λ p lattice journal. holds_after X owed m p lattice journal;
-      sizes = λ p lattice journal. sizes_after X owed m p lattice journal;
+      kept = λ p is journal. kept_after X owed m p p.text is journal;
       labels = λ p lattice journal event. labels_after X owed m p lattice journal event;
-      short = λ p lattice journal event. reply_short X owed m p lattice g.M.Mechanism.sized journal event;
+      short = λ p is journal event. reply_short X owed m p (preordered p.text p is) p.text is g.M.Mechanism.sized journal event;
     }

@@ -1,9 +1,15 @@
-use Rattle.std.proofs.Common.{sym, ap, ◌∙◌}
+use Rattle.std.proofs.Common.{refl, sym, ap, ◌∙◌}
 use Rattle.lnfs_world.specs.Both.{both}
 use Rattle.lnfs_step.specs.Request.{MakeContext, EndContext}
 use Rattle.lnfs_vault.specs.Requests.{seen_call, seen_task}
 use Rattle.lnfs_vault.proofs.Calls.{done}
 use Rattle.lnfs_vault.proofs.step.answer.Goals as goal
+
+pub run-requires-clause-facts : goal.run-requires-clause-facts
+run-requires-clause-facts g c = let kept = c.requires.kept in record { world = record { facts = kept.sound.facts; place = refl }; own = kept.own }
+
+pub run-requires-clause-bounds : goal.run-requires-clause-bounds
+run-requires-clause-bounds g c = c.requires.kept.sound.bounds
 
 pub returns-in-MakeContext : goal.returns-in-MakeContext
 returns-in-MakeContext g c =

@@ -1,4 +1,4 @@
-use Rattle.std.proofs.Common.{◌≡◌, ℕ, ◌++◌, Some, ap, ◌∙◌, subst}
+use Rattle.std.proofs.Common.{ℕ, ◌++◌, Some, ap, ◌∙◌, subst}
 use Rattle.std.specs.Prelude.{option_map}
 use Rattle.lnfs_calipso.specs.Label.{IsPreorderWithBottom}
 use Rattle.lnfs_policy.specs.Policy.{Policy, dominance}
@@ -25,7 +25,7 @@ end_results-requires g c =
     let w = seen_wrapping call.wrapping in
     let turn = served X (site_of c.args.site.now) (record { arguments = run.arguments.now; size = c.len-size.result; count = run.compound.count }) run.compound (begins_at call.level.0 event.moment) b in
     let built = c.in_ok-ran.ensures.reply ∙ ap (λ out. out ++ turn.answer.result) c.in_ok-out.ensures in
-    body_fits X g.X.ExtraRows.lawful m w call.xid c.in_ok-ran.ran.reply.items c.args.site.now (subst (λ (p : Policy). IsPreorderWithBottom (dominance p)) c.policy.ensures c.law_preorder.ensures) (record { arguments = run.arguments.now; size = c.len-size.result; count = run.compound.count }) run.compound call.level.0 event.moment b c.requires.facts c.requires.sizes c.requires.read built
+    body_fits X g.X.ExtraRows.lawful m w call.xid c.in_ok-ran.ran.reply.items c.args.site.now (subst (λ (p : Policy). IsPreorderWithBottom (dominance p)) c.policy.ensures c.law_preorder.ensures) (record { arguments = run.arguments.now; size = c.len-size.result; count = run.compound.count }) run.compound call.level.0 event.moment b c.requires.facts c.requires.level c.requires.bounds c.requires.read built
 
 pub returns : goal.returns
 returns g c =

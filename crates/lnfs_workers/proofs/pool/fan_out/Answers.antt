@@ -32,7 +32,7 @@ abbrev codecs_row : (g : Over) → RattleType
 codecs_row g = lts.of-0 g.row.B g.row.M g.row.X g.row.C g.row.G g.row.L g.row.R g.B.laws g.M.laws g.X.laws g.C.laws g.G.laws g.L.laws g.R.laws g.B.Room g.B.Room-dict g.M.Mechanism g.M.Mechanism-dict g.X.Extra g.X.Extra-dict g.X.ExtraRows g.X.ExtraRows-dict g.X.ExtraGrammar g.X.ExtraGrammar-dict g.C.Clock g.C.Clock-dict g.G.TurnGate g.G.TurnGate-dict g.L.Link g.L.Link-dict g.L.Source g.L.Source-dict g.L.Sink g.L.Sink-dict g.R.Threads g.R.Threads-dict g.R.Wait g.R.Wait-dict g.M.Destruct-dict g.X.Destruct-dict g.L.Destruct-dict g.dyn-1 g.dyn-1-has g.dyn-2 g.dyn-2-has
 
 abbrev shared_row : (g : Over) → NamedLft → RattleType
-shared_row g = lts.of-12 g.row.B g.row.M g.row.X g.row.C g.row.G g.row.L g.row.R g.B.laws g.M.laws g.X.laws g.C.laws g.G.laws g.L.laws g.R.laws g.B.Room g.B.Room-dict g.M.Mechanism g.M.Mechanism-dict g.X.Extra g.X.Extra-dict g.X.ExtraRows g.X.ExtraRows-dict g.X.ExtraGrammar g.X.ExtraGrammar-dict g.C.Clock g.C.Clock-dict g.G.TurnGate g.G.TurnGate-dict g.L.Link g.L.Link-dict g.L.Source g.L.Source-dict g.L.Sink g.L.Sink-dict g.R.Threads g.R.Threads-dict g.R.Wait g.R.Wait-dict g.M.Destruct-dict g.X.Destruct-dict g.L.Destruct-dict g.dyn-1 g.dyn-1-has g.dyn-2 g.dyn-2-has
+shared_row g = lts.of-10 g.row.B g.row.M g.row.X g.row.C g.row.G g.row.L g.row.R g.B.laws g.M.laws g.X.laws g.C.laws g.G.laws g.L.laws g.R.laws g.B.Room g.B.Room-dict g.M.Mechanism g.M.Mechanism-dict g.X.Extra g.X.Extra-dict g.X.ExtraRows g.X.ExtraRows-dict g.X.ExtraGrammar g.X.ExtraGrammar-dict g.C.Clock g.C.Clock-dict g.G.TurnGate g.G.TurnGate-dict g.L.Link g.L.Link-dict g.L.Source g.L.Source-dict g.L.Sink g.L.Sink-dict g.R.Threads g.R.Threads-dict g.R.Wait g.R.Wait-dict g.M.Destruct-dict g.X.Destruct-dict g.L.Destruct-dict g.dyn-1 g.dyn-1-has g.dyn-2 g.dyn-2-has
 
 pub map_vec-requires-sync-F : goal.map_vec-requires-sync-F
 map_vec-requires-sync-F g c κs within =

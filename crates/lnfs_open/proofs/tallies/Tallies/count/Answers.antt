@@ -1,8 +1,7 @@
-use Rattle.std.proofs.Common.{◌≡◌, Some, ap, sym, ◌∙◌}
-use Rattle.std.specs.Prelude.{is_some}
+use Rattle.std.proofs.Common.{◌≡◌, Some, ap, ◌∙◌}
 use Rattle.std.specs.BTreeMap.{get}
 use Rattle.lnfs_open.specs.declared.tallies.Tally.{Tally}
-use Rattle.lnfs_open.specs.Tallies.{layer_cmp, tally_in, more, less}
+use Rattle.lnfs_open.specs.Tallies.{layer_cmp, tally_in, more}
 use Rattle.lnfs_open.proofs.Layers.{tally_updated}
 use Rattle.lnfs_open.proofs.tallies.Tallies.count.Goals as goal
 

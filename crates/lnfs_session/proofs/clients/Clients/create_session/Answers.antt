@@ -31,6 +31,6 @@ returns-in-Next-clause-lists c =
     let id = c.client_named-id.result in
     let row : Client = client_of (id, c.in-Some.client.now) in
     let is = is_next args c.args.bytes.now _ lists c.args.level (id_of id) row c.sequence_before-last.result c.self.view_is c.in-Some.ensures c.client_named-id.ensures (grind (arith, nat_tests)) c.sequence_before-last.ensures c.in-Next.ensures in
-    unless_weaker c.make_session.result (λ made_lists moment rest.
-    made_lists moment rest row is.there
+    unless_weaker c.make_session.result (λ made_lists moment rest at.
+    made_lists moment rest row at is.there
     ∙ ap (λ o. lists_of (done_to (standing rest lists) o)) (is.makes moment rest)) c.make_session.ensures.lists

@@ -1,4 +1,4 @@
-use Rattle.std.proofs.Common.{◌≡◌, true, false, Some, map, sym, ap, subst, ◌∙◌, arith}
+use Rattle.std.proofs.Common.{◌≡◌, true, false, Some, sym, ap, subst, ◌∙◌, arith}
 use Rattle.std.specs.Prelude.{◌==◌}
 use Rattle.std.specs.List.{list_any}
 use Rattle.std.specs.Option.{option_map}
@@ -10,7 +10,7 @@ use Rattle.lnfs_world.specs.Outcome.{begins_at, done_to}
 use Rattle.lnfs_operations.specs.Identifiers.{client_named}
 use Rattle.lnfs_operations.specs.DestroyClientId.{destroy_clientid}
 use Rattle.lnfs_counts.proofs.Rows.{none_filtered}
-use Rattle.lnfs_session.specs.Listed.{id_of, client_of, session_of, last_of}
+use Rattle.lnfs_session.specs.Listed.{id_of, client_of}
 use Rattle.lnfs_session.specs.Standing.{Lists, standing, lists_of}
 use Rattle.lnfs_session.proofs.Destroying.{freed}
 use Rattle.lnfs_session.proofs.clients.Clients.destroy_clientid.Goals as goal
@@ -21,10 +21,10 @@ returns-clause-lists c =
     let client = c.client_named-client.result in
     let named : id_of client ≡ client_named id = c.client_named-client.ensures in
     let row : Client = client_of (client, c.in-Some.field-0.now) in
-    let lists : Lists = record { clients = c.self.inside.records.clients; sessions = map session_of c.self.inside.sessions.entries; client_lasts = c.self.inside.records.lasts; session_lasts = map last_of c.self.inside.session_lasts.entries } in
+    let lists : Lists = record { clients = c.self.inside.records.clients; sessions = c.self.inside.sessions.sessions; client_lasts = c.self.inside.records.lasts; session_lasts = c.self.inside.sessions.lasts } in
     let own : ((client_named id).level == c.args.level) ≡ true = grind (arith, nat_tests, named) in
     let found : client_at lists.clients (client_named id) ≡ Some row = ap (client_at lists.clients) (sym named) ∙ sym c.at.ensures ∙ ap (option_map (λ x. client_of (client, x.now))) c.in-Some.is in
-    let session : list_any (is_session_of (id_of client)) lists.sessions ≡ false = sym c.has_session.ensures ∙ c.if-has_session.false in
+    let session : list_any (is_session_of (id_of client)) lists.sessions ≡ false = sym c.any_of.ensures ∙ c.if-any_of.false in
     let new : Lists = record lists { clients = c.remove.new.self.clients; client_lasts = c.remove.new.self.lasts } in
     let step : (moment : Moment) (rest : World) → c.args.opens ≡ list_any (is_open_of (client_named id)) rest.opens → new ≡ lists_of (done_to (standing rest lists) (destroy_clientid id (begins_at c.args.level moment) (standing rest lists))) =
     λ moment rest told.

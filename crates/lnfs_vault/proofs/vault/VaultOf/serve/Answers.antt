@@ -2,6 +2,7 @@ use Rattle.std.proofs.Common.{◌≡◌, ◌≤◌, ◌+◌, ℕ, List, Option, 
 use Rattle.std.specs.Prelude.{IfSome}
 use Rattle.lnfs_calipso.specs.Label.{IsPreorderWithBottom}
 use Rattle.lnfs_policy.specs.Policy.{dominance}
+use Rattle.lnfs_policy.specs.PolicyText.{IsPolicy}
 use Rattle.lnfs_world.specs.Both.{both}
 use Rattle.lnfs_types.specs.declared.limits.TheConstants.{RECORD_LIMIT}
 use Rattle.lnfs_step.specs.Journal.{first_state, state_after, reply_with, line_with, answer_with}
@@ -12,9 +13,17 @@ use Rattle.lnfs_operations.proofs.SessionLaws.{session_under-at}
 use Rattle.lnfs_step.specs.Sessions.{HasOrigin}
 use Rattle.lnfs_vault.specs.Kept.{Kept}
 use Rattle.lnfs_vault.specs.Lines.{IsLineOf}
-use Rattle.lnfs_vault.proofs.Keeping.{said}
+use Rattle.lnfs_vault.proofs.Keeping.{said, stands_kept}
 use Rattle.lnfs_vault.proofs.Retrying.{retried}
 use Rattle.lnfs_vault.proofs.vault.VaultOf.serve.Goals as goal
+
+pub attempt-requires-clause-kept : goal.attempt-requires-clause-kept
+attempt-requires-clause-kept g c =
+    let X = g.X.ExtraRows.extra in
+    let p = c.self.inside.policy in
+    let journal = c.self.inside.journal.items in
+    let rows = g.X.ExtraRows.rows in
+    stands_kept X g.M.Mechanism.signing p c.new-site.result journal (both c.self.inside.engine.store (rows c.self.inside.engine.extra)) c.new-site.ensures (c.self.invariant.1 c.if-self.false) (c.purge.ensures.kept p c.law_policy.ensures journal)
 
 pub invariant_of-self-2 : goal.invariant_of-self-2
 invariant_of-self-2 g c =
@@ -57,7 +66,7 @@ returns-clause-short g c =
     let journal = c.self.inside.journal.items in
     let rows = g.X.ExtraRows.rows in
     let says = said X m p c.new-site.result journal c.args.event (length journal + 1) (both c.self.inside.engine.store (rows c.self.inside.engine.extra)) (both c.attempt.new.engine.store (rows c.attempt.new.engine.extra)) c.in_ok-served.served c.new-site.ensures (c.self.invariant.1 c.if-self.false) c.in_ok-served.ensures.says in
-    subst (λ (reply : Option (List ℕ)). IfSome reply (λ bytes. length bytes ≤ RECORD_LIMIT)) (sym says.reply) (c.purge.ensures.short p c.law_preorder.ensures journal c.args.event)
+    subst (λ (reply : Option (List ℕ)). IfSome reply (λ bytes. length bytes ≤ RECORD_LIMIT)) (sym says.reply) (c.purge.ensures.short p c.law_policy.ensures journal c.args.event)
 
 pub returns-clause-answer : goal.returns-clause-answer
 unfolding reply_with
@@ -79,6 +88,7 @@ returns-clause-retry g c = λ call arguments compound args x slot first comes sa
     let m = g.M.Mechanism.signing in
     let old = c.args.self.now in
     let lattice = subst (λ (k : Kept). IsPreorderWithBottom (dominance k.policy)) c.self.view_is c.law_preorder.ensures in
+    let spelled = subst (λ (k : Kept). IsPolicy k.policy) c.self.view_is c.law_policy.ensures in
     let kept : rows.Kept = record { arguments = arguments; reply = first } in
     let names = comes.names in
     let there = session_under-at args.session (state_after X m old.policy old.journal).world.sessions x names.session in
@@ -87,7 +97,7 @@ returns-clause-retry g c = λ call arguments compound args x slot first comes sa
     (ap (λ (k : Kept). k.policy) c.self.view_is)
     (c.in_ok-served.ensures.ok ∙ ap (λ (k : Kept). k.journal ++ c.args.event ∷ []) c.self.view_is)
     (subst (λ l. HasOrigin X m old.policy old.journal l kept) names.own origin)
-    (c.sessions.ensures.retry old.policy lattice old.journal c.args.event call arguments compound args x slot first comes same)
+    (c.sessions.ensures.retry old.policy spelled old.journal c.args.event call arguments compound args x slot first comes same)
 
 pub returns-clause-created : goal.returns-clause-created
 returns-clause-created g c = λ call arguments compound args client first comes last kept.
@@ -105,5 +115,5 @@ returns-clause-created g c = λ call arguments compound args client first comes 
 pub returns-clause-room : goal.returns-clause-room
 returns-clause-room g c = λ call arguments compound args x slot comes.
     let old = c.args.self.now in
-    let lattice = subst (λ (k : Kept). IsPreorderWithBottom (dominance k.policy)) c.self.view_is c.law_preorder.ensures in
-    rw (returns-clause-reply g c) (c.sessions.ensures.room old.policy lattice old.journal c.args.event call arguments compound args x slot comes)
+    let spelled = subst (λ (k : Kept). IsPolicy k.policy) c.self.view_is c.law_policy.ensures in
+    rw (returns-clause-reply g c) (c.sessions.ensures.room old.policy spelled old.journal c.args.event call arguments compound args x slot comes)
