@@ -6,6 +6,8 @@ mod changing;
 #[cfg(test)]
 mod files;
 #[cfg(test)]
+mod leases;
+#[cfg(test)]
 mod pieces;
 #[cfg(test)]
 mod quotas;

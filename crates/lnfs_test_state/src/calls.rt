@@ -10,6 +10,9 @@ pub(crate) const SESSION: SessionRef = SessionRef {
     number: 1,
 };
 
+/// The seconds of the moment of each CREATE_SESSION.
+pub(crate) const MADE_AT: u64 = 100;
+
 pub(crate) const SESSION_ID: [u8; 16] = [0, 0, 0, 0, 0, 0, 0, 0, 0, 0, 0, 1, 0, 0, 0, 0];
 
 /// The refusal of an operation, on a row of the caller's own level.
@@ -79,7 +82,7 @@ pub(crate) fn create(
     sequence: u32,
 ) -> Result<Created, SessionError> {
     let args = create_args(alloc, client, sequence);
-    clients.create_session(level, &args, b"create")
+    clients.create_session(level, &args, b"create", MADE_AT)
 }
 
 /// The answer of a CREATE_SESSION is kept.

@@ -49,6 +49,20 @@ const CONFLICTS: &[(u32, u32, &[u8; 12])] = &[
     (3, 3, b"xxxxxxxxxxxx"),
 ];
 
+/// Whether an open stands in the way of what a subject asks, where no lease is over.
+fn stops(
+    opens: &Opens,
+    lattice: &Lattice,
+    subject: Level,
+    own: Option<(ClientKey, &[u8])>,
+    node: NodeKey,
+    access: u32,
+    deny: u32,
+) -> bool {
+    let over = |_client: ClientKey| false;
+    opens.conflicts(lattice, subject, own, node, access, deny, &over)
+}
+
 /// Each one's request of one kind.
 fn each_one_asks(
     rt: &impl Abort,
@@ -65,27 +79,27 @@ fn each_one_asks(
     let own = Some((client(LOW), b"one".as_slice()));
     same(
         rt,
-        opens.conflicts(lattice, LOW, two, FILE, access, deny),
+        stops(opens, lattice, LOW, two, FILE, access, deny),
         conflicts,
     );
     same(
         rt,
-        opens.conflicts(lattice, HIGH, high, FILE, access, deny),
+        stops(opens, lattice, HIGH, high, FILE, access, deny),
         conflicts,
     );
     same(
         rt,
-        opens.conflicts(lattice, HIGH, None, FILE, access, deny),
+        stops(opens, lattice, HIGH, None, FILE, access, deny),
         conflicts,
     );
     same(
         rt,
-        opens.conflicts(lattice, LOW, own, FILE, access, deny),
+        stops(opens, lattice, LOW, own, FILE, access, deny),
         false,
     );
     same(
         rt,
-        opens.conflicts(lattice, LOW, None, OTHER, access, deny),
+        stops(opens, lattice, LOW, None, OTHER, access, deny),
         false,
     );
 }
@@ -115,7 +129,7 @@ fn one_open(
     opens.drop_client(low);
     let opened = opens.open(client(HIGH), b"one", FILE, access, deny);
     same(rt, opened, Ok(reference(HIGH, 1, 1)));
-    same(rt, opens.conflicts(lattice, LOW, None, FILE, 3, 3), false);
+    same(rt, stops(opens, lattice, LOW, None, FILE, 3, 3), false);
 }
 
 #[test]
@@ -253,13 +267,13 @@ fn open_three(rt: &impl Abort, opens: &mut Opens) {
 fn drop_them(rt: &impl Abort, lattice: &Lattice, opens: &mut Opens) {
     let low = client(LOW);
     opens.drop_node(FILE);
-    same(rt, opens.conflicts(lattice, HIGH, None, FILE, 3, 3), false);
-    same(rt, opens.conflicts(lattice, HIGH, None, OTHER, 1, 0), true);
+    same(rt, stops(opens, lattice, HIGH, None, FILE, 3, 3), false);
+    same(rt, stops(opens, lattice, HIGH, None, OTHER, 1, 0), true);
     same(rt, opens.any_of(low), true);
     same(rt, opens.any_of(client(HIGH)), false);
     opens.drop_client(low);
     same(rt, opens.any_of(low), false);
-    same(rt, opens.conflicts(lattice, HIGH, None, OTHER, 3, 3), false);
+    same(rt, stops(opens, lattice, HIGH, None, OTHER, 3, 3), false);
 }
 
 #[test]
@@ -311,4 +325,45 @@ fn a_level_is_full(rt: HostRuntime) {
     let mut opens = Opens::new(rt.alloc());
     fill(&rt, &mut opens);
     ask_for_room(&rt, &mut opens);
+}
+
+/// Opens of silent clients of two levels. Each is in nobody's way, and a request of its own level ends it.
+fn give_way(rt: &impl Abort, lattice: &Lattice, opens: &mut Opens) {
+    let (low, high) = (client(LOW), client(HIGH));
+    let over = |_client: ClientKey| true;
+    let first = reference(LOW, 1, 1);
+    same(rt, opens.open(low, b"one", FILE, 1, 1), Ok(first));
+    same(
+        rt,
+        opens.conflicts(lattice, LOW, None, FILE, 1, 0, &over),
+        false,
+    );
+    opens.revoke(HIGH, (high, b"two".as_slice()), FILE, 1, 0, &over);
+    same(rt, missed(opens, low, FILE, first), None);
+    // Its own, and what isn't in the way.
+    opens.revoke(LOW, (low, b"one".as_slice()), FILE, 1, 0, &over);
+    opens.revoke(LOW, (low, b"two".as_slice()), FILE, 2, 0, &over);
+    opens.revoke(LOW, (low, b"two".as_slice()), OTHER, 1, 0, &over);
+    same(rt, missed(opens, low, FILE, first), None);
+    opens.revoke(LOW, (low, b"two".as_slice()), FILE, 1, 0, &over);
+    same(rt, missed(opens, low, FILE, first), Some(OpenError::Bad));
+}
+
+/// Where no lease is over, nothing gives way.
+fn stay(rt: &impl Abort, opens: &mut Opens) {
+    let low = client(LOW);
+    let over = |_client: ClientKey| false;
+    let second = reference(LOW, 2, 1);
+    same(rt, opens.open(low, b"one", FILE, 1, 1), Ok(second));
+    opens.revoke(LOW, (low, b"two".as_slice()), FILE, 1, 0, &over);
+    same(rt, missed(opens, low, FILE, second), None);
+}
+
+#[test]
+fn opens_of_silent_clients_give_way(rt: HostRuntime) -> Result<(), LatticeError> {
+    let lattice = lattice(rt.alloc())?;
+    let mut opens = Opens::new(rt.alloc());
+    give_way(&rt, &lattice, &mut opens);
+    stay(&rt, &mut opens);
+    Ok(())
 }

@@ -1,5 +1,7 @@
 //! Each call with ample memory, and requests that come again (RFC 8881 section 2.10.6).
-use crate::calls::{SESSION, SESSION_ID, begin, came, create, failed, keep_made, new_session};
+use crate::calls::{
+    MADE_AT, SESSION, SESSION_ID, begin, came, create, failed, keep_made, new_session,
+};
 use crate::compare::same;
 use lnfs_session::{ClientInfo, ClientRef, Clients, Created, SessionError, SlotRef};
 use std::alloc::{AllocError, Global};
@@ -313,4 +315,39 @@ fn end(rt: &impl Abort, alloc: Global, clients: &mut Clients) -> Result<(), Sess
 fn a_client_ends_after_its_sessions(rt: HostRuntime) -> Result<(), SessionError> {
     let mut clients = Clients::new(rt.alloc());
     end(&rt, rt.alloc(), &mut clients)
+}
+
+/// EXCHANGE_ID begins no lease, and what isn't there has none.
+fn begin_lease(rt: &impl Abort, alloc: Global, clients: &mut Clients) -> Result<(), SessionError> {
+    clients.exchange_id(0, [7; 8], b"owner", 0)?;
+    same(rt, clients.renewed(CLIENT), None);
+    same(rt, clients.over(CLIENT, u64::MAX), false);
+    create(alloc, clients, 0, 1, 1)?;
+    same(rt, clients.renewed(CLIENT), Some(MADE_AT));
+    let other = ClientRef {
+        level: 1,
+        number: 1,
+    };
+    same(rt, clients.renewed(other), None);
+    same(rt, clients.over(other, u64::MAX), false);
+    Ok(())
+}
+
+/// A lease is over above 90 seconds, and not where clocks were set back.
+fn be_silent(rt: &impl Abort, clients: &mut Clients) {
+    same(rt, clients.over(CLIENT, 0), false);
+    same(rt, clients.over(CLIENT, 190), false);
+    same(rt, clients.over(CLIENT, 191), true);
+    clients.renew(CLIENT, 191);
+    same(rt, clients.renewed(CLIENT), Some(191));
+    same(rt, clients.over(CLIENT, 281), false);
+    same(rt, clients.over(CLIENT, 282), true);
+}
+
+#[test]
+fn a_client_is_silent_for_longer_than_its_lease(rt: HostRuntime) -> Result<(), SessionError> {
+    let mut clients = Clients::new(rt.alloc());
+    begin_lease(&rt, rt.alloc(), &mut clients)?;
+    be_silent(&rt, &mut clients);
+    Ok(())
 }
