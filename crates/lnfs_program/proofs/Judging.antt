@@ -17,10 +17,11 @@ use Rattle.lnfs_program.specs.declared.status.Stop.{Stop}
 use Rattle.lnfs_program.specs.declared.status.Stop.TheVariants as stops
 use Rattle.lnfs_program.specs.Ending.{told_by}
 use Rattle.lnfs_program.specs.Due.{Due, due, due_under, given, judged, only, shown}
-use Rattle.lnfs_program.specs.Handed.{Dealings, dealings, Enforces, IsTaken, WithoutNet, IsUnder, IsService}
+use Rattle.lnfs_program.specs.Handed.{Dealings, dealings, IsTaken, IsSpelled, WithoutNet, IsService}
 use Rattle.lnfs_program.specs.Rules.{Spells, Ends}
-use Rattle.lnfs_program.specs.Runs.{Holds, IsExcused, Plays, Judges, JudgesAlone, Offers, Performs, status_of, held}
-use Rattle.lnfs_program.specs.Session.{Session}
+use Rattle.lnfs_program.specs.Runs.{Holds, IsExcused, Plays, Judges, JudgesAlone, Performs, Serves, status_of, held}
+use Rattle.lnfs_program.specs.Session.{Session, IsSession}
+use Rattle.lnfs_gss3.specs.Mechanism.{keyed_digest}
 use Rattle.lnfs_program.specs.Words.{PolicyTask, serve, Form, help, version, under, file_of, first_name, second_name, help_text, version_text}
 use Rattle.lnfs_program.specs.Streams.{Streams, streams}
 use Rattle.lnfs_program.specs.Writes.{TakesFront}
@@ -98,7 +99,7 @@ judges_alone {may = may} {form = form} {result = result} dealt backs idle j = re
   policy_held = j.policy_held;
   file_held = j.file_held;
   plays = j.plays;
-  links = untouched dealt backs (idle_handed (IsTaken j.policy Enforces) (IsService may j.policy) form (status_of result) idle);
+  links = untouched dealt backs (idle_handed (IsSpelled j.policy) (IsService may j.policy) form (status_of result) idle);
 }
 
 pub judges_over : {told : Told} {may : Moment → Type 0} {form : Option Form} {result : Result Status Stop} {s t : Streams} (dealt : Option (List Deal)) (backs : Option (List Back)) (read write : Type 0) → IfErr result (λ stop. IsExcused stop read write ⊥) → JudgesAlone told form result s t → Judges told may form result s t (dealings dealt dealt backs backs)
@@ -149,7 +150,7 @@ module _ {told : Told} {name : List ℕ} (task : PolicyTask) where
 taken : {told : Told} {name : List ℕ} {rules : Policy} (r : Spells told name rules) (Say : Policy → Type 0) → Say rules → IsTaken (Some r.text) Say
 taken {rules = rules} r Say say = record { text = r.text; rules = rules; is_text = refl; is_rules = r.is_rules; say = say }
 
-pub judges_service : {told : Told} {may : Moment → Type 0} {name : List ℕ} (classes : List ℕ) (workers : ℕ) (rules : Policy) → Spells told name rules → {result : Result Status Stop} {s t : Streams} {net : Dealings} → Offers may rules classes result s t net → Judges told may (Some (under name (serve classes workers))) result s t net
+pub judges_service : {told : Told} {may : Moment → Type 0} {name : List ℕ} (classes : List ℕ) (workers : ℕ) (rules : Policy) → Spells told name rules → {result : Result Status Stop} {s t : Streams} {net : Dealings} → Serves may keyed_digest rules classes result s t net → Judges told may (Some (under name (serve classes workers))) result s t net
 judges_service {told} {may} {name} classes workers rules r {result} {s} {t} p = record {
   policy = Some r.text;
   file = seen told [];
@@ -157,8 +158,8 @@ judges_service {told} {may} {name} classes workers rules r {result} {s} {t} p = 
   policy_held = r.held;
   file_held = seen_held told [];
   plays = subst (λ d. Plays d result s t) (sym (due_is name (serve classes workers) (Some r.text) (seen told []) p.session ∙ rw r.is_rules refl)) p.plays;
-  links = says (served_to (Enforces rules) (IsTaken (Some r.text) Enforces) (IsUnder may rules) (IsService may (Some r.text))
-      (taken r Enforces) (λ session all deals backs. taken r (λ rules. IsUnder may rules session all deals backs)) p.session (status_of result) classes) p.links;
+  links = says (served_to (Unit {0}) (IsSpelled (Some r.text)) (IsSession may keyed_digest rules) (IsService may (Some r.text))
+      (taken r (λ rules. Unit {0})) (λ session all deals backs. taken r (λ rules. IsSession may keyed_digest rules session all deals backs)) p.session (status_of result) classes) p.links;
 }
 
 -- ---- the exits of `rules_of`

@@ -8,24 +8,17 @@ use Rattle.lnfs_map.specs.declared.table.MapError.{MapError}
 use Rattle.lnfs_map.specs.declared.table.MapError.TheVariants as error
 use Rattle.lnfs_map.specs.Translated.{IsTranslated}
 use Rattle.lnfs_outside.specs.Bytes.{Told, Opens}
-use Rattle.lnfs_outside.specs.Nets.{Deal, Back}
-use Rattle.lnfs_types.specs.declared.event.Moment.{Moment}
 use Rattle.lnfs_policy.specs.Policy.{Policy}
-use Rattle.lnfs_policy.specs.declared.mode.Mode.TheVariants.{Enforcing, Limited}
 use Rattle.lnfs_program.specs.declared.status.Status.{Status}
 use Rattle.lnfs_program.specs.declared.status.Status.TheVariants as statuses
 use Rattle.lnfs_program.specs.declared.status.Stop.{Stop}
 use Rattle.lnfs_program.specs.Ending.{told_by}
 use Rattle.lnfs_gss3.specs.Mechanism.{keyed_digest}
-use Rattle.lnfs_program.specs.Due.{due_under, enforced, given, shown, spelled, no_translation, replayed, served}
-use Rattle.lnfs_program.specs.Handed.{Dealings, dealings, Enforces, IsUnder}
+use Rattle.lnfs_program.specs.Due.{due_under, given, shown, spelled, no_translation, replayed}
 use Rattle.lnfs_program.specs.Replays.{ReplaysLeft}
-use Rattle.lnfs_program.specs.Runs.{Holds, Offers, Plays, Performs, Serves, status_of}
-use Rattle.lnfs_program.specs.Session.{IsSession}
+use Rattle.lnfs_program.specs.Runs.{Holds, Plays, Performs}
 use Rattle.lnfs_program.specs.Streams.{Streams}
 use Rattle.lnfs_program.specs.Words.{PolicyTask, replay, file_of}
-use Rattle.lnfs_program.proofs.Dealing.{says, untouched, nothing}
-use Rattle.lnfs_program.proofs.Handing.{served_to}
 use Rattle.lnfs_program.proofs.Judging.{seen, seen_held, gave_up, told_only}
 
 -- whatever the file holds
@@ -39,43 +32,24 @@ holds_left (Some look) name None traffic o w = absurd (let some = o.1 in cc)
 holds_left (Some look) name (Some bytes) traffic o w = o.0 ∙ ap Some (sym w)
 
 -- a replay
-module _ (told : Told) (policy : Policy) {result : Result Status Stop} {s : Streams} where
-  pub performs_gave_up : (name : List ℕ) → OnOk result ⊥ → Performs told policy (replay name) result s s
-  performs_gave_up name never = performs_with told policy (replay name) (λ file. gave_up (enforced policy.mode (given file name (replayed keyed_digest policy))) never)
+module _ (told : Told) (policy : Policy) {result : Result Status Stop} {s : Streams} (name : List ℕ) where
+  pub performs_gave_up : OnOk result ⊥ → Performs told policy (replay name) result s s
+  performs_gave_up never = performs_with told policy (replay name) (λ file. gave_up (given file name (replayed keyed_digest policy)) never)
 
-  -- a policy whose labels the server doesn't enforce
-  pub performs_limited : (name : List ℕ) → policy.mode ≡ Limited → IfOk result (λ status. told_by status ≡ Some statuses.Usage) → Performs told policy (replay name) result s s
-  performs_limited name e h = performs_with told policy (replay name) (λ file. told_only (enforced policy.mode (given file name (replayed keyed_digest policy))) statuses.Usage (rw e refl) h)
-
-  module _ (name : List ℕ) (e : policy.mode ≡ Enforcing) {left : Option (List ℕ)} where
+  module _ {left : Option (List ℕ)} where
     pub performs_no_file : Opens told name left false → IfOk result (λ status. told_by status ≡ Some (statuses.NoFile name)) → Performs told policy (replay name) result s s
     performs_no_file o h = record {
       file = None;
       file_held = o.0;
-      plays = told_only (enforced policy.mode (given None name (replayed keyed_digest policy))) (statuses.NoFile name) (rw e refl) h;
+      plays = told_only (given None name (replayed keyed_digest policy)) (statuses.NoFile name) refl h;
     }
 
     pub performs_replay : {t : Streams} (found : Bool) → found ≡ true → Opens told name left found → ReplaysLeft keyed_digest policy left result s t → Performs told policy (replay name) result s t
     performs_replay {t} found is o r = record {
       file = Some r.traffic;
       file_held = holds_left told name left r.traffic (subst (Opens told name left) is o) r.was_left;
-      plays = subst (λ d. Plays d result s t) (sym (ap (λ m. enforced m (replayed keyed_digest policy r.traffic)) e)) r.plays;
+      plays = r.plays;
     }
-
--- a service under a policy whose labels the server enforces, and under another
-pub offers_service : {may : Moment → Type 0} (policy : Policy) (classes : List ℕ) {result : Result Status Stop} {s t : Streams} {net : Dealings} → policy.mode ≡ Enforcing → Serves may keyed_digest policy classes result s t net → Offers may policy classes result s t net
-offers_service {may} policy classes {result} {s} {t} e p = record {
-  session = p.session;
-  plays = subst (λ d. Plays d result s t) (sym (ap (λ m. enforced m (served keyed_digest policy p.session)) e)) p.plays;
-  links = says (served_to (Unit {0}) (Enforces policy) (IsSession may keyed_digest policy) (IsUnder may policy) (λ begins. e) (λ session all deals backs is. record { enforces = e; is_session = is }) p.session (status_of result) classes) p.links;
-}
-
-pub offers_none : {may : Moment → Type 0} (policy : Policy) (classes : List ℕ) {s : Streams} (dealt : Option (List Deal)) (backs : Option (List Back)) → policy.mode ≡ Limited → Offers may policy classes (Ok statuses.Usage) s s (dealings dealt dealt backs backs)
-offers_none policy classes dealt backs e = record {
-  session = None;
-  plays = told_only (enforced policy.mode (served keyed_digest policy None)) statuses.Usage (rw e refl) refl;
-  links = untouched dealt backs nothing;
-}
 
 -- no status tells want of memory
 never_memory : (status : Status) → told_by status ≡ Some statuses.Memory → ⊥

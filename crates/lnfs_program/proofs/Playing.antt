@@ -11,7 +11,7 @@ use Rattle.lnfs_program.specs.declared.status.Stop.{Stop}
 use Rattle.lnfs_program.specs.declared.status.Stop.TheVariants as stops
 use Rattle.lnfs_program.specs.Ending.{told_by, fault_line}
 use Rattle.lnfs_program.specs.Due.{Due, due, all_writes}
-use Rattle.lnfs_program.specs.Handed.{Dealings, Deals, Enforces, IsTaken, Handed, IsService}
+use Rattle.lnfs_program.specs.Handed.{Dealings, Deals, IsSpelled, Handed, IsService}
 use Rattle.lnfs_program.specs.Runs.{Judges, Runs, IsExcused, OneRose, WritesOnly, status_of}
 use Rattle.lnfs_program.specs.Session.{Session}
 use Rattle.lnfs_program.specs.Streams.{Streams, Counts}
@@ -23,8 +23,8 @@ use Rattle.lnfs_program.proofs.Writing.{front_first, does_line, does_then}
 
 module _ (may : Moment → Type 0) (form : Option Form) {net : Dealings} where
   -- what is handed over by an ending that was told
-  links_after : (stop : Stop) (write : Type 0) → IsExcused stop ⊥ write ⊥ → (s : Status) (policy : Option (List ℕ)) (session : Option Session) → IsSome (told_by s) → Deals net (Handed (IsTaken policy Enforces) (IsService may policy) session s form) → Deals net (Handed (IsTaken policy Enforces) (IsService may policy) session (status_of (result_of.Err stop)) form)
-  links_after stop write e s policy session told links = says (λ deals backs h. stopped (IsTaken policy Enforces) (IsService may policy) stop write e session s form deals backs told h) links
+  links_after : (stop : Stop) (write : Type 0) → IsExcused stop ⊥ write ⊥ → (s : Status) (policy : Option (List ℕ)) (session : Option Session) → IsSome (told_by s) → Deals net (Handed (IsSpelled policy) (IsService may policy) session s form) → Deals net (Handed (IsSpelled policy) (IsService may policy) session (status_of (result_of.Err stop)) form)
+  links_after stop write e s policy session told links = says (λ deals backs h. stopped (IsSpelled policy) (IsService may policy) stop write e session s form deals backs told h) links
 
 module _ {told : Told} {may : Moment → Type 0} {form : Option Form} {r t : Streams} {net : Dealings} where
   -- the call answers how it gave up

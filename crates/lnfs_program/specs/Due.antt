@@ -4,8 +4,6 @@ use Rattle.std.specs.declared.option.Option.{Option}
 use Rattle.std.specs.declared.option.Option.TheVariants.{Some, None}
 use Rattle.lnfs_policy.specs.Policy.{Policy}
 use Rattle.lnfs_policy.specs.PolicyText.{Refused, policy_of}
-use Rattle.lnfs_policy.specs.declared.mode.Mode.{Mode}
-use Rattle.lnfs_policy.specs.declared.mode.Mode.TheVariants.{Enforcing, Limited}
 use Rattle.hex.specs.Hex.{encode_lower}
 use Rattle.lnfs_map.specs.Translated.{translated}
 use Rattle.lnfs_map.specs.declared.table.MapError.{MapError}
@@ -54,11 +52,6 @@ abbrev pub judged : Result Policy Refused → (Policy → Due) → Due
 judged (Err refused) next = only (status.PolicyRefused refused.line refused.cause)
 judged (Ok policy) next = next policy
 
--- where the server enforces the labels of a policy
-abbrev pub enforced : Mode → Due → Due
-enforced Enforcing due = due
-enforced Limited due = only status.Usage
-
 -- the ending where a label has no translation; `translated` isn't short of memory
 abbrev pub no_translation : MapError → Status
 no_translation error.WrongLfs = status.Untranslated cause.WrongLfs
@@ -86,10 +79,10 @@ served m policy (Some session) = record {
 -- a task under a policy
 abbrev pub due_under : Policy → PolicyTask → Option (List ℕ) → Option Session → Due
 due_under policy check file session = shown policy.text
-due_under policy (replay traffic) file session = enforced policy.mode (given file traffic (replayed keyed_digest policy))
-due_under policy (generate seed count) file session = enforced policy.mode (generation_due keyed_digest policy seed count)
+due_under policy (replay traffic) file session = given file traffic (replayed keyed_digest policy)
+due_under policy (generate seed count) file session = generation_due keyed_digest policy seed count
 due_under policy (translate source target bytes) file session = spelled (translated policy.formats policy.labels source target bytes)
-due_under policy (serve links workers) file session = enforced policy.mode (served keyed_digest policy session)
+due_under policy (serve links workers) file session = served keyed_digest policy session
 
 unfoldable pub due : Option Form → Option (List ℕ) → Option (List ℕ) → Option Session → Due
 due None policy file session = only status.Usage

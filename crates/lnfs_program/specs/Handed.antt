@@ -6,7 +6,6 @@ use Rattle.lnfs_outside.specs.Nets.{Deal, Back}
 use Rattle.lnfs_types.specs.declared.event.Moment.{Moment}
 use Rattle.lnfs_policy.specs.Policy.{Policy}
 use Rattle.lnfs_policy.specs.PolicyText.{policy_of}
-use Rattle.lnfs_policy.specs.declared.mode.Mode.TheVariants.{Enforcing}
 use Rattle.lnfs_gss3.specs.Mechanism.{keyed_digest}
 use Rattle.lnfs_program.specs.declared.status.Status.{Status}
 use Rattle.lnfs_program.specs.declared.status.Status.TheVariants as status
@@ -36,15 +35,6 @@ pub record Deals (d : Dealings) (Say : List Deal → List Back → Type 0) : Typ
   pub handed : Adds d.backs d.backs_after backs
   pub say : Say deals backs
 
--- the server enforces the labels of a policy
-abbrev pub Enforces : Policy → Type 0
-Enforces policy = policy.mode ≡ Enforcing
-
--- a service under a policy whose labels are enforced
-pub record IsUnder (may : Moment → Type 0) (policy : Policy) (session : Session) (classes : List ℕ) (deals : List Deal) (backs : List Back) : Type 0 where
-  pub enforces : Enforces policy
-  pub is_session : IsSession may keyed_digest policy session classes deals backs
-
 -- a text spells a policy, of which something is said
 pub record IsTaken (policy : Option (List ℕ)) (Say : Policy → Type 0) : Type 0 where
   pub text : List ℕ
@@ -53,9 +43,13 @@ pub record IsTaken (policy : Option (List ℕ)) (Say : Policy → Type 0) : Type
   pub is_rules : policy_of text ≡ Ok rules
   pub say : Say rules
 
+-- a text spells a policy
+abbrev pub IsSpelled : (policy : Option (List ℕ)) → Type 0
+IsSpelled policy = IsTaken policy (λ rules. Unit {0})
+
 -- a service under the policy that a text spells
 abbrev pub IsService : (may : Moment → Type 0) (policy : Option (List ℕ)) → Session → (classes : List ℕ) → List Deal → List Back → Type 0
-IsService may policy session classes deals backs = IsTaken policy (λ rules. IsUnder may rules session classes deals backs)
+IsService may policy session classes deals backs = IsTaken policy (λ rules. IsSession may keyed_digest rules session classes deals backs)
 
 -- The links that were to be served, by what the service came to, if it began, and the status. The net is asked for links only where a service may begin.
 abbrev pub AreServed : (May : Type 0) (Is : Session → List ℕ → List Deal → List Back → Type 0) → Option Session → Status → (classes : List ℕ) → List Deal → List Back → Type 0

@@ -12,11 +12,11 @@ use Rattle.lnfs_program.specs.declared.status.Status.{Status}
 use Rattle.lnfs_program.specs.declared.status.Status.TheVariants as statuses
 use Rattle.lnfs_program.specs.Streams.{Streams, Counts}
 use Rattle.lnfs_policy.specs.Policy.{Policy}
-use Rattle.lnfs_gss3.specs.Mechanism.{Signing, keyed_digest}
-use Rattle.lnfs_program.specs.Due.{Due, due, due_under, enforced, served, all_writes}
+use Rattle.lnfs_gss3.specs.Mechanism.{Signing}
+use Rattle.lnfs_program.specs.Due.{Due, due, due_under, served, all_writes}
 use Rattle.lnfs_program.specs.Ending.{told_by}
 use Rattle.lnfs_program.specs.Session.{Session, IsSession}
-use Rattle.lnfs_program.specs.Handed.{Dealings, Deals, Enforces, IsTaken, IsUnder, IsService, AreServed, Handed}
+use Rattle.lnfs_program.specs.Handed.{Dealings, Deals, IsSpelled, IsService, AreServed, Handed}
 use Rattle.lnfs_program.specs.Words.{PolicyTask, Form, file_of, first_name, second_name}
 use Rattle.lnfs_program.specs.Writes.{Takes, TakesFront, Does}
 
@@ -43,7 +43,7 @@ pub record Runs (told : Told) (may : Moment → Type 0) (form : Option Form) (st
   pub file_held : Holds told (second_name form) file
   pub told_all : IfSome (told_by status) (λ e. (e ≡ (due form policy file session).ending) × Takes before after (all_writes (due form policy file session)))
   pub begun : TakesFront before after (all_writes (due form policy file session))
-  pub links : Deals net (Handed (IsTaken policy Enforces) (IsService may policy) session status form)
+  pub links : Deals net (Handed (IsSpelled policy) (IsService may policy) session status form)
 
 -- what is due was done, all but the ending's line
 pub record Plays (d : Due) (result : Result Status Stop) (before after : Streams) : Type 0 where
@@ -58,7 +58,7 @@ pub record Judges (told : Told) (may : Moment → Type 0) (form : Option Form) (
   pub policy_held : Holds told (first_name form) policy
   pub file_held : Holds told (second_name form) file
   pub plays : Plays (due form policy file session) result before after
-  pub links : Deals net (Handed (IsTaken policy Enforces) (IsService may policy) session (status_of result) form)
+  pub links : Deals net (Handed (IsSpelled policy) (IsService may policy) session (status_of result) form)
 
 -- the same where no links are dealt with
 pub record JudgesAlone (told : Told) (form : Option Form) (result : Result Status Stop) (before after : Streams) : Type 0 where
@@ -74,13 +74,7 @@ pub record Performs (told : Told) (policy : Policy) (task : PolicyTask) (result 
   pub file_held : Holds told (file_of task) file
   pub plays : Plays (due_under policy task file None) result before after
 
--- a service under a policy that was read, with a link of each of the classes, where the policy's labels are enforced
-pub record Offers (may : Moment → Type 0) (policy : Policy) (classes : List ℕ) (result : Result Status Stop) (before after : Streams) (net : Dealings) : Type 0 where
-  pub session : Option Session
-  pub plays : Plays (enforced policy.mode (served keyed_digest policy session)) result before after
-  pub links : Deals net (AreServed (Enforces policy) (IsUnder may policy) session (status_of result) classes)
-
--- the same whatever the mode is, of callers who sign by a mechanism
+-- a service under a policy that was read, with a link of each of the classes, of callers who sign by a mechanism
 pub record Serves (may : Moment → Type 0) (m : Signing) (policy : Policy) (classes : List ℕ) (result : Result Status Stop) (before after : Streams) (net : Dealings) : Type 0 where
   pub session : Option Session
   pub plays : Plays (served m policy session) result before after

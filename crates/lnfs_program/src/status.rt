@@ -38,7 +38,7 @@ impl MapCause {
 pub enum Status {
     /// All that is due was written.
     Ok,
-    /// The words are no form of the command line, or a server is asked for under a limited policy.
+    /// The words are no form of the command line.
     Usage,
     /// The policy's text is refused: the first line that breaks a rule, counted from 1, and the rule.
     PolicyRefused { line: u64, cause: Cause },

@@ -3,7 +3,7 @@ ghost use Rattle.std.specs.Prelude.{◌≡◌, ◌≤◌, ℕ, List, IfErr, Some
 ghost use Rattle.std.specs.declared.option.Option.{Option};
 ghost use Rattle.lnfs_gss3.specs.Mechanism.{keyed_digest};
 ghost use Rattle.lnfs_outside.specs.Causes.{Rose};
-ghost use Rattle.lnfs_program.specs.Due.{enforced, generation_due};
+ghost use Rattle.lnfs_program.specs.Due.{generation_due};
 ghost use Rattle.lnfs_program.specs.Runs.{IsExcused, JudgesAlone, Performs, Plays, ReadsAndWrites};
 ghost use Rattle.lnfs_program.specs.Streams.{counts, streams};
 ghost use Rattle.lnfs_program.specs.Words.{replay, task_of, under};
@@ -18,7 +18,7 @@ use crate::words::PolicyTask;
 use lnfs_format::Codecs;
 use lnfs_gss3::KeyedDigest;
 use lnfs_outside::{Files, Sink};
-use lnfs_policy::{Mode, Policy};
+use lnfs_policy::Policy;
 use lnfs_traffic::generate;
 use std::alloc::Global;
 
@@ -40,10 +40,6 @@ fn replay_file<F: Files, K: Sink, A: Sink>(
         (counts (K.write_faults out.old) (A.write_faults audit.old))
         (counts (K.write_faults out.new) (A.write_faults audit.new)) }
 {
-    match policy.mode() {
-        Mode::Enforcing => {}
-        Mode::Limited => return Ok(Status::Usage),
-    }
     if !open_file(files, traffic)? {
         return no_file(alloc, traffic);
     }
@@ -60,16 +56,12 @@ fn serve_generated<K: Sink>(
     out: &mut K,
 ) -> Result<Status, Stop>
     ensures plays { (audit : Option (List ℕ)) →
-        Plays (enforced policy.mode (generation_due keyed_digest policy seed count)) result
+        Plays (generation_due keyed_digest policy seed count) result
         (streams (K.taken out.old) audit) (streams (K.taken out.new) audit) }
     ensures later { K.write_faults out.old ≤ K.write_faults out.new }
     ensures excused { IfErr result (λ stop. IsExcused stop ⊥
         (Rose (K.write_faults out.old) (K.write_faults out.new)) ⊥) }
 {
-    match policy.mode() {
-        Mode::Enforcing => {}
-        Mode::Limited => return Ok(Status::Usage),
-    }
     let events = generate(alloc, &policy, seed, count)?;
     sum_up(alloc, codecs, KeyedDigest, policy, events, out)
 }

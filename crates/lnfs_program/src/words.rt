@@ -59,7 +59,7 @@ Standard error gets a line that begins with 'fault' where the run ends with stat
 \n\
 exit status:\n\
 0 all was written\n\
-2 the words are no form of the above, or POLICY of replay, generate or serve has the mode limited\n\
+2 the words are no form of the above\n\
 3 POLICY is refused\n\
 4 TRAFFIC is damaged; the events before the damage were served\n\
 5 a file could not be read\n\

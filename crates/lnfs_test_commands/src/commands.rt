@@ -45,7 +45,7 @@ check guest | 3 | | fault 3 policy line 12 cause Guest
 check no | 9 | | fault 9 no file no
 check | 2 | | fault 2 usage
 check p p | 2 | | fault 2 usage
-replay limited no | 2 | | fault 2 usage
+replay limited no | 9 | | fault 9 no file no
 check limited | 0 | = limited
 ";
 
@@ -77,7 +77,7 @@ generate p 18446744073709551616 1 | 2 | | fault 2 usage
 generate p -1 1 | 2 | | fault 2 usage
 generate p 7 | 2 | | fault 2 usage
 generate p 7 1 1 | 2 | | fault 2 usage
-generate limited 7 1 | 2 | | fault 2 usage
+generate limited 7 1 | 0 | = carried
 generate no 7 1 | 9 | | fault 9 no file no
 generate level 7 1 | 3 | | fault 3 policy line 4 cause Level
 generate p 7 1 ! out 1 | 6 |
@@ -102,15 +102,19 @@ serve p 0 1 1 | 2 | | fault 2 usage
 serve no 8 1 | 2 | | fault 2 usage
 serve no 0 1 | 9 | | fault 9 no file no
 serve level 0 1 | 3 | | fault 3 policy line 4 cause Level
-serve limited 0 1 | 2 | | fault 2 usage
+serve limited 0 1 | 8 |
 serve p 7,0,7 16 | 8 |
 ";
 
 /// What generated events come to.
-const SUMMARIES: [(&str, &str); 3] = [
+const SUMMARIES: [(&str, &str); 4] = [
     (
         "one",
         "events 1\nreplies 1\nfailed 0\ndigest d374000e787e39873adaff85ca479f647a10666541df353ad28a098a68bf1204\n",
+    ),
+    (
+        "carried",
+        "events 1\nreplies 1\nfailed 0\ndigest b919d5f0c10412d1619210a618fce3a76f066282c627c5c2b5588b5365ac0eac\n",
     ),
     (
         "twenty",

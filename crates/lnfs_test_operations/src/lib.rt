@@ -8,6 +8,8 @@ mod files;
 #[cfg(test)]
 mod leases;
 #[cfg(test)]
+mod limited;
+#[cfg(test)]
 mod pieces;
 #[cfg(test)]
 mod quotas;

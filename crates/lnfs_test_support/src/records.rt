@@ -1,7 +1,8 @@
 //! Rows of recordings: what is recorded, the replies to it, and the lines of the audit stream.
 use crate::flaw::{Flaw, read_of};
 use crate::rows::{Due, cells_of, counted_rows, frames_of, lines_in, recording_of};
-use crate::runs::{Runtime, gives, run_over};
+use crate::runs::{Runtime, gives, run_under};
+use crate::site::POLICY;
 use std::alloc::{AllocError, Global};
 
 /// What cells say is due after a run with a status, where they can be read.
@@ -31,15 +32,28 @@ pub fn read_row<'a>(alloc: Global, row: &'a str) -> Result<(&'a str, Vec<u8>, Du
     Ok((cells[0], traffic, due))
 }
 
-/// Plays what a row has recorded under the policy of all trials, and compares what that gives with
-/// what is due.
+/// Plays what a row has recorded under a policy, and compares what that gives with what is due.
 ///
 /// # Errors
 ///
 /// A flaw where the row can't be read, or something else is given.
-pub fn check_row(rt: &impl Runtime, alloc: Global, row: &str) -> Result<(), Flaw> {
+pub fn check_row_under(
+    rt: &impl Runtime,
+    alloc: Global,
+    policy: &str,
+    row: &str,
+) -> Result<(), Flaw> {
     let (name, traffic, due) = read_row(alloc, row)?;
-    gives(alloc, name, &run_over(rt, alloc, &traffic)?, &due)
+    gives(alloc, name, &run_under(rt, alloc, policy, &traffic)?, &due)
+}
+
+/// The same under the policy of all trials.
+///
+/// # Errors
+///
+/// Those of `check_row_under`.
+pub fn check_row(rt: &impl Runtime, alloc: Global, row: &str) -> Result<(), Flaw> {
+    check_row_under(rt, alloc, POLICY, row)
 }
 
 /// Plays each row of a table, which has so many.

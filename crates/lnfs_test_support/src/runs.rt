@@ -99,11 +99,21 @@ pub fn run_files(
     run_net(rt, alloc, line, files, &mut net, failing)
 }
 
-/// What `replay p t` gives, where `p` is the policy of all trials and `t` a recording.
-pub fn run_over(rt: &impl Runtime, alloc: Global, traffic: &[u8]) -> Result<Ran, AllocError> {
-    let policy = file(alloc, "p", POLICY.as_bytes())?;
+/// What `replay p t` gives, where `p` is a policy and `t` a recording.
+pub fn run_under(
+    rt: &impl Runtime,
+    alloc: Global,
+    policy: &str,
+    traffic: &[u8],
+) -> Result<Ran, AllocError> {
+    let policy = file(alloc, "p", policy.as_bytes())?;
     let files = vec![in alloc; policy, file(alloc, "t", traffic)?]?;
     run_files(rt, alloc, "replay p t", files, NONE)
+}
+
+/// The same under the policy of all trials.
+pub fn run_over(rt: &impl Runtime, alloc: Global, traffic: &[u8]) -> Result<Ran, AllocError> {
+    run_under(rt, alloc, POLICY, traffic)
 }
 
 /// Compares what a run gave with what is due: the status, and the bytes of the two streams.
