@@ -75,6 +75,19 @@ pub trait Extra: ExtraRows + ExtraGrammar + Drop {
     ghost same_grammar: { Self.grammar ≡ Self.extra.grammar };
 }
 
+/// What serves operations beside those of the table, and lets them be read without its rows: so a COMPOUND is read while
+/// the rows serve another.
+pub trait ReadExtra: Extra {
+    /// What reads them.
+    type Reader: ExtraGrammar + Drop;
+
+    /// Something that reads them.
+    fn reader(&self) -> Self::Reader;
+
+    /// The reader's grammar is the one of their definition.
+    ghost same_reader: { Self.Reader.grammar ≡ Self.extra.grammar };
+}
+
 /// No operations beside those of the table, and no rows.
 #[derive(Clone, Copy, Debug, Drop)]
 pub struct NoExtra;
@@ -133,4 +146,16 @@ impl Extra for NoExtra {
     }
 
     ghost same_grammar = { refl };
+}
+
+impl ReadExtra for NoExtra {
+    type Reader = NoExtra;
+
+    ghost use Rattle.std.specs.Prelude.{refl};
+
+    fn reader(&self) -> NoExtra {
+        NoExtra
+    }
+
+    ghost same_reader = { refl };
 }

@@ -27,7 +27,7 @@ mod sessions;
 mod store;
 
 pub use engine::{Engine, Ran};
-pub use extra::{Extra, ExtraRan, NoExtra, Spot};
+pub use extra::{Extra, ExtraRan, NoExtra, ReadExtra, Spot};
 pub use first::first_tree;
 pub use leases::is_lease_over;
 pub use room::room_of;

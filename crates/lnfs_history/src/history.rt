@@ -1,15 +1,12 @@
 //! The history, its keeper and its places.
 ghost use Rattle.std.specs.Prelude.{◌≡◌, ◌≤◌, ◌+◌, ◌++◌, ◌∷◌, ℕ, []};
-ghost use Rattle.lnfs_history.specs.Entries.{of, entry, known, part};
+ghost use Rattle.lnfs_history.specs.Entries.{of, known, part};
 ghost use Rattle.lnfs_history.specs.Rules.{keeper};
 
 use crate::entry::View;
 use atomic_table::{Join, Play, Seat, Split, Table, TableRule};
-use lnfs_rpc::ReplyRecord;
-use lnfs_types::Event;
 use std::alloc::{AllocError, Global};
 use std::marker::{Brand, Model, PhantomData};
-use std::snapshot::Snapshot;
 
 /// The rule of the history: what a seat knows fits the one history that there is.
 pub struct Law;
@@ -57,7 +54,7 @@ impl Split<View> for Apart {
 }
 
 /// Which entry a step adds. Each call picks it.
-trait Saying {
+pub trait Saying {
     ghost use Rattle.lnfs_history.specs.declared.entry.Entry.{Entry};
 
     ghost entry: { Entry };
@@ -226,33 +223,9 @@ impl<B: Room> History<B> {
         }
     }
 
-    /// Adds an event and its reply to what the keeper and the place of its link know.
-    pub fn add(
-        &self,
-        keeper: &mut Recorder<B>,
-        place: LinkView<B>,
-        event: &Snapshot<Event>,
-        reply: &Option<ReplyRecord>,
-    ) -> LinkView<B>
-        requires { event.now.value.link ≡ place.link }
-        ensures place { result ≡ part place.link (place.entries
-            ++ entry event.now.value reply.now ∷ []) }
-        ensures keeper { keeper.new ≡ known (keeper.old.log ++ entry event.now.value reply.now ∷ [])
-            keeper.old.made }
-    {
-        self.add_said::<Brand>(keeper, place, event, reply)
-    }
-
-    // The event and the reply only say which entry it is.
-    fn add_said<E: Saying>(
-        &self,
-        keeper: &mut Recorder<B>,
-        place: LinkView<B>,
-        event: &Snapshot<Event>,
-        reply: &Option<ReplyRecord>,
-    ) -> LinkView<B>
-        requires entry { E.entry ≡ entry event.now.value reply.now }
-        requires link { E.entry.event.link ≡ place.link }
+    /// Adds an entry to what the keeper and the place of its link know. Nothing says at run time which entry it is.
+    pub fn add<E: Saying>(&self, keeper: &mut Recorder<B>, place: LinkView<B>) -> LinkView<B>
+        requires { E.entry.event.link ≡ place.link }
         ensures place { result ≡ part place.link (place.entries ++ E.entry ∷ []) }
         ensures keeper { keeper.new ≡ known (keeper.old.log ++ E.entry ∷ []) keeper.old.made }
     {

@@ -9,4 +9,4 @@ mod entry;
 mod history;
 
 pub use entry::{Entry, View};
-pub use history::{History, Law, LinkView, Opened, Recorder, Room};
+pub use history::{History, Law, LinkView, Opened, Recorder, Room, Saying};

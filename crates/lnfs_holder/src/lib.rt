@@ -14,7 +14,7 @@ ghost use Rattle.lnfs_hold.specs.Hold.{anonymous, is_held, is_seen, readable};
 use lnfs_arguments::statuses::{NFS4ERR_NOFILEHANDLE, NFS4ERR_NOTSUPP};
 use lnfs_arguments::{ExtraGrammar, StateId};
 use lnfs_calipso::Level;
-use lnfs_engine::{Extra, ExtraRan, Spot, Store, is_lease_over};
+use lnfs_engine::{Extra, ExtraRan, ReadExtra, Spot, Store, is_lease_over};
 use lnfs_files::{Way, usable_file};
 use lnfs_hold::{HOLD, Held, NFS4ERR_DENIED};
 use lnfs_open::ClientKey;
@@ -123,7 +123,11 @@ impl ExtraRows for Holds {
     ghost lawful = { holds_are_lawful };
 }
 
-impl ExtraGrammar for Holds {
+/// How HOLD is read. It needs no rows.
+#[derive(Clone, Copy, Debug, Drop)]
+pub struct HoldGrammar;
+
+impl ExtraGrammar for HoldGrammar {
     ghost use Rattle.lnfs_hold.specs.Hold.{hold_grammar};
     ghost use Rattle.lnfs_hold.proofs.HoldLaws.{hold_grammar_is_lawful};
 
@@ -139,6 +143,27 @@ impl ExtraGrammar for Holds {
 
     fn bound(&self, _number: u32, _args: &[u8]) -> u32 {
         BOUND
+    }
+
+    ghost lawful = { hold_grammar_is_lawful };
+}
+
+impl ExtraGrammar for Holds {
+    ghost use Rattle.lnfs_hold.specs.Hold.{hold_grammar};
+    ghost use Rattle.lnfs_hold.proofs.HoldLaws.{hold_grammar_is_lawful};
+
+    ghost grammar = { hold_grammar };
+
+    fn serves(&self, number: u32) -> bool {
+        HoldGrammar.serves(number)
+    }
+
+    fn length(&self, number: u32, rest: &[u8]) -> Result<usize, XdrError> {
+        HoldGrammar.length(number, rest)
+    }
+
+    fn bound(&self, number: u32, args: &[u8]) -> u32 {
+        HoldGrammar.bound(number, args)
     }
 
     ghost lawful = { hold_grammar_is_lawful };
@@ -181,4 +206,16 @@ impl Extra for Holds {
     }
 
     ghost same_grammar = { refl };
+}
+
+impl ReadExtra for Holds {
+    type Reader = HoldGrammar;
+
+    ghost use Rattle.std.specs.Prelude.{refl};
+
+    fn reader(&self) -> HoldGrammar {
+        HoldGrammar
+    }
+
+    ghost same_reader = { refl };
 }

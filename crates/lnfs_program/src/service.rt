@@ -217,7 +217,7 @@ fn tell<M: Mechanism + Drop, K: Sink, A: Sink, N: Net>(
 /// Serves a link of each class of the team by its workers, in a new server whose callers sign by a
 /// mechanism. Then it tells the journal and its lines, and how each link ended.
 pub fn serve<
-    M: Mechanism + Send + Drop,
+    M: Mechanism + Send + Sync + Drop,
     K: Sink,
     A: Sink,
     N: Net,

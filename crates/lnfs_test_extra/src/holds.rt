@@ -3,7 +3,7 @@
 use crate::codecs::codecs_of;
 use lnfs_gss3::TestMechanism;
 use lnfs_holder::Holds;
-use lnfs_policy::read_policy;
+use lnfs_policy::{Policy, read_policy, write_policy};
 use lnfs_test_support::clients::with_clients;
 use lnfs_test_support::flaw::{Flaw, demand, read_of};
 use lnfs_test_support::rows::{cells_of, counted_rows, frames_of, recording_of};
@@ -11,7 +11,7 @@ use lnfs_test_support::sessions::opened;
 use lnfs_test_support::site::POLICY;
 use lnfs_traffic::read_traffic;
 use lnfs_types::Event;
-use lnfs_vault::{Served, VaultOf};
+use lnfs_vault::{Core, Served, VaultOf};
 use std::alloc::{AllocError, Global};
 use std::process::Abort;
 
@@ -68,7 +68,35 @@ fn replies_to(rt: &impl Abort, alloc: Global, events: Vec<Event>) -> Result<Vec<
     Ok(frames)
 }
 
-/// Serves what each row of a table has recorded, and compares the replies.
+/// The frames of the replies to events, by a core with HOLD, which has no journal and is told their numbers. It gives back the
+/// policy that it was made of.
+fn replies_alone(
+    rt: &impl Abort,
+    alloc: Global,
+    events: Vec<Event>,
+) -> Result<(Vec<u8>, Policy), AllocError> {
+    let codecs = codecs_of(alloc)?;
+    let read = read_policy(alloc, POLICY.as_bytes(), &codecs);
+    let policy = read.ok().expect(rt, "a policy");
+    let holds = Holds::new(alloc);
+    let mut core = Core::with_extra(alloc, policy, &codecs, TestMechanism, holds)?;
+    let mut frames = Vec::new(alloc);
+    let mut number: u64 = 0;
+    for event in events {
+        if !event.fits() {
+            continue;
+        }
+        number = number.saturating_add(1);
+        let Served { reply, .. } = core.step(&codecs, number, &event)?;
+        if let Some(reply) = reply {
+            frames.extend_from_slice(&reply.into_frame())?;
+        }
+    }
+    let (policy, _) = core.into_parts();
+    Ok((frames, policy))
+}
+
+/// Serves what each row of a table has recorded, by a vault and by a core, and compares the replies.
 fn check_holds(rt: &impl Abort, alloc: Global, table: &str, count: usize) -> Result<(), Flaw> {
     for row in &counted_rows(alloc, table, count)? {
         let whole = read_of(alloc, opened(alloc, row)?, row)?;
@@ -82,6 +110,11 @@ fn check_holds(rt: &impl Abort, alloc: Global, table: &str, count: usize) -> Res
         let events = read_of(alloc, read_traffic(alloc, &traffic).ok(), row)?;
         let replies = replies_to(rt, alloc, events)?;
         demand(alloc, replies.as_slice() == due.as_slice(), "replies", row)?;
+        let events = read_of(alloc, read_traffic(alloc, &traffic).ok(), row)?;
+        let (replies, policy) = replies_alone(rt, alloc, events)?;
+        demand(alloc, replies.as_slice() == due.as_slice(), "alone", row)?;
+        let text = write_policy(alloc, &policy)?;
+        demand(alloc, text.as_slice() == POLICY.as_bytes(), "policy", row)?;
     }
     Ok(())
 }

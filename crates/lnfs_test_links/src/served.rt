@@ -93,7 +93,7 @@ fn served_of<M: Mechanism + Drop, L: Drop>(
 
 /// Serves links in a new vault, at the times of a clock.
 pub fn serve_at<
-    M: Mechanism + Send + Drop,
+    M: Mechanism + Send + Sync + Drop,
     L: Link + Send + Drop,
     C: Clock + Sync,
     G: TurnGate + Sync,
@@ -119,7 +119,7 @@ pub fn serve_at<
 
 /// Serves links in a new vault, under a mechanism of signatures.
 pub fn serve<
-    M: Mechanism + Send + Drop,
+    M: Mechanism + Send + Sync + Drop,
     L: Link + Send + Drop,
     G: TurnGate + Sync,
     R: Threads + Wait + Sync + Abort,

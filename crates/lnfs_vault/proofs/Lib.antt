@@ -1,5 +1,5 @@
 pub mod Keeping
-pub mod Replies
+pub mod Seals
 pub mod Retrying
 pub mod Asking
 pub mod Bodies

@@ -1,5 +1,9 @@
 pub mod Requests
+pub mod Seals
+pub mod Sealed
+pub mod Prepared
 pub mod Lines
 pub mod Kept
+pub mod Pieces
 pub mod Says
 pub mod Retried

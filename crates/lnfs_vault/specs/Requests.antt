@@ -1,19 +1,10 @@
 -- What the code's values of a request stand for.
-use Rattle.std.specs.Prelude.{◌≡◌, ◌≤◌, ◌<◌, ◌^◌, ℕ, List, [], ◌++◌, length, Option, Some, None, option_map}
-use Rattle.lnfs_xdr.specs.declared.flavors.TheConstants.{AUTH_NONE, RPCSEC_GSS}
-use Rattle.lnfs_xdr.specs.Canon.{word}
-use Rattle.lnfs_rpc.specs.Calls.{OpaqueAuth}
-use Rattle.lnfs_rpc.specs.Numbers.{head_length}
-use Rattle.lnfs_rpc.specs.Formats.{head_room}
-use Rattle.lnfs_rpc.specs.Replies.{accepted, reply_text}
+use Rattle.std.specs.Prelude.{◌≡◌, ◌≤◌, length, Some, option_map}
 use Rattle.lnfs_format.specs.declared.formats.TheConstants.{MAX_SPELLING}
 use Rattle.lnfs_operations.specs.Sizes.{IsRead}
-use Rattle.lnfs_gss3.specs.Mechanism.{Signing}
-use Rattle.lnfs_step.specs.declared.numbers.TheConstants.{SUCCESS}
 use Rattle.lnfs_step.specs.Request as request
 use Rattle.lnfs_step.specs.Request.{Request}
 use Rattle.lnfs_step.specs.Wrapping as wrapping
-use Rattle.lnfs_step.specs.Wrapping.{verifier_in}
 use Rattle.lnfs_vault.specs.declared.request.Request as code
 use Rattle.lnfs_vault.specs.declared.request.Request.TheVariants as asked
 use Rattle.lnfs_vault.specs.declared.request.Task as task_code
@@ -80,20 +71,3 @@ HasForm call _ = Unit {0}
 abbrev pub IsFormed : code.Request → Type 0
 IsFormed (asked.Asked call t) = HasForm call t
 IsFormed _ = Unit {0}
-
--- ---- replies
-
--- the verifier of a signature, or the empty one
-abbrev pub verifier_by : Option (List ℕ) → OpaqueAuth
-verifier_by None = record { flavor = AUTH_NONE; body = [] }
-verifier_by (Some mic) = record { flavor = RPCSEC_GSS; body = mic }
-
--- what stands before results in the buffer that they are built in: the head of the reply, or the front of what is signed
-abbrev pub results_begun : Signing → wrapping.Wrapping → (xid : ℕ) → List ℕ
-results_begun m wrapping.Plain xid = head_room ++ reply_text xid (accepted (verifier_in m wrapping.Plain) SUCCESS) []
-results_begun m (wrapping.Signed parent header sequence) xid = word sequence
-
--- The room of a frame's head is there; what is signed has a length that a word spells.
-abbrev pub IsBegun : wrapping.Wrapping → (built : List ℕ) → Type 0
-IsBegun wrapping.Plain built = head_length ≤ length built
-IsBegun (wrapping.Signed parent header sequence) built = length built < 2 ^ 32

@@ -9,7 +9,7 @@ ghost use Rattle.lnfs_vault.specs.Requests.{seen_wrapping, seen_task, seen_asked
 use lnfs_arguments::{Compound, CompoundError, ExtraGrammar, read_compound};
 use lnfs_calipso::Level;
 use lnfs_format::Codecs;
-use lnfs_gss3::numbers::AUTH_BADCRED;
+use lnfs_gss3::numbers::{AUTH_BADCRED, SIGNATURE};
 use lnfs_gss3::{Caller, Mechanism, body, who};
 use lnfs_policy::{Parent, Policy};
 use lnfs_rpc::{CallError, read_call};
@@ -30,13 +30,26 @@ pub enum Cause {
 
 /// How the reply to a call is wrapped.
 #[derive(Clone, Copy, Debug)]
-pub enum Wrapping<'a> {
+pub enum Wrapping<'p, 'a> {
     /// By the empty verifier, and with results as they are.
     Plain,
     /// Signed under a parent, by the header of the call and the sequence number of its credential.
     Signed {
-        parent: &'a Parent,
+        parent: &'p Parent,
         header: &'a [u8],
+        seq: u32,
+    },
+}
+
+/// How a reply is sealed: of the record it has the signature of its header alone, so it borrows from the policy.
+#[derive(Clone, Copy, Debug)]
+pub enum Sealing<'p> {
+    /// By the empty verifier, and with results as they are.
+    Plain,
+    /// Signed under a parent, with its signature of the header and the sequence number of the call's credential.
+    Signed {
+        parent: &'p Parent,
+        mic: [u8; SIGNATURE],
         seq: u32,
     },
 }
@@ -50,10 +63,10 @@ pub struct InContext {
 
 /// A call of a level.
 #[derive(Clone, Copy, Debug)]
-pub struct Call<'a> {
+pub struct Call<'p, 'a> {
     pub level: Level,
     pub xid: u32,
-    pub wrapping: Wrapping<'a>,
+    pub wrapping: Wrapping<'p, 'a>,
     /// The context that it comes in, which has to be there.
     pub context: Option<InContext>,
 }
@@ -85,31 +98,31 @@ pub enum Task<'a> {
     EndContext(InContext),
 }
 
-/// What a record asks.
+/// What a record asks. It borrows parents from the policy, and all else from the record.
 #[derive(Debug, Drop)]
-pub enum Request<'a> {
+pub enum Request<'p, 'a> {
     /// Nothing: it is no call, and no reply is due.
     Silent,
     /// A call without a level, which is refused as a whole.
     Refused {
         xid: u32,
-        wrapping: Wrapping<'a>,
+        wrapping: Wrapping<'p, 'a>,
         cause: Cause,
     },
     /// NULL.
     Nothing {
         xid: u32,
     },
-    Asked(Call<'a>, Task<'a>),
+    Asked(Call<'p, 'a>, Task<'a>),
 }
 
 /// The wrapping under the parent of a number.
-fn wrapping_of<'a>(
-    policy: &'a Policy,
+fn wrapping_of<'p, 'a>(
+    policy: &'p Policy,
     call: &lnfs_rpc::Call<'a>,
     parent: u32,
     seq: u32,
-) -> Wrapping<'a>
+) -> Wrapping<'p, 'a>
     ensures { seen_wrapping result ≡ wrapping_of policy.now (seen_call call.now) parent seq }
 {
     match policy.parent(parent) {
@@ -123,7 +136,7 @@ fn wrapping_of<'a>(
 }
 
 /// NULL has no arguments.
-fn null_call<'a>(xid: u32, args: &[u8]) -> Request<'a>
+fn null_call<'p, 'a>(xid: u32, args: &[u8]) -> Request<'p, 'a>
     ensures asked { seen_asked result ≡ null_call xid args.now }
     ensures form { IsFormed result }
 {
@@ -178,13 +191,13 @@ fn run_signed<'a, E: ExtraGrammar>(
 }
 
 /// What a call asks of whom it comes from. The caller is judged before the arguments.
-fn asked_by<'a, E: ExtraGrammar>(
+fn asked_by<'p, 'a, E: ExtraGrammar>(
     alloc: Global,
-    policy: &'a Policy,
+    policy: &'p Policy,
     extra: &E,
     call: &lnfs_rpc::Call<'a>,
     caller: Caller,
-) -> Result<Request<'a>, AllocError>
+) -> Result<Request<'p, 'a>, AllocError>
     ensures asked { IfOk result (λ asked. seen_asked asked
         ≡ asked_by E.grammar policy.now (seen_call call.now) caller) }
     ensures form { IfOk result IsFormed }
@@ -266,7 +279,7 @@ fn asked_by<'a, E: ExtraGrammar>(
 }
 
 /// The refusal of a record that is no call that is served.
-fn refused<'a, E: ExtraGrammar>(error: CallError) -> Request<'a>
+fn refused<'p, 'a, E: ExtraGrammar>(error: CallError) -> Request<'p, 'a>
     ensures asked { (m : Signing) (policy : Policy) (class : ℕ) →
         seen_asked result ≡ asked_of E.grammar m policy class (Err error) }
     ensures form { IsFormed result }
@@ -286,15 +299,15 @@ fn refused<'a, E: ExtraGrammar>(error: CallError) -> Request<'a>
 
 /// What a record of a class asks under a policy, where further operations are read too.
 #[tactic(auto, unfolding(lnfs_step::specs::Request::request_with))]
-fn read_request<'a, E: ExtraGrammar, M: Mechanism>(
+fn read_request<'p, 'a, E: ExtraGrammar, M: Mechanism>(
     alloc: Global,
-    policy: &'a Policy,
+    policy: &'p Policy,
     codecs: &Codecs,
     mechanism: &M,
     extra: &E,
     class: u32,
     message: &'a [u8],
-) -> Result<Request<'a>, AllocError>
+) -> Result<Request<'p, 'a>, AllocError>
     ensures asked { IfOk result (λ asked. seen_asked asked
         ≡ request_with E.grammar M.signing policy.now class message.now) }
     ensures form { IfOk result IsFormed }
@@ -311,15 +324,15 @@ fn read_request<'a, E: ExtraGrammar, M: Mechanism>(
 /// What a record of a class asks under a policy, where further operations are read too. The codecs read the labels that are
 /// asserted, and the mechanism checks what is signed.
 #[tactic(auto, using(crate::proofs::Asking::is_asked))]
-pub fn request_of<'a, E: ExtraGrammar, M: Mechanism>(
+pub fn request_of<'p, 'a, E: ExtraGrammar, M: Mechanism>(
     alloc: Global,
-    policy: &'a Policy,
+    policy: &'p Policy,
     codecs: &Codecs,
     mechanism: &M,
     extra: &E,
     class: u32,
     message: &'a [u8],
-) -> Result<Request<'a>, AllocError>
+) -> Result<Request<'p, 'a>, AllocError>
     ensures asked { IfOk result (λ asked. seen_asked asked
         ≡ request_with E.grammar M.signing policy.now class message.now) }
     ensures read { IfOk result (λ asked. IsAsked (seen_asked asked)) }

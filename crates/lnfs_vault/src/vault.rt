@@ -1,5 +1,5 @@
 //! The vault.
-ghost use Rattle.std.specs.Prelude.{◌≡◌, ◌+◌, ◌≤◌, ℕ, List, [], ◌∷◌, ◌++◌, Some, true, false, length, IfOk, IfSome, OnOk, OnErr, IsErr};
+ghost use Rattle.std.specs.Prelude.{◌≡◌, ◌+◌, ◌≤◌, ℕ, List, [], ◌∷◌, ◌++◌, Some, None, true, false, length, IfOk, IfSome, OnOk, OnErr, IsErr};
 ghost use Rattle.lnfs_types.specs.declared.limits.TheConstants.{RECORD_LIMIT};
 ghost use Rattle.lnfs_types.specs.Moments.{Fits};
 ghost use Rattle.lnfs_policy.specs.Policy.{dominance};
@@ -8,29 +8,26 @@ ghost use Rattle.lnfs_arguments.specs.declared.types.CreateSession.{CreateSessio
 ghost use Rattle.lnfs_arguments.specs.declared.types.Sequence.{Sequence};
 ghost use Rattle.lnfs_world.specs.World.{Client, Session, Slot};
 ghost use Rattle.lnfs_world.specs.Usage.{nodes_used, bytes_used};
-ghost use Rattle.lnfs_world.specs.Both.{both};
 ghost use Rattle.lnfs_world.specs.Labels.{LabelsRise};
 ghost use Rattle.lnfs_operations.specs.InOrder.{sequence_before};
-ghost use Rattle.lnfs_site.specs.Site.{first_world};
-ghost use Rattle.lnfs_tree.specs.Rows.{rows_of};
-ghost use Rattle.lnfs_engine.specs.Stores.{only_tree};
 ghost use Rattle.lnfs_step.specs.Request.{Call};
-ghost use Rattle.lnfs_step.specs.Step.{step_with};
-ghost use Rattle.lnfs_step.specs.Journal.{Holds, IsKept, state_after, reply_with, line_with, answer_with};
+ghost use Rattle.lnfs_step.specs.Journal.{Holds, state_after, reply_with, line_with, answer_with};
 ghost use Rattle.lnfs_step.specs.Sessions.{ComesOnSlot, ComesToClient};
+ghost use Rattle.lnfs_vault.specs.Pieces.{held};
 ghost use Rattle.lnfs_vault.specs.Lines.{IsLineOf};
 ghost use Rattle.lnfs_vault.specs.Retried.{IsRetried};
-ghost use Rattle.lnfs_vault.specs.Says.{SaysServed};
 
 use crate::audit::AuditLine;
-use crate::step::{JournaledEvent, say};
+use crate::books::Books;
+use crate::front::Front;
+use crate::parts::Parts;
+use crate::step::Said;
 use lnfs_calipso::Level;
-use lnfs_engine::{Engine, Extra, NoExtra, first_tree};
+use lnfs_engine::{NoExtra, ReadExtra};
 use lnfs_format::Codecs;
 use lnfs_gss3::Mechanism;
 use lnfs_policy::Policy;
 use lnfs_rpc::ReplyRecord;
-use lnfs_site::{Labels, Site};
 use lnfs_step::{purge, sessions};
 use lnfs_types::Event;
 use std::alloc::{AllocError, Global};
@@ -47,80 +44,30 @@ pub struct Served {
     pub at: u64,
 }
 
-/// The engine of a site before all events.
-fn first_engine<X: Extra>(alloc: Global, site: &Site<'_>, extra: X) -> Result<Engine<X>, AllocError>
-    ensures store { IfOk result (λ engine. engine.store
-        ≡ only_tree (rows_of (first_world site.now))) }
-    ensures extra { IfOk result (λ engine. engine.extra ≡ extra) }
-{
-    let tree = first_tree(alloc, site)?;
-    Engine::new(alloc, tree, extra)
-}
-
-/// Makes the step of an event, and puts it into the journal. The journal's place is reserved first.
-fn attempt<X: Extra, M: Mechanism>(
-    alloc: Global,
-    site: &Site<'_>,
-    codecs: &Codecs,
-    mechanism: &M,
-    engine: &mut Engine<X>,
-    journal: &mut Vec<Event>,
-    event: Event,
-) -> Result<Served, AllocError>
-    requires event { Fits event }
-    requires kept { IsKept X.extra site.now (both engine.old.store (X.rows engine.old.extra)) }
-    ensures says { IfOk result (λ served.
-        SaysServed (length journal.old.items + 1) (both engine.new.store (X.rows engine.new.extra))
-        (step_with X.extra M.signing site.now (both engine.old.store (X.rows engine.old.extra))
-        event) served) }
-    ensures ok { OnOk result (journal.new.items ≡ journal.old.items ++ event ∷ []) }
-    ensures err { OnErr result (journal.new.items ≡ journal.old.items) }
-{
-    journal.reserve(1)?;
-    let at = journal.len() as u64 + 1;
-    let arrival = JournaledEvent { at, event: &event };
-    let said = say(alloc, site, codecs, mechanism, engine, arrival)?;
-    journal.push(event)?;
-    Ok(Served {
-        reply: said.reply,
-        line: said.line,
-        at,
-    })
-}
-
 /// Serves events one at a time, under a mechanism of signatures and with operations beside those of the table, and keeps the
 /// journal of all that it served.
 #[derive(Drop)]
-pub struct VaultOf<M: Mechanism + Drop, X: Extra> {
-    alloc: Global,
-    policy: Policy,
-    mechanism: M,
-    labels: Labels,
-    engine: Engine<X>,
-    journal: Vec<Event>,
-    stopped: bool,
+pub struct VaultOf<M: Mechanism + Drop, X: ReadExtra> {
+    front: Front<M, X>,
+    books: Books<M, X>,
 }
 
 /// A vault with the operations of the table alone.
 pub type Vault<M> = VaultOf<M, NoExtra>;
 
-impl<M: Mechanism + Drop, X: Extra> Model for VaultOf<M, X> {
-    ghost use Rattle.std.specs.Prelude.{◌≡◌, false};
-    ghost use Rattle.lnfs_world.specs.Both.{both};
+impl<M: Mechanism + Drop, X: ReadExtra> Model for VaultOf<M, X> {
+    ghost use Rattle.std.specs.Prelude.{◌≡◌, None};
     ghost use Rattle.lnfs_vault.specs.Kept.{Kept};
 
     ghost Value = { Kept };
 
-    ghost use Rattle.lnfs_site.specs.Labels.{spellings};
-    ghost use Rattle.lnfs_step.specs.Journal.{state_after};
+    ghost view = { λ v. record { policy = v.front.policy; journal = v.books.journal; stopped = v.books.stopped } };
 
-    ghost view = { λ v. record { policy = v.policy; journal = v.journal.items; stopped = v.stopped } };
-
-    // the labels are the policy's, and what stands is the state after the journal
-    ghost invariant = { λ v. (v.labels ≡ spellings v.policy) × (v.stopped ≡ false → both v.engine.store (X.rows v.engine.extra) ≡ state_after X.extra M.signing v.policy v.journal.items) };
+    // the books are this policy's, and every event that was served is in the journal
+    ghost invariant = { λ v. (v.books.policy ≡ v.front.policy) × (v.books.pending ≡ None) };
 }
 
-impl<M: Mechanism + Drop, X: Extra> VaultOf<M, X> {
+impl<M: Mechanism + Drop, X: ReadExtra> VaultOf<M, X> {
     /// A vault of a site with further operations, that was given no event. The codecs write its labels.
     ///
     /// # Errors
@@ -137,31 +84,45 @@ impl<M: Mechanism + Drop, X: Extra> VaultOf<M, X> {
         ensures { IfOk result (λ vault. vault ≡ record
             { policy = policy; journal = []; stopped = false }) }
     {
-        let labels = Labels::new(alloc, &policy, codecs)?;
-        let engine = first_engine(alloc, &Site::new(&policy, &labels), extra)?;
-        Ok(VaultOf {
-            alloc,
-            policy,
-            mechanism,
-            labels,
-            engine,
-            journal: Vec::new(alloc),
-            stopped: false,
-        })
+        let front = Front::new(alloc, policy, codecs, mechanism, &extra)?;
+        let books = Books::new(alloc, &front.site(), extra)?;
+        Ok(VaultOf { front, books })
+    }
+
+    /// A vault taken apart. Takes no memory.
+    pub fn into_parts(self) -> Parts<M, X>
+        ensures policy { result.front.policy ≡ self.policy }
+        ensures books { result.books ≡ held self.policy self.journal None self.stopped }
+    {
+        Parts {
+            front: self.front,
+            books: self.books,
+        }
+    }
+
+    /// A vault put together. It is stopped where the step of an event was made that is not in the journal. Takes no memory.
+    pub fn from_parts(parts: Parts<M, X>) -> VaultOf<M, X>
+        ensures policy { result.policy ≡ parts.front.policy }
+        ensures journal { result.journal ≡ parts.books.journal }
+        ensures stopped { parts.books.pending ≡ None → result.stopped ≡ parts.books.stopped }
+    {
+        let Parts { front, mut books } = parts;
+        books.close();
+        VaultOf { front, books }
     }
 
     /// The policy of the site.
     pub fn policy(&self) -> &Policy
         ensures { result.now ≡ self.now.policy }
     {
-        &self.policy
+        self.front.policy()
     }
 
     /// The events that were served, in order.
     pub fn journal(&self) -> &[Event]
         ensures { result.now ≡ self.now.journal }
     {
-        &self.journal
+        self.books.journal()
     }
 
     /// What a level uses: the nodes whose home it is, then the bytes of the files whose label it is. Both are kept as totals.
@@ -175,7 +136,41 @@ impl<M: Mechanism + Drop, X: Extra> VaultOf<M, X> {
             ≡ bytes_used (state_after X.extra M.signing self.now.policy
             self.now.journal).world.nodes level.0 }
     {
-        self.engine.store.used(level)
+        self.books.used(level)
+    }
+
+    /// All three parts of a step, with the event in the journal.
+    fn attempt(&mut self, codecs: &Codecs, event: Event) -> Result<Served, AllocError>
+        requires { Fits event }
+        ensures reply { IfOk result (λ served. served.reply
+            ≡ reply_with X.extra M.signing self.old.policy self.old.journal event) }
+        ensures line { IfOk result (λ served. IsLineOf (length self.old.journal + 1)
+            (line_with X.extra M.signing self.old.policy self.old.journal event) served.line) }
+        ensures at { IfOk result (λ served. served.at ≡ length self.old.journal + 1) }
+        ensures kept { OnOk result (self.new ≡ record self.old
+            { journal = self.old.journal ++ event ∷ [] }) }
+        ensures stops { OnErr result (self.new ≡ record self.old { stopped = true }) }
+        ensures stopped { self.old.stopped ≡ true → IsErr result }
+    {
+        let front = &self.front;
+        let Ok(prepared) = front.decode(codecs, &event) else {
+            self.books.stop();
+            return Err(AllocError);
+        };
+        let at = self.books.journal().len() as u64 + 1;
+        let site = front.site();
+        let Ok(said) = self.books.make_step(&site, &event, prepared) else {
+            self.books.stop();
+            return Err(AllocError);
+        };
+        let Said { unsealed, line } = said;
+        // Sealed before it is kept: an error leaves the journal as it was.
+        let Ok(reply) = front.seal(unsealed) else {
+            self.books.stop();
+            return Err(AllocError);
+        };
+        self.books.keep(event);
+        Ok(Served { reply, line, at })
     }
 
     /// Serves an event: makes its step on the state after the journal, and adds it to the journal. The codecs read labels that
@@ -236,24 +231,9 @@ impl<M: Mechanism + Drop, X: Extra> VaultOf<M, X> {
     {
         purge::<X, M>();
         sessions::<X, M>();
-        self.policy.law_preorder();
-        self.policy.law_policy();
-        if self.stopped {
-            return Err(AllocError);
-        }
-        self.stopped = true;
-        let site = Site::new(&self.policy, &self.labels);
-        let served = attempt(
-            self.alloc,
-            &site,
-            codecs,
-            &self.mechanism,
-            &mut self.engine,
-            &mut self.journal,
-            event,
-        )?;
-        self.stopped = false;
-        Ok(served)
+        self.front.policy().law_preorder();
+        self.front.policy().law_policy();
+        self.attempt(codecs, event)
     }
 }
 

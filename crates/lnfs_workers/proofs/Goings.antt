@@ -164,6 +164,24 @@ ends_writing ending old now new pending after entries e g b is_of w later left r
     by_ending Budget h = absurd h
     by_ending Memory h = absurd h
 
+-- a reply was lost before any of it was written
+pub lost_reply : (old now : Tells) (pending after : List ℕ) (entries : List Entry) (e : Entry) → Going old now pending entries
+    → Begins whole_record e.event.message pending (λ rest. rest ≡ after) → Service Memory old now (entries ++ e ∷ [])
+lost_reply old now pending after entries e g b = record {
+  read = g.read;
+  unserved = [];
+  pending = after;
+  front = transcript entries;
+  lost = framed e.reply;
+  reads = g.reads;
+  cuts = subst (λ (ms : List (List ℕ)). Stream g.read ms after) (sym (append-nil (messages (entries ++ e ∷ [])))) (cut_one g.read entries pending after e g.cuts b);
+  writes = g.writes;
+  replies = transcript_push entries e;
+  reading = g.reading;
+  writing = g.writing;
+  ends = omega arith;
+}
+
 -- What is told of a link that is over is what was served: the link that was closed tells what it told before.
 pub told_over : {L : Type 0} (tell : L → Tells) (may : Moment → Type 0) (class : ℕ) (link : L) (end said : LinkEnd L) (place held : Part)
     → end ≡ record { class = said.class; link = end.link; ending = said.ending; records = said.records } → tell end.link ≡ tell said.link → place ≡ held

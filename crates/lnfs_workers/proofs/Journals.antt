@@ -52,18 +52,10 @@ lines_in_more ls event line (Some l) is =
     ∙ ap (λ (n : ℕ). lines_in ls ++ (n, line_in l) ∷ []) is.1
     ∙ ap (λ (o : Option Line). lines_in ls ++ placed event o) (sym is.0)
 
-module _ (X : Extra) (m : Signing) (p q : Policy) (same : p ≡ q) (journal : List Event) (e : Event) where
-  -- the entries of a journal with one more event, by the policy that it has
-  pub told_more : (log : List Entry) (said : Event) (reply : Option (List ℕ)) → log ≡ entries_of X m q journal → said ≡ e → reply ≡ reply_with X m p journal e
-      → log ++ entry said reply ∷ [] ≡ entries_of X m q (journal ++ e ∷ [])
-  told_more log said reply told is due =
-      let due' : reply ≡ reply_with X m q journal e = due ∙ ap (λ (r : Policy). reply_with X m r journal e) same in
-      (λ i. told i ++ entry (is i) (due' i) ∷ []) ∙ sym (entries_push X m q journal e)
-
-  -- and its audit lines
-  pub said_more : (ls : List AuditLine) (said : Option AuditLine) → lines_in ls ≡ lines_of X m q journal → IsLineOf (length journal + 1) (line_with X m p journal e) said
-      → lines_in (ls ++ option_to_list said) ≡ lines_of X m q (journal ++ e ∷ [])
-  said_more ls said told is =
-      lines_in_more ls (length journal + 1) (line_with X m p journal e) said is
-      ∙ (λ i. told i ++ placed (length journal + 1) (line_with X m (same i) journal e))
-      ∙ sym (lines_push X m q journal e)
+-- the audit lines of a journal with one more event
+pub said_more : (X : Extra) (m : Signing) (p : Policy) (journal : List Event) (e : Event) (ls : List AuditLine) (said : Option AuditLine) → lines_in ls ≡ lines_of X m p journal → IsLineOf (length journal + 1) (line_with X m p journal e) said
+    → lines_in (ls ++ option_to_list said) ≡ lines_of X m p (journal ++ e ∷ [])
+said_more X m p journal e ls said told is =
+    lines_in_more ls (length journal + 1) (line_with X m p journal e) said is
+    ∙ ap (λ (l : List (ℕ × Line)). l ++ placed (length journal + 1) (line_with X m p journal e)) told
+    ∙ sym (lines_push X m p journal e)

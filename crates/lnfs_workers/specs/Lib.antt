@@ -5,3 +5,4 @@ pub mod Served
 pub mod Pairs
 pub mod Dealt
 pub mod Links
+pub mod Told

@@ -18,6 +18,6 @@ pub enum Ending {
     TooLong,
     /// 65,536 records were served, and one more whole record was read.
     Budget,
-    /// There was no memory.
+    /// There was no memory. The last record is in the journal where only its reply found none.
     Memory,
 }

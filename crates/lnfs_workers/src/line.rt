@@ -9,7 +9,7 @@ pub struct LinkEnd<L> {
     pub class: u32,
     pub link: L,
     pub ending: Ending,
-    /// How many of its records were served.
+    /// How many of its records are in the journal. The reply to the last is lost where there was no memory to seal it.
     pub records: u32,
 }
 

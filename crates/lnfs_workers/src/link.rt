@@ -5,30 +5,22 @@ ghost use Rattle.lnfs_workers.specs.Links.{IsServed, IsDone};
 ghost use Rattle.lnfs_workers.specs.Pairs.{Each};
 
 use crate::clock::moment_of;
-use crate::desk::{Desk, LinkRecord, serve_record};
+use crate::desk::{LinkRecord, serve_record};
 use crate::ending::{BUDGET, Ending};
 use crate::gate::{TurnGate, Turns};
 use crate::line::{Done, LinkEnd, Waiting};
+use crate::outcome::Outcome;
 use crate::reading::{Incoming, next_record, read_on};
+use crate::shared::Shared;
 use crate::writing::put_reply;
-use lnfs_engine::Extra;
+use lnfs_engine::ReadExtra;
 use lnfs_format::Codecs;
 use lnfs_gss3::Mechanism;
-use lnfs_history::{History, LinkView, Room};
+use lnfs_history::{LinkView, Room};
 use lnfs_outside::{Clock, Link};
-use std::alloc::{AllocError, Global};
+use std::alloc::AllocError;
 use std::collections::VecDeque;
-use std::sync::{Mutex, Wait};
-
-/// What the workers share, beside the codecs of labels.
-#[derive(Drop)]
-pub struct Shared<'a, B: Room, M: Mechanism + Drop, X: Extra, C, G> {
-    pub alloc: Global,
-    pub history: &'a History<B>,
-    pub desk: &'a Mutex<Desk<B, M, X>>,
-    pub clock: &'a C,
-    pub gate: &'a G,
-}
+use std::sync::Wait;
 
 /// Closes a link whose service is over, so that its client doesn't wait until all others are over,
 /// and says what is told of it, with its place.
@@ -59,7 +51,7 @@ fn over<B: Room, L: Link + Drop>(
 fn serve_link<
     B: Room,
     M: Mechanism + Drop,
-    X: Extra,
+    X: ReadExtra,
     C: Clock,
     G: TurnGate,
     L: Link + Drop,
@@ -99,10 +91,20 @@ fn serve_link<
             moment,
             message,
         };
-        let (told, reply) = serve_record(rt, codecs, shared.history, shared.desk, place, arrival);
+        let (told, outcome) = serve_record(
+            rt,
+            codecs,
+            shared.front,
+            shared.history,
+            shared.desk,
+            place,
+            arrival,
+        );
         place = told;
-        let Ok(reply) = reply else {
-            return over(class, link, Ending::Memory, records, place);
+        let reply = match outcome {
+            Outcome::Replied { reply } => reply,
+            Outcome::Lost => return over(class, link, Ending::Memory, records + 1, place),
+            Outcome::NoMemory => return over(class, link, Ending::Memory, records, place),
         };
         records += 1;
         let Err(ending) = put_reply(&mut link, reply) else {
@@ -117,7 +119,7 @@ fn serve_link<
 pub fn serve_links<
     B: Room,
     M: Mechanism + Drop,
-    X: Extra,
+    X: ReadExtra,
     C: Clock,
     G: TurnGate,
     L: Link + Drop,

@@ -4,23 +4,25 @@ ghost use denote.Param.Send.{IsSync};
 ghost use Rattle.lnfs_history.specs.Entries.{of, known, part};
 ghost use Rattle.lnfs_types.specs.Moments.{Fits};
 ghost use Rattle.lnfs_workers.specs.Served.{telling};
-ghost use Rattle.lnfs_workers.specs.Links.{IsServed, IsDone, Comes, Waits};
+ghost use Rattle.lnfs_workers.specs.Links.{IsServed, IsDone, Waits};
 ghost use Rattle.lnfs_workers.specs.Dealt.{AllAt, Hand};
 ghost use Rattle.lnfs_workers.specs.Pairs.{Each, EachAt};
 ghost use Rattle.lnfs_workers.specs.Transcripts.{entries_of};
 ghost use Rattle.lnfs_workers.specs.Lines.{lines_in, lines_of};
 
-use crate::deal::{deal, take_first, take_next};
+use crate::deal::{deal, take_first};
 use crate::desk::Desk;
 use crate::gate::TurnGate;
 use crate::line::{Done, LinkEnd, Waiting};
-use crate::link::{Shared, serve_links};
-use lnfs_engine::Extra;
+use crate::link::serve_links;
+use crate::settling::{Settled, open_desk, settle};
+use crate::shared::Shared;
+use lnfs_engine::ReadExtra;
 use lnfs_format::Codecs;
 use lnfs_gss3::Mechanism;
 use lnfs_history::{History, Opened, Recorder, Room};
 use lnfs_outside::{Clock, Link};
-use lnfs_vault::{AuditLine, VaultOf};
+use lnfs_vault::{AuditLine, Front, Parts, VaultOf};
 use std::alloc::{AllocError, Global};
 use std::collections::VecDeque;
 use std::marker::Brand;
@@ -31,7 +33,7 @@ use std::thread::{Threads, map_vec};
 /// The vault that served links, the ends of the links in their order, and the audit lines in the
 /// order of the journal.
 #[derive(Drop)]
-pub struct Ended<M: Mechanism + Drop, X: Extra, L> {
+pub struct Ended<M: Mechanism + Drop, X: ReadExtra, L> {
     pub vault: VaultOf<M, X>,
     pub ends: Vec<LinkEnd<L>>,
     pub lines: Vec<AuditLine>,
@@ -108,8 +110,8 @@ fn may_share<T: Sync>(_lent: &T)
 /// can be made.
 fn fan_out<
     B: Room + Send + Sync,
-    M: Mechanism + Send + Drop,
-    X: Extra + Send,
+    M: Mechanism + Send + Sync + Drop,
+    X: ReadExtra + Send,
     C: Clock + Sync,
     G: TurnGate + Sync,
     L: Link + Send + Drop,
@@ -120,6 +122,8 @@ fn fan_out<
     shared: &Shared<'_, B, M, X, C, G>,
     jobs: Vec<Job<B, L>>,
 ) -> Result<Vec<Result<VecDeque<Done<B, L>>, AllocError>>, AllocError>
+where
+    X::Reader: Sync,
     requires { All (λ job. All (λ one. one.place.entries ≡ []) job.links.items) jobs.items }
     ensures { IfOk result (λ all. Each (λ job one.
         IfOk one (λ done.
@@ -127,6 +131,7 @@ fn fan_out<
         (C.may shared.now.clock.now)) job.links.items done.items)) jobs.items all.items) }
 {
     may_share(codecs);
+    may_share(shared.front);
     may_share(shared.history);
     may_share(shared.desk);
     let serve = move |job: Job<B, L>| -> Result<VecDeque<Done<B, L>>, AllocError>
@@ -144,8 +149,8 @@ fn fan_out<
 /// Serves the links of all workers.
 fn serve_hands<
     B: Room + Send + Sync,
-    M: Mechanism + Send + Drop,
-    X: Extra + Send,
+    M: Mechanism + Send + Sync + Drop,
+    X: ReadExtra + Send,
     C: Clock + Sync,
     G: TurnGate + Sync,
     L: Link + Send + Drop,
@@ -156,6 +161,8 @@ fn serve_hands<
     shared: &Shared<'_, B, M, X, C, G>,
     hands: VecDeque<VecDeque<Waiting<B, L>>>,
 ) -> Result<VecDeque<VecDeque<Done<B, L>>>, AllocError>
+where
+    X::Reader: Sync,
     requires few { length hands.items ≤ 16 }
     requires entries { All (λ links. All (λ one. one.place.entries ≡ []) links.items) hands.items }
     ensures { IfOk result (λ all. Each (λ links done.
@@ -165,65 +172,6 @@ fn serve_hands<
     let jobs = numbered(shared.alloc, hands)?;
     let served = fan_out(rt, codecs, shared, jobs)?;
     gathered(shared.alloc, served)
-}
-
-/// Compares each place with the whole history, and puts the ends of the links in their order. No
-/// answer depends on what is compared. The clock is asked nothing.
-fn settle<B: Room, M: Mechanism + Drop, X: Extra, C: Clock, L: Link + Drop>(
-    alloc: Global,
-    history: &History<B>,
-    clock: &C,
-    mut desk: Desk<B, M, X>,
-    links: &Snapshot<Vec<(u32, L)>>,
-    mut hands: VecDeque<VecDeque<Done<B, L>>>,
-) -> Result<Ended<M, X, L>, AllocError>
-    requires some { 0 < length hands.items }
-    requires hands { AllAt (λ m hand. Hand (λ n one. (one.place.link ≡ n)
-        × Comes (telling L.left L.taken L.read_faults L.write_faults) (C.may clock.now)
-        links.now.value.items n one.end one.place.entries)
-        (length links.now.value.items) (length hands.items) m hand.items) 0 hands.items }
-    ensures vault { IfOk result (λ ended. ended.vault ≡ desk.vault) }
-    ensures lines { IfOk result (λ ended. ended.lines ≡ desk.lines) }
-    ensures fits { OnOk result (All Fits desk.vault.journal) }
-    ensures ends { IfOk result (λ ended. AllAt (λ n end.
-        Comes (telling L.left L.taken L.read_faults L.write_faults) (C.may clock.now)
-        links.now.value.items n end
-        (of n (entries_of X.extra M.signing B.policy desk.vault.journal))) 0 ended.ends.items) }
-    ensures count { IfOk result (λ ended. length ended.ends.items ≡ length links.now.value.items) }
-    ensures others { OnOk result ((link : ℕ) → B.links ≤ link →
-        of link (entries_of X.extra M.signing B.policy desk.vault.journal) ≡ []) }
-{
-    let mut ends = Vec::new(alloc);
-    while let Some(one) = take_next(&mut hands) {
-        let Done { end, place } = one;
-        desk.learn(history, place);
-        ends.push(end)?;
-    }
-    desk.look(history);
-    let Desk {
-        vault,
-        lines,
-        keeper: _,
-    } = desk;
-    Ok(Ended { vault, ends, lines })
-}
-
-/// The vault with the keeper, before the first record.
-fn open_desk<B: Room, M: Mechanism + Drop, X: Extra>(
-    alloc: Global,
-    vault: VaultOf<M, X>,
-    keeper: Recorder<B>,
-) -> Desk<B, M, X>
-    requires journal { vault.journal ≡ [] }
-    requires site { vault.policy ≡ B.policy }
-    requires keeper { keeper ≡ known [] B.links }
-    ensures { result.vault ≡ vault }
-{
-    Desk {
-        vault,
-        lines: Vec::new(alloc),
-        keeper,
-    }
 }
 
 /// Gives each link its place, and deals the links to so many workers.
@@ -246,11 +194,11 @@ fn seated<B: Room, L: Drop>(
     deal(alloc, waiting, workers as usize)
 }
 
-/// Serves links that were dealt to workers, over the vault of a desk that has served none.
+/// Serves links that were dealt to workers, over the books of a desk that has served none.
 fn serve_seated<
     B: Room + Send + Sync,
-    M: Mechanism + Send + Drop,
-    X: Extra + Send,
+    M: Mechanism + Send + Sync + Drop,
+    X: ReadExtra + Send,
     C: Clock + Sync,
     G: TurnGate + Sync,
     L: Link + Send + Drop,
@@ -259,6 +207,7 @@ fn serve_seated<
     rt: &R,
     alloc: Global,
     codecs: &Codecs,
+    front: Front<M, X>,
     history: &History<B>,
     desk: Desk<B, M, X>,
     clock: &C,
@@ -266,6 +215,9 @@ fn serve_seated<
     links: &Snapshot<Vec<(u32, L)>>,
     hands: VecDeque<VecDeque<Waiting<B, L>>>,
 ) -> Result<Ended<M, X, L>, AllocError>
+where
+    X::Reader: Sync,
+    requires site { front.policy ≡ B.policy }
     requires some { 0 < length hands.items }
     requires few { length hands.items ≤ 16 }
     requires hands { AllAt (λ m hand. Hand (Waits links.now.value.items)
@@ -284,20 +236,30 @@ fn serve_seated<
     let desk = Mutex::new(desk);
     let shared = Shared {
         alloc,
+        front: &front,
         history,
         desk: &desk,
         clock,
         gate,
     };
     let done = serve_hands(rt, codecs, &shared, hands)?;
-    settle(alloc, history, clock, desk.into_inner(), links, done)
+    let Settled { books, ends, lines } = settle(
+        alloc,
+        history,
+        clock,
+        desk.into_inner(),
+        links,
+        done,
+    )?;
+    let vault = VaultOf::from_parts(Parts { front, books });
+    Ok(Ended { vault, ends, lines })
 }
 
 /// Serves links under a name of the history.
 fn serve_named<
     B: Room + Send + Sync,
-    M: Mechanism + Send + Drop,
-    X: Extra + Send,
+    M: Mechanism + Send + Sync + Drop,
+    X: ReadExtra + Send,
     C: Clock + Sync,
     G: TurnGate + Sync,
     L: Link + Send + Drop,
@@ -313,6 +275,8 @@ fn serve_named<
     links: Vec<(u32, L)>,
     workers: u32,
 ) -> Result<Ended<M, X, L>, AllocError>
+where
+    X::Reader: Sync,
     requires table { opened.table.shared.table_id ≡ B.table }
     requires count { B.links ≡ length links.items }
     requires site { B.policy ≡ vault.policy }
@@ -334,24 +298,28 @@ fn serve_named<
     let given = Snapshot::of(&links);
     let (history, mut keeper) = opened.named::<B>();
     let hands = seated(alloc, &history, &mut keeper, links, workers)?;
-    let desk = open_desk(alloc, vault, keeper);
+    let Parts { front, books } = vault.into_parts();
+    let desk = open_desk(alloc, books, keeper);
     serve_seated(
-        rt, alloc, codecs, &history, desk, clock, gate, &given, hands,
+        rt, alloc, codecs, front, &history, desk, clock, gate, &given, hands,
     )
 }
 
 /// Serves links by worker threads, over one vault. Link i, which came by the listener of its class,
 /// is served whole by worker i mod `workers`, and each worker takes its links in rising order. For
-/// each record a worker passes the gate, takes the moment, and serves the event under the lock. The
-/// codecs read the labels that are asserted. The clauses tell what comes of each link; which worker
-/// serves it, and when it passes the gate, they leave to this code.
+/// each record a worker passes the gate, takes the moment, and decodes the record; it makes the step
+/// under the lock, and seals the reply when the lock is free again. The codecs read the labels that
+/// are asserted. The clauses tell what comes of each link; which worker serves it, and when it passes
+/// the gate, they leave to this code.
 ///
 /// # Errors
 ///
-/// `AllocError` where there is no memory. A link whose service found none ends with `Memory`.
+/// `AllocError` where there is no memory. A link whose service found none ends with `Memory`: where the
+/// record was decoded, nothing has happened; where its step was made, the server is stopped; where
+/// the reply was sealed, the event is in the journal, and its reply is lost.
 pub fn serve_all<
-    M: Mechanism + Send + Drop,
-    X: Extra + Send,
+    M: Mechanism + Send + Sync + Drop,
+    X: ReadExtra + Send,
     C: Clock + Sync,
     G: TurnGate + Sync,
     L: Link + Send + Drop,
@@ -366,6 +334,8 @@ pub fn serve_all<
     links: Vec<(u32, L)>,
     workers: u32,
 ) -> Result<Ended<M, X, L>, AllocError>
+where
+    X::Reader: Sync,
     requires journal { vault.journal ≡ [] }
     requires links { length links.items ≤ 64 }
     requires some { 0 < workers }

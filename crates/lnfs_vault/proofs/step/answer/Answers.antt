@@ -1,15 +1,9 @@
-use Rattle.std.proofs.Common.{refl, sym, ap, ◌∙◌}
+use Rattle.std.proofs.Common.{sym, ap, ◌∙◌}
 use Rattle.lnfs_world.specs.Both.{both}
 use Rattle.lnfs_step.specs.Request.{MakeContext, EndContext}
 use Rattle.lnfs_vault.specs.Requests.{seen_call, seen_task}
-use Rattle.lnfs_vault.proofs.Calls.{done}
+use Rattle.lnfs_vault.proofs.Calls.{done, done_said}
 use Rattle.lnfs_vault.proofs.step.answer.Goals as goal
-
-pub run-requires-clause-facts : goal.run-requires-clause-facts
-run-requires-clause-facts g c = let kept = c.requires.kept in record { world = record { facts = kept.sound.facts; place = refl }; own = kept.own }
-
-pub run-requires-clause-bounds : goal.run-requires-clause-bounds
-run-requires-clause-bounds g c = c.requires.kept.sound.bounds
 
 pub returns-in-MakeContext : goal.returns-in-MakeContext
 returns-in-MakeContext g c =
@@ -27,7 +21,7 @@ returns-in-EndContext g c =
     let rows = g.X.ExtraRows.rows in
     let p = c.args.site.now in
     let event = c.args.arrival.event.now in
-    done g.X.ExtraRows.extra g.M.Mechanism.signing p (both c.args.engine.now.store (rows c.args.engine.now.extra)) (both c.end_context.new.engine.store (rows c.end_context.new.engine.extra)) event
+    done_said g.X.ExtraRows.extra g.M.Mechanism.signing p (both c.args.engine.now.store (rows c.args.engine.now.extra)) (both c.end_context.new.engine.store (rows c.end_context.new.engine.extra)) event
     (seen_call c.args.call.now) (seen_task c.args.task.now) (EndContext c.in-EndContext.context.number) c.args.arrival.at c.end_context.result
     (sym c.is_there.ensures ∙ c.if-not-is_there.false) (ap seen_task c.in-EndContext.is)
     (c.end_context.ensures p event)

@@ -8,7 +8,7 @@ use Rattle.lnfs_workers.specs.Served.{telling, Going, IsOf, AreOf}
 use Rattle.lnfs_workers.specs.declared.ending.TheConstants.{BUDGET}
 use Rattle.lnfs_workers.specs.declared.ending.Ending.TheVariants.{Budget, Memory}
 use Rattle.lnfs_workers.proofs.Records.{all_push}
-use Rattle.lnfs_workers.proofs.Goings.{read_more, serves, ends_cutting, ends_reading, out_of_memory, out_of_budget, ends_writing, told_over}
+use Rattle.lnfs_workers.proofs.Goings.{read_more, serves, ends_cutting, ends_reading, out_of_memory, out_of_budget, ends_writing, lost_reply, told_over}
 use Rattle.lnfs_workers.proofs.link.serve_link.Goals as goal
 
 pub loop-preserved-in-None-read_on : goal.loop-preserved-in-None-read_on
@@ -70,13 +70,31 @@ returns-then-records-eq-BUDGET-clause-served g c =
       service = out_of_budget (tell c.args.link) (tell c.loop.link) c.loop.incoming c.next_record.new.incoming c.loop.place.entries c.in-Ok-Some.message i.going cut.1 (grind (arith, nat_tests, c.if-records-eq-BUDGET.true, i.count));
     })
 
-pub returns-in_default-clause-served : goal.returns-in_default-clause-served
-returns-in_default-clause-served g c =
+pub returns-in-Lost-clause-served : goal.returns-in-Lost-clause-served
+returns-in-Lost-clause-served g c =
+    let tell = telling g.L.Source.left g.L.Sink.taken g.L.Source.read_faults g.L.Sink.write_faults in
+    let may = g.C.Clock.may c.args.shared.now.clock.now in
+    let i = c.loop.invariant in
+    let es = c.loop.place.entries in
+    let cut = rw c.in-Ok-Some.field-0-is at c.in-Ok-Some.ensures in
+    let told = rw c.in-Lost.is at c.serve_record-told.ensures.told in
+    let e : Entry = entry (record { class = c.args.class; link = c.loop.place.link; moment = c.moment_of-moment.result; message = c.in-Ok-Some.message }) told.0 in
+    told_over tell may c.args.class c.args.link c.over-in-Lost.result.end (record { class = c.args.class; link = c.loop.link; ending = Memory; records = c.loop.records + 1 }) c.over-in-Lost.result.place _ c.over-in-Lost.ensures.end c.over-in-Lost.ensures.link (c.over-in-Lost.ensures.place ∙ told.1)
+    (record {
+      bears = refl;
+      records = omega (arith, i.count, length_push es e);
+      few = grind (arith, nat_tests, c.if-records-eq-BUDGET.false, i.count, i.few, length_push es e);
+      events = all_push (IsOf c.args.class may) es e i.events (refl, c.moment_of-moment.ensures.may);
+      service = lost_reply (tell c.args.link) (tell c.loop.link) c.loop.incoming c.next_record.new.incoming es e i.going cut.1;
+    })
+
+pub returns-in-NoMemory-clause-served : goal.returns-in-NoMemory-clause-served
+returns-in-NoMemory-clause-served g c =
     let tell = telling g.L.Source.left g.L.Sink.taken g.L.Source.read_faults g.L.Sink.write_faults in
     let i = c.loop.invariant in
     let cut = rw c.in-Ok-Some.field-0-is at c.in-Ok-Some.ensures in
-    let same = rw c.in_default.is at c.serve_record-told.ensures.err in
-    told_over tell (g.C.Clock.may c.args.shared.now.clock.now) c.args.class c.args.link c.over-in_default.result.end (record { class = c.args.class; link = c.loop.link; ending = Memory; records = c.loop.records }) c.over-in_default.result.place c.loop.place c.over-in_default.ensures.end c.over-in_default.ensures.link (c.over-in_default.ensures.place ∙ same)
+    let same = rw c.in-NoMemory.is at c.serve_record-told.ensures.told in
+    told_over tell (g.C.Clock.may c.args.shared.now.clock.now) c.args.class c.args.link c.over-in-NoMemory.result.end (record { class = c.args.class; link = c.loop.link; ending = Memory; records = c.loop.records }) c.over-in-NoMemory.result.place c.loop.place c.over-in-NoMemory.ensures.end c.over-in-NoMemory.ensures.link (c.over-in-NoMemory.ensures.place ∙ same)
     (record {
       bears = refl;
       records = i.count;
@@ -92,8 +110,8 @@ returns-in-loop-clause-served g c =
     let i = c.loop.invariant in
     let es = c.loop.place.entries in
     let cut = rw c.in-Ok-Some.field-0-is at c.in-Ok-Some.ensures in
-    let told = rw c.in-Ok.is at c.serve_record-told.ensures.ok in
-    let e : Entry = entry (record { class = c.args.class; link = c.loop.place.link; moment = c.moment_of-moment.result; message = c.in-Ok-Some.message }) c.in-Ok.reply in
+    let told = rw c.in-Replied.is at c.serve_record-told.ensures.told in
+    let e : Entry = entry (record { class = c.args.class; link = c.loop.place.link; moment = c.moment_of-moment.result; message = c.in-Ok-Some.message }) c.in-Replied.reply in
     let wrote = c.in-Err-put_reply.ensures in
     told_over tell may c.args.class c.args.link c.over-in-loop.result.end (record { class = c.args.class; link = c.put_reply.new.link; ending = c.in-Err-put_reply.ending; records = c.loop.records + 1 }) c.over-in-loop.result.place _ c.over-in-loop.ensures.end c.over-in-loop.ensures.link (c.over-in-loop.ensures.place ∙ told)
     (record {
@@ -112,9 +130,9 @@ loop-preserved g c =
     let i = c.loop.invariant in
     let es = c.loop.place.entries in
     let cut = rw c.in-Ok-Some.field-0-is at c.in-Ok-Some.ensures in
-    let told = rw c.in-Ok.is at c.serve_record-told.ensures.ok in
-    let e : Entry = entry (record { class = c.args.class; link = c.loop.place.link; moment = c.moment_of-moment.result; message = c.in-Ok-Some.message }) c.in-Ok.reply in
-    let wrote = rw c.in_default-put_reply.is at c.put_reply.ensures.whole in
+    let told = rw c.in-Replied.is at c.serve_record-told.ensures.told in
+    let e : Entry = entry (record { class = c.args.class; link = c.loop.place.link; moment = c.moment_of-moment.result; message = c.in-Ok-Some.message }) c.in-Replied.reply in
+    let wrote = rw c.in_default.is at c.put_reply.ensures.whole in
     let longer = length_push es e in
     let going = serves (tell c.args.link) (tell c.loop.link) (tell c.put_reply.new.link) c.loop.incoming c.next_record.new.incoming es e i.going cut.1
     wrote c.put_reply.ensures.later c.put_reply.ensures.left c.put_reply.ensures.read_faults in

@@ -3,14 +3,12 @@ use Rattle.std.specs.Prelude.{All}
 use Rattle.lnfs_types.specs.Moments.{Fits}
 use Rattle.lnfs_types.specs.declared.event.Event.{Event}
 use Rattle.lnfs_history.specs.Entries.{of}
-use Rattle.lnfs_vault.specs.Kept.{Kept}
 use Rattle.lnfs_workers.specs.Transcripts.{entries_of}
 use Rattle.lnfs_workers.specs.Lines.{lines_in, lines_of}
 use Rattle.lnfs_workers.specs.Served.{telling}
 use Rattle.lnfs_workers.specs.Links.{IsServed, Waits}
 use Rattle.lnfs_workers.specs.Pairs.{EachAt}
 use Rattle.lnfs_workers.specs.declared.line.LinkEnd.{LinkEnd}
-use Rattle.lnfs_workers.proofs.Pairs.{if_ok_two, if_ok_three}
 use Rattle.lnfs_workers.proofs.Dealt.{dealt_all, each_of_all}
 use Rattle.lnfs_workers.proofs.Seats.{waits_empty, all_served}
 use Rattle.lnfs_workers.proofs.pool.serve_seated.Goals as goal
@@ -35,40 +33,34 @@ settle-requires-clause-hands g c =
 pub returns-clause-ends : goal.returns-clause-ends
 returns-clause-ends g c =
     let links = c.args.links.now.value.items in
-    let V = c.into_inner.result.vault in
+    let settled = c.in_ok-books.ensures in
+    let ends = c.in_ok-books.field-0.ends.items in
     let tell = telling g.L.Source.left g.L.Sink.taken g.L.Source.read_faults g.L.Sink.write_faults in
     let may = g.C.Clock.may c.args.clock.now in
-    let entries = λ (journal : List Event). entries_of g.X.ExtraRows.extra g.M.Mechanism.signing g.B.Room.policy journal in
-    let U = λ (v : Kept) (n : ℕ) (link : ℕ × g.row.L.Denot) (end : LinkEnd g.row.L.Denot). IsServed tell may link.0 link.1 end (of n (entries v.journal)) in
-    if_ok_three _ _ _ _
-    (λ ended same ends count.
-    subst (λ (v : Kept). EachAt (U v) 0 links ended.ends.items) (sym same)
-    (each_of_all (U V) 0 [] links ended.ends.items refl count ends))
-    c.settle.result c.settle.ensures.vault c.settle.ensures.ends c.settle.ensures.count
+    let U = λ (journal : List Event) (n : ℕ) (link : ℕ × g.row.L.Denot) (end : LinkEnd g.row.L.Denot). IsServed tell may link.0 link.1 end (of n (entries_of g.X.ExtraRows.extra g.M.Mechanism.signing g.B.Room.policy journal)) in
+    let journal : c.into_inner.result.books.journal ≡ c.from_parts-vault.result.journal = ap (λ b. b.journal) (sym settled.books) ∙ sym c.from_parts-vault.ensures.journal in
+    subst (λ (j : List Event). EachAt (U j) 0 links ends) journal
+    (each_of_all (U c.into_inner.result.books.journal) 0 [] links ends refl settled.count settled.ends)
 
 pub returns-clause-policy : goal.returns-clause-policy
-returns-clause-policy g c =
-    if_ok_two _ _ _ (λ ended same _. ap (λ (v : Kept). v.policy) same ∙ c.into_inner.result.site) c.settle.result c.settle.ensures.vault c.settle.ensures.vault
+returns-clause-policy g c = c.from_parts-vault.ensures.policy ∙ c.requires.site
 
 pub returns-clause-others : goal.returns-clause-others
-returns-clause-others g c =
-    let extra = g.X.ExtraRows.extra in
-    let signing = g.M.Mechanism.signing in
-    if_ok_two _ _ _
-    (λ ended same none link le. ap (λ (v : Kept). of link (entries_of extra signing g.B.Room.policy v.journal)) same ∙ none link le)
-    c.settle.result c.settle.ensures.vault c.settle.ensures.others
+returns-clause-others g c = λ link le.
+    let settled = c.in_ok-books.ensures in
+    let journal : c.into_inner.result.books.journal ≡ c.from_parts-vault.result.journal = ap (λ b. b.journal) (sym settled.books) ∙ sym c.from_parts-vault.ensures.journal in
+    ap (λ (j : List Event). of link (entries_of g.X.ExtraRows.extra g.M.Mechanism.signing g.B.Room.policy j)) (sym journal) ∙ settled.others link le
 
 pub returns-clause-lines : goal.returns-clause-lines
 returns-clause-lines g c =
-    let extra = g.X.ExtraRows.extra in
-    let signing = g.M.Mechanism.signing in
-    if_ok_two _ _ _
-    (λ ended same lines.
-    ap (λ l. lines_in l.items) lines
+    let settled = c.in_ok-books.ensures in
+    let journal : c.into_inner.result.books.journal ≡ c.from_parts-vault.result.journal = ap (λ b. b.journal) (sym settled.books) ∙ sym c.from_parts-vault.ensures.journal in
+    ap (λ l. lines_in l.items) settled.lines
     ∙ c.into_inner.result.said
-    ∙ ap (λ (v : Kept). lines_of extra signing g.B.Room.policy v.journal) (sym same))
-    c.settle.result c.settle.ensures.vault c.settle.ensures.lines
+    ∙ ap (λ (j : List Event). lines_of g.X.ExtraRows.extra g.M.Mechanism.signing g.B.Room.policy j) journal
 
 pub returns-clause-fits : goal.returns-clause-fits
 returns-clause-fits g c =
-    if_ok_two _ _ _ (λ ended same fits. subst (λ (v : Kept). All Fits v.journal) (sym same) fits) c.settle.result c.settle.ensures.vault c.settle.ensures.fits
+    let settled = c.in_ok-books.ensures in
+    let journal : c.into_inner.result.books.journal ≡ c.from_parts-vault.result.journal = ap (λ b. b.journal) (sym settled.books) ∙ sym c.from_parts-vault.ensures.journal in
+    subst (λ (j : List Event). All Fits j) journal settled.fits
