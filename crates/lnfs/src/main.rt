@@ -6,7 +6,7 @@
 
 ghost use Rattle.std.specs.Prelude.{◌≡◌, IfOk, OnErr};
 ghost use Rattle.std.specs.Process.{exit_status};
-ghost use Rattle.lnfs_program.specs.Ending.{number_of};
+ghost use Rattle.lnfs_stage.specs.Ending.{number_of};
 
 use lnfs_outside::{DiskFiles, StdClock, StdSink, TcpNet};
 use lnfs_program::Status;

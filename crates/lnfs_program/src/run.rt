@@ -1,127 +1,83 @@
 //! The top call.
-ghost use Rattle.std.specs.Prelude.{◌≡◌, ◌≤◌, ◌<◌, ◌^◌, [], IfOk, IfSome, IsSome, OnOk};
-ghost use Rattle.lnfs_program.specs.Ending.{told_by};
-ghost use Rattle.lnfs_program.specs.Handed.{dealings};
-ghost use Rattle.lnfs_program.specs.Idle.{IsIdle, IsUnread};
-ghost use Rattle.lnfs_program.specs.Runs.{Judges, Runs, Gives, HasReason, NoneFell, status_of};
-ghost use Rattle.lnfs_program.specs.Streams.{HandsOn, counts, streams};
-ghost use Rattle.lnfs_program.specs.Words.{form_of, texts};
+ghost use Rattle.std.specs.Prelude.{◌≡◌, ◌≤◌, ◌<◌, ◌^◌, [], IfSome};
+ghost use Rattle.lnfs_stage.specs.Ending.{status_of, told_by};
+ghost use Rattle.lnfs_stage.specs.Seen.{HandsOn, Stays};
+ghost use Rattle.lnfs_stage.specs.Does.{HandedOn};
+ghost use Rattle.lnfs_commands.specs.Runs.{IsUnread};
+ghost use Rattle.lnfs_commands.specs.Words.{form_of, texts};
+ghost use Rattle.lnfs_service.specs.Handed.{dealings};
+ghost use Rattle.lnfs_program.specs.Idle.{IsIdle};
+ghost use Rattle.lnfs_program.specs.Runs.{HasReason, NoneFell, Runs, RunsAsked, counts, streams};
 
-use crate::offer::offer_under;
-use crate::status::{Status, Stop};
-use crate::streams::{hand_on_both, put_line, show};
-use crate::under::under;
-use crate::words::{Command, command_of, help, version};
+use lnfs_commands::run_alone;
 use lnfs_format::Codecs;
 use lnfs_outside::{Clock, Files, Net, Sink};
+use lnfs_service::run_served;
+use lnfs_stage::{Borrowed, Outside, Status, Stop};
 use std::alloc::Global;
 use std::sync::Wait;
 use std::thread::Threads;
 
-/// Does what the words say, all but the ending's line.
-fn judge<F: Files, K: Sink, A: Sink, N: Net, C: Clock + Sync, R: Threads + Wait + Sync>(
+/// Does what the words say, alone or by a service.
+fn run_asked<O: Outside, N: Net, C: Clock + Sync, R: Threads + Wait + Sync>(
     rt: &R,
     alloc: Global,
     words: &[String],
-    files: &mut F,
-    out: &mut K,
-    audit: &mut A,
+    codecs: &Codecs,
+    outside: &mut O,
     net: &mut N,
     clock: &C,
-    codecs: &Codecs,
-) -> Result<Status, Stop>
+) -> Result<(), Stop>
 where
     N::L: Send,
-    ensures judges { Judges (F.content files.old) (C.may clock.now) (form_of (texts words.now))
-        result (streams (K.taken out.old) (A.taken audit.old))
-        (streams (K.taken out.new) (A.taken audit.new))
+    ensures runs { RunsAsked (C.may clock.now) result (form_of (texts words.now))
+        (O.seen outside.old) (O.seen outside.new) (N.faults net.old) (N.faults net.new)
         (dealings (N.dealt net.old) (N.dealt net.new) (N.backs net.old) (N.backs net.new)) }
+    ensures handed { HandedOn result (O.seen outside.old) (O.seen outside.new) }
     ensures idle { IsIdle (form_of (texts words.now)) (status_of result) net.old net.new }
-    ensures unread { IsUnread (form_of (texts words.now)) files.old files.new }
-    ensures content { F.content files.new ≡ F.content files.old }
-    ensures cause { Gives result (F.faults files.old) (F.faults files.new) (N.faults net.old)
-        (N.faults net.new) (counts (K.write_faults out.old) (A.write_faults audit.old))
-        (counts (K.write_faults out.new) (A.write_faults audit.new)) }
+    ensures unread { IsUnread (form_of (texts words.now)) (O.shelf outside.old)
+        (O.shelf outside.new) }
 {
-    match command_of(alloc, words)? {
-        None => Ok(Status::Usage),
-        Some(Command::Help) => show(out, help().as_bytes()),
-        Some(Command::Version) => show(out, version().as_bytes()),
-        Some(Command::Under { policy, task }) => {
-            under(alloc, codecs, policy, &task, files, out, audit)
-        }
-        Some(Command::Serve { policy, team }) => offer_under(
-            rt, alloc, codecs, policy, &team, files, out, audit, net, clock,
-        ),
+    match run_alone(alloc, words, codecs, outside) {
+        Err(stop) => Err(stop),
+        Ok(None) => Ok(()),
+        Ok(Some(service)) => run_served(rt, alloc, &service, codecs, outside, net, clock),
     }
 }
 
-/// The same with the ending's line.
-fn tell<F: Files, K: Sink, A: Sink, N: Net, C: Clock + Sync, R: Threads + Wait + Sync>(
+/// The same, and its status.
+fn run_in<O: Outside, N: Net, C: Clock + Sync, R: Threads + Wait + Sync>(
     rt: &R,
     alloc: Global,
     words: &[String],
-    files: &mut F,
-    out: &mut K,
-    audit: &mut A,
+    codecs: &Codecs,
+    outside: &mut O,
     net: &mut N,
     clock: &C,
-    codecs: &Codecs,
-) -> Result<Status, Stop>
+) -> Status
 where
     N::L: Send,
-    ensures runs { Runs (F.content files.old) (C.may clock.now) (form_of (texts words.now))
-        (status_of result) (streams (K.taken out.old) (A.taken audit.old))
-        (streams (K.taken out.new) (A.taken audit.new))
+    ensures runs { Runs (O.seen outside.old).content (C.may clock.now) (form_of (texts words.now))
+        result (streams (O.seen outside.old).out.taken (O.seen outside.old).audit.taken)
+        (streams (O.seen outside.new).out.taken (O.seen outside.new).audit.taken)
         (dealings (N.dealt net.old) (N.dealt net.new) (N.backs net.old) (N.backs net.new)) }
-    ensures told { IfOk result (λ status. IsSome (told_by status)) }
-    ensures idle { IsIdle (form_of (texts words.now)) (status_of result) net.old net.new }
-    ensures unread { IsUnread (form_of (texts words.now)) files.old files.new }
-    ensures content { F.content files.new ≡ F.content files.old }
-    ensures cause { Gives result (F.faults files.old) (F.faults files.new) (N.faults net.old)
-        (N.faults net.new) (counts (K.write_faults out.old) (A.write_faults audit.old))
-        (counts (K.write_faults out.new) (A.write_faults audit.new)) }
+    ensures reason { HasReason result (O.seen outside.old).faults (O.seen outside.new).faults
+        (N.faults net.old) (N.faults net.new)
+        (counts (O.seen outside.old).out.faults (O.seen outside.old).audit.faults)
+        (counts (O.seen outside.new).out.faults (O.seen outside.new).audit.faults) }
+    ensures handed { IfSome (told_by result) (λ _. ((O.seen outside.new).out.waiting ≡ [])
+        × ((O.seen outside.new).audit.waiting ≡ [])) }
+    ensures rests { (HandsOn (O.seen outside.new).out.waiting (O.seen outside.old).out.faults
+        (O.seen outside.new).out.faults)
+        × (HandsOn (O.seen outside.new).audit.waiting (O.seen outside.old).audit.faults
+        (O.seen outside.new).audit.faults) }
+    ensures idle { IsIdle (form_of (texts words.now)) result net.old net.new }
+    ensures unread { IsUnread (form_of (texts words.now)) (O.shelf outside.old)
+        (O.shelf outside.new) }
+    ensures stays { Stays (O.seen outside.old) (O.seen outside.new) }
+    ensures net { N.faults net.old < 2 ^ 64 → N.faults net.old ≤ N.faults net.new }
 {
-    let status = judge(rt, alloc, words, files, out, audit, net, clock, codecs)?;
-    let line = status.line(alloc)?;
-    put_line(out, audit, line.as_bytes())?;
-    Ok(status)
-}
-
-/// The same, and hands on all that the streams took, however it ends.
-fn play<F: Files, K: Sink, A: Sink, N: Net, C: Clock + Sync, R: Threads + Wait + Sync>(
-    rt: &R,
-    alloc: Global,
-    words: &[String],
-    files: &mut F,
-    out: &mut K,
-    audit: &mut A,
-    net: &mut N,
-    clock: &C,
-    codecs: &Codecs,
-) -> Result<Status, Stop>
-where
-    N::L: Send,
-    ensures runs { Runs (F.content files.old) (C.may clock.now) (form_of (texts words.now))
-        (status_of result) (streams (K.taken out.old) (A.taken audit.old))
-        (streams (K.taken out.new) (A.taken audit.new))
-        (dealings (N.dealt net.old) (N.dealt net.new) (N.backs net.old) (N.backs net.new)) }
-    ensures told { IfOk result (λ status. IsSome (told_by status)) }
-    ensures handed { OnOk result ((K.waiting out.new ≡ []) × (A.waiting audit.new ≡ [])) }
-    ensures rests { (HandsOn (K.waiting out.new) (K.write_faults out.old) (K.write_faults out.new))
-        × (HandsOn (A.waiting audit.new) (A.write_faults audit.old) (A.write_faults audit.new)) }
-    ensures idle { IsIdle (form_of (texts words.now)) (status_of result) net.old net.new }
-    ensures unread { IsUnread (form_of (texts words.now)) files.old files.new }
-    ensures content { F.content files.new ≡ F.content files.old }
-    ensures cause { Gives result (F.faults files.old) (F.faults files.new) (N.faults net.old)
-        (N.faults net.new) (counts (K.write_faults out.old) (A.write_faults audit.old))
-        (counts (K.write_faults out.new) (A.write_faults audit.new)) }
-{
-    let told = tell(rt, alloc, words, files, out, audit, net, clock, codecs);
-    let handed = hand_on_both(out, audit);
-    let status = told?;
-    handed?;
-    Ok(status)
+    Status::of(run_asked(rt, alloc, words, codecs, outside, net, clock))
 }
 
 /// Does what the words behind the program's name say: reads the files that they name, hands each frame and each text to `out`
@@ -167,11 +123,6 @@ where
     ensures net { N.faults net.old < 2 ^ 64 → N.faults net.old ≤ N.faults net.new }
     ensures content { F.content files.new ≡ F.content files.old }
 {
-    match play(rt, alloc, words, files, out, audit, net, clock, &codecs) {
-        Ok(status) => status,
-        Err(Stop::ReadFault) => Status::ReadFault,
-        Err(Stop::WriteFault) => Status::WriteFault,
-        Err(Stop::Memory) => Status::Memory,
-        Err(Stop::NetFault) => Status::NetFault,
-    }
+    let mut outside = Borrowed { files, out, audit };
+    run_in(rt, alloc, words, &codecs, &mut outside, net, clock)
 }

@@ -2,18 +2,19 @@
 ghost use Rattle.std.specs.Prelude.{◌≡◌, ◌≤◌, ◌<◌, ◌^◌, [], IfOk, IfSome, OnErr};
 ghost use Rattle.std.specs.Option.{option_map};
 ghost use Rattle.lnfs_format.specs.Kinds.{reads, writes};
-ghost use Rattle.lnfs_program.specs.Ending.{told_by};
-ghost use Rattle.lnfs_program.specs.Handed.{dealings};
-ghost use Rattle.lnfs_program.specs.Idle.{IsIdle, IsUnread};
-ghost use Rattle.lnfs_program.specs.Runs.{HasReason, NoneFell, Runs};
-ghost use Rattle.lnfs_program.specs.Streams.{HandsOn, counts, streams};
-ghost use Rattle.lnfs_program.specs.Words.{form_of, texts};
+ghost use Rattle.lnfs_stage.specs.Ending.{told_by};
+ghost use Rattle.lnfs_stage.specs.Seen.{HandsOn};
+ghost use Rattle.lnfs_commands.specs.Runs.{IsUnread};
+ghost use Rattle.lnfs_commands.specs.Words.{form_of, texts};
+ghost use Rattle.lnfs_service.specs.Handed.{dealings};
+ghost use Rattle.lnfs_program.specs.Idle.{IsIdle};
+ghost use Rattle.lnfs_program.specs.Runs.{HasReason, NoneFell, Runs, counts, streams};
 
 use crate::run::run;
-use crate::status::Status;
 use lnfs_calipso::Label;
 use lnfs_format::{Codec, Codecs, Kind, read_kind, write_kind};
 use lnfs_outside::{Clock, Files, Net, Sink};
+use lnfs_stage::Status;
 use std::alloc::{AllocError, Global};
 use std::sync::Wait;
 use std::thread::Threads;

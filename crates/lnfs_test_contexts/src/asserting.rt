@@ -8,10 +8,11 @@
 //! In a credential stand its length, the version, the gss_proc (0 DATA, 3 DESTROY, 5 CREATE), the sequence number, the
 //! service and the handle. The policy has one parent, 7, which may assert up to level 3, that is any level.
 use crate::codecs::codecs_of;
+use lnfs_commands::replay::replay;
 use lnfs_gss3::TestMechanism;
 use lnfs_outside::{CalmFiles, Files, MemSink};
 use lnfs_policy::read_policy;
-use lnfs_program::replay::replay;
+use lnfs_stage::{Status, World};
 use lnfs_test_support::flaw::Flaw;
 use lnfs_test_support::records::read_row;
 use lnfs_test_support::rows::rows_of;
@@ -147,19 +148,18 @@ fn replay_under(
     let policy = read.ok().expect(rt, "a policy");
     let mut files = CalmFiles::new(vec![in alloc; file(alloc, "t", traffic)?]?);
     assert_eq!(rt; files.open("t"), Ok(true));
-    let mut out = MemSink::new(alloc, &[])?;
-    let mut audit = MemSink::new(alloc, &[])?;
-    let told = replay(
-        alloc,
-        &codecs,
-        TestMechanism,
-        policy,
-        &mut files,
-        &mut out,
-        &mut audit,
-    );
-    let status = told.ok().expect(rt, "a status");
-    Ok((status.number(), out, audit))
+    let mut outside = World {
+        files,
+        out: MemSink::new(alloc, &[])?,
+        audit: MemSink::new(alloc, &[])?,
+    };
+    let ended = replay(alloc, &codecs, TestMechanism, policy, &mut outside);
+    let World {
+        files: _,
+        out,
+        audit,
+    } = outside;
+    Ok((Status::of(ended).number(), out, audit))
 }
 
 /// Plays what a row has recorded, under a policy.

@@ -1,0 +1,47 @@
+-- A run that waits for nobody.
+use Rattle.std.specs.Prelude.{◌≡◌, [], Result, Ok, Err}
+use Rattle.std.specs.declared.option.Option.{Option}
+use Rattle.std.specs.declared.option.Option.TheVariants.{Some, None}
+use Rattle.lnfs_stage.specs.declared.stop.Stop.{Stop}
+use Rattle.lnfs_stage.specs.declared.stop.Stop.TheVariants.{Memory}
+use Rattle.lnfs_stage.specs.Seen.{Seen}
+use Rattle.lnfs_stage.specs.Due.{written, told}
+use Rattle.lnfs_stage.specs.Does.{Does, HandedOn}
+use Rattle.lnfs_stage.specs.Contents.{Follows}
+use Rattle.lnfs_commands.specs.declared.command.Service.{Service}
+use Rattle.lnfs_commands.specs.Commands.{files_of, due}
+use Rattle.lnfs_commands.specs.Words.{Form, under, Asked, alone, serve}
+
+-- it did what is due for the form of its words, with the line that tells the ending, and handed it on
+pub record Runs {T : Type 0} (result : Result T Stop) (form : Option Form) (before after : Seen) : Type 0 where
+  pub follows : Follows result before after (files_of form) (λ files. told (due form files))
+  pub handed : HandedOn result before after
+
+-- there was no memory to begin
+pub record IsShort {T : Type 0} (result : Result T Stop) (before after : Seen) : Type 0 where
+  pub memory : result ≡ Err Memory
+  pub does : Does result before after (written [])
+  pub handed : HandedOn result before after
+
+-- what was done without a service
+abbrev pub RunsQuietly : {T : Type 0} → Result T Stop → Option Asked → Seen → Seen → Type 0
+RunsQuietly result None before after = Runs result None before after
+RunsQuietly result (Some (alone form)) before after = Runs result (Some form) before after
+RunsQuietly result (Some (serve policy links workers)) before after = IsShort result before after
+
+-- all was done, unless a service is asked for: then nothing was
+abbrev pub RunsAlone : Result (Option Service) Stop → Option Asked → Seen → Seen → Type 0
+RunsAlone (Ok (Some service)) asked before after = (asked ≡ Some (serve service.policy.now service.team.links.items service.team.workers)) × (after ≡ before)
+RunsAlone (Ok None) asked before after = RunsQuietly {T = Unit {0}} (Ok tt) asked before after
+RunsAlone (Err stop) asked before after = RunsQuietly {T = Unit {0}} (Err stop) asked before after
+
+-- the files of a form; where it asks for no task none was opened or read
+abbrev pub IsUntouched : {F : Type 0} → Option Form → (files files' : F) → Type 0
+IsUntouched (Some (under policy task)) files files' = Unit {0}
+IsUntouched form files files' = files' ≡ files
+
+-- the same of a run, and of a service, which reads the policy
+abbrev pub IsUnread : {F : Type 0} → Option Asked → (files files' : F) → Type 0
+IsUnread None files files' = files' ≡ files
+IsUnread (Some (alone form)) files files' = IsUntouched (Some form) files files'
+IsUnread (Some (serve policy links workers)) files files' = Unit {0}

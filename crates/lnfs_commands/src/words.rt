@@ -1,0 +1,248 @@
+//! The forms of the command line.
+ghost use Rattle.std.specs.Prelude.{◌≡◌, ◌≤◌, ◌<◌, ◌∷◌, [], IfOk, IfSome, length};
+ghost use Rattle.std.specs.Option.{option_map};
+ghost use Rattle.lnfs_commands.specs.Words.{form_of, texts, asked, pair_in, bytes_in, seed_in, count_in, classes_in, workers_in, translation, generation, service, help_text, version_text};
+
+use crate::command::{Asked, Command, Service, Task};
+use crate::team::Team;
+use lnfs_map::Pair;
+use lnfs_policy::MAX_CLASS;
+use lnfs_words::{Parts, number, number_up_to};
+use std::alloc::{AllocError, Global};
+
+/// The longest word that spells bytes, in digits.
+const MAX_HEX: usize = 2048;
+
+/// The most events that are generated.
+const MOST_EVENTS: u64 = 100_000;
+
+/// The most links that are served.
+const MOST_LINKS: usize = 64;
+
+/// The most workers that serve them.
+const MOST_WORKERS: u64 = 16;
+
+const VERSION: &str = "lnfs 0.1.0\n";
+
+const HELP: &str = "usage: lnfs check POLICY\n\
+usage: lnfs translate POLICY LFS PI HEX LFS PI\n\
+usage: lnfs replay POLICY TRAFFIC\n\
+usage: lnfs generate POLICY SEED N\n\
+usage: lnfs serve POLICY LINKS WORKERS\n\
+usage: lnfs --help\n\
+usage: lnfs --version\n\
+\n\
+check shows the lines of POLICY, without comments and empty lines.\n\
+\n\
+translate shows in hex, with a newline, the bytes that spell a label in the second\n\
+format, by its number LFS and its policy identifier PI, where the bytes HEX spell\n\
+that label in the first.\n\
+\n\
+replay serves the events of the recording TRAFFIC, one after another, in a new\n\
+server under POLICY. Standard output gets the reply to each, as a record with its\n\
+fragment head (RFC 5531). Standard error gets one audit line for each refusal,\n\
+EVENT PLACE NUMBER GATE STATUS.\n\
+\n\
+generate serves N events, from 1 to 100000, which guests of POLICY might send, drawn by\n\
+SEED, in a new server. It shows how many events and replies there were, how many were\n\
+refused, and the SHA-256 of all replies with their fragment heads.\n\
+\n\
+serve accepts one link for each class of LINKS, in their order, and then serves them all\n\
+in a new server under POLICY, by WORKERS threads, from 1 to 16. LINKS are 1 to 64 numbers\n\
+from 0 to 7 with single commas; those of class C come by port 20490 + C of the loopback.\n\
+When all links have ended, standard output gets the recording of their requests, in the\n\
+order in which these were served. Standard error gets the audit lines, and then one line\n\
+for each link, link I ENDING RECORDS.\n\
+\n\
+Standard error gets a line that begins with 'fault' where the run ends with status\n\
+2, 3, 4, 9 or 10.\n\
+\n\
+exit status:\n\
+0 all was written\n\
+2 the words are no form of the above\n\
+3 POLICY is refused\n\
+4 TRAFFIC is damaged; the events before the damage were served\n\
+5 a file could not be read\n\
+6 a stream could not be written\n\
+7 there was no memory\n\
+8 the network failed\n\
+9 there is no such file\n\
+10 the label has no translation\n";
+
+/// What the words ask for; none where they are no form of the command line.
+pub fn command_of<'a>(alloc: Global, words: &'a [String]) -> Result<Option<Asked<'a>>, AllocError>
+    ensures { IfOk result (λ found. option_map asked found ≡ form_of (texts words.now)) }
+{
+    match words {
+        [word] => Ok(option_of(word)),
+        [word, policy] if word.as_str() == "check" => Ok(Some(Asked::Alone(Command::Under {
+            policy: policy.as_str(),
+            task: Task::Check,
+        }))),
+        [word, policy, traffic] if word.as_str() == "replay" => Ok(Some(Asked::Alone(
+            Command::Under {
+                policy: policy.as_str(),
+                task: Task::Replay {
+                    traffic: traffic.as_str(),
+                },
+            },
+        ))),
+        [word, policy, seed, count] if word.as_str() == "generate" => {
+            Ok(generation_of(policy, seed, count))
+        }
+        [word, policy, links, workers] if word.as_str() == "serve" => {
+            service_of(alloc, policy, links, workers)
+        }
+        [word, policy, lfs, pi, hex, to_lfs, to_pi] if word.as_str() == "translate" => {
+            translation_of(alloc, policy, pair_of(lfs, pi), pair_of(to_lfs, to_pi), hex)
+        }
+        _ => Ok(None),
+    }
+}
+
+/// A translation under the policy of a name, where the words for its formats and its bytes spell some.
+fn translation_of<'a>(
+    alloc: Global,
+    policy: &'a str,
+    source: Option<Pair>,
+    target: Option<Pair>,
+    hex: &str,
+) -> Result<Option<Asked<'a>>, AllocError>
+    ensures { IfOk result (λ found. option_map asked found
+        ≡ translation policy.now source target (bytes_in hex.now)) }
+{
+    let Some(source) = source else {
+        return Ok(None);
+    };
+    let Some(target) = target else {
+        return Ok(None);
+    };
+    let Some(bytes) = bytes_of(alloc, hex)? else {
+        return Ok(None);
+    };
+    Ok(Some(Asked::Alone(Command::Under {
+        policy,
+        task: Task::Translate {
+            source,
+            target,
+            bytes,
+        },
+    })))
+}
+
+/// Generated events under the policy of a name, where the words spell a seed and how many there are.
+fn generation_of<'a>(policy: &'a str, seed: &str, count: &str) -> Option<Asked<'a>>
+    ensures { option_map asked result ≡ generation policy.now (seed_in seed.now)
+        (count_in count.now) }
+{
+    let seed = number_up_to(u64::MAX, seed.as_bytes())?;
+    let count = number_up_to(MOST_EVENTS, count.as_bytes())?;
+    if count == 0 {
+        return None;
+    }
+    Some(Asked::Alone(Command::Under {
+        policy,
+        task: Task::Generate {
+            seed,
+            count: count as u32,
+        },
+    }))
+}
+
+/// The classes that a word lists with single commas, from 1 to 64.
+fn classes_of(alloc: Global, word: &str) -> Result<Option<Vec<u32>>, AllocError>
+    ensures spelled { IfOk result (λ classes. option_map (λ found. found.items) classes
+        ≡ classes_in word.now) }
+    ensures few { IfOk result (λ found. IfSome found (λ classes. length classes.items ≤ 64)) }
+{
+    let mut parts = Parts::new(word.as_bytes(), b',');
+    let mut classes = Vec::new(alloc);
+    while let Some(part) = parts.next() {
+        let Some(class) = number_up_to(MAX_CLASS as u64, part) else {
+            return Ok(None);
+        };
+        classes.push(class as u32)?;
+    }
+    if classes.len() > MOST_LINKS {
+        return Ok(None);
+    }
+    Ok(Some(classes))
+}
+
+/// How many workers a word says, from 1 to 16.
+fn workers_of(word: &str) -> Option<u32>
+    ensures spelled { result ≡ workers_in word.now }
+    ensures few { IfSome result (λ workers. (0 < workers) × (workers ≤ 16)) }
+{
+    let workers = number_up_to(MOST_WORKERS, word.as_bytes())?;
+    if workers == 0 {
+        return None;
+    }
+    Some(workers as u32)
+}
+
+/// A service under the policy of a name, where the words list classes and say how many workers there are.
+fn service_of<'a>(
+    alloc: Global,
+    policy: &'a str,
+    links: &str,
+    workers: &str,
+) -> Result<Option<Asked<'a>>, AllocError>
+    ensures { IfOk result (λ found. option_map asked found
+        ≡ service policy.now (classes_in links.now) (workers_in workers.now)) }
+{
+    let Some(links) = classes_of(alloc, links)? else {
+        return Ok(None);
+    };
+    let Some(workers) = workers_of(workers) else {
+        return Ok(None);
+    };
+    Ok(Some(Asked::Serve(Service {
+        policy,
+        team: Team { links, workers },
+    })))
+}
+
+/// The format that two words name.
+fn pair_of(lfs: &str, pi: &str) -> Option<Pair>
+    ensures { result ≡ pair_in lfs.now pi.now }
+{
+    let lfs = number(lfs.as_bytes())?;
+    let pi = number(pi.as_bytes())?;
+    Some(Pair { lfs, pi })
+}
+
+/// The bytes that a word spells in hex, where they are at most 1,024.
+fn bytes_of(alloc: Global, hex: &str) -> Result<Option<Vec<u8>>, AllocError>
+    ensures { IfOk result (λ bytes. option_map (λ found. found.items) bytes ≡ bytes_in hex.now) }
+{
+    if hex.len() > MAX_HEX {
+        return Ok(None);
+    }
+    lnfs_words::bytes_of(alloc, hex.as_bytes())
+}
+
+/// The text of `--help`.
+pub fn help() -> &'static str
+    ensures { result.now ≡ help_text }
+{
+    HELP
+}
+
+/// The text of `--version`.
+pub fn version() -> &'static str
+    ensures { result.now ≡ version_text }
+{
+    VERSION
+}
+
+/// What a word asks for that stands alone.
+fn option_of<'a>(word: &str) -> Option<Asked<'a>>
+    ensures { option_map asked result ≡ form_of (word.now ∷ []) }
+{
+    match word {
+        "--help" => Some(Asked::Alone(Command::Help)),
+        "--version" => Some(Asked::Alone(Command::Version)),
+        _ => None,
+    }
+}

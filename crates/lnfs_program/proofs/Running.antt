@@ -1,0 +1,119 @@
+-- A run, from its parts.
+use Rattle.std.proofs.Common.{◌≡◌, ℕ, List, [], ◌∷◌, refl, ◌∙◌, arith, inl}
+use Rattle.std.specs.Prelude.{Result, Ok, Err, IfSome, IfErr}
+use Rattle.std.specs.declared.option.Option.{Option}
+use Rattle.std.specs.declared.option.Option.TheVariants.{Some, None}
+use Rattle.lnfs_types.specs.declared.event.Moment.{Moment}
+use Rattle.lnfs_outside.specs.Nets.{Deal, Back}
+use Rattle.lnfs_stage.specs.declared.ending.Ending.{Ending}
+use Rattle.lnfs_stage.specs.declared.stop.Stop.{Stop}
+use Rattle.lnfs_stage.specs.declared.stop.Stop.TheVariants as stops
+use Rattle.lnfs_stage.specs.Seen.{Seen}
+use Rattle.lnfs_stage.specs.Writes.{Write, Takes}
+use Rattle.lnfs_stage.specs.Ending.{status_of}
+use Rattle.lnfs_stage.specs.Due.{Due, written, line_for, told}
+use Rattle.lnfs_stage.specs.Does.{Does, IsExcused, HandedOn, ended}
+use Rattle.lnfs_stage.proofs.Writing.{front_first}
+use Rattle.lnfs_stage.proofs.Staying.{no_rise}
+use Rattle.lnfs_stage.proofs.Doing.{beside_net}
+use Rattle.lnfs_stage.proofs.Reading.{unread, unread_held}
+use Rattle.lnfs_commands.specs.Commands.{due}
+use Rattle.lnfs_commands.specs.Runs.{RunsQuietly}
+use Rattle.lnfs_commands.specs.Words.{Asked, alone, serve}
+use Rattle.lnfs_service.specs.Handed.{Dealings, dealings}
+use Rattle.lnfs_service.specs.Serves.{Offers, IsIdleBefore}
+use Rattle.lnfs_service.proofs.Dealing.{untouched, nothing}
+use Rattle.lnfs_service.proofs.Handing.{idle_same as idle_before}
+use Rattle.lnfs_program.specs.Runs.{Runs, RunsAsked, WithoutNet, HasReason, counts, streams, due_asked}
+use Rattle.lnfs_program.specs.Idle.{IsIdle}
+
+-- a call that isn't given the net doesn't say that it failed
+without_net : (result : Result (Unit {0}) Stop) (s t : Seen) → IfErr result (λ stop. IsExcused 0 0 stop s t) → WithoutNet (status_of result)
+without_net (Ok value) s t e = tt
+without_net (Err (stops.Ends ending)) s t e = tt
+without_net (Err stops.ReadFault) s t e = tt
+without_net (Err stops.WriteFault) s t e = tt
+without_net (Err stops.Memory) s t e = tt
+without_net (Err stops.NetFault) s t e = no_rise e
+
+module _ (may : Moment → Type 0) (result : Result (Unit {0}) Stop) (s t : Seen) (n : ℕ) (dealt : Option (List Deal)) (backs : Option (List Back)) where
+  -- there was no memory to begin a service
+  short_asked : (policy links : List ℕ) (workers : ℕ) → result ≡ Err stops.Memory → Does {T = Unit {0}} (Err stops.Memory) s t (written []) → RunsAsked may (Err stops.Memory) (Some (serve policy links workers)) s t n n (dealings dealt dealt backs backs)
+  short_asked policy links workers is p = record {
+    contents = unread s.content (policy ∷ []);
+    session = None;
+    held = unread_held s.content (policy ∷ []);
+    does = record { whole = tt; begun = front_first [] (told (due_asked (Some (serve policy links workers)) (unread s.content (policy ∷ [])) None)).writes p.begun; stays = p.stays; excused = tt };
+    links = untouched dealt backs (inl nothing);
+    later = omega arith;
+  }
+
+  -- a run without a service
+  pub quiet_asked : (asked : Option Asked) → RunsQuietly result asked s t → RunsAsked may result asked s t n n (dealings dealt dealt backs backs)
+  quiet_asked None p = record {
+    contents = p.follows.contents;
+    session = None;
+    held = p.follows.held;
+    does = beside_net n n p.follows.does;
+    links = untouched dealt backs (without_net result s t p.follows.does.excused, nothing);
+    later = omega arith;
+  }
+  quiet_asked (Some (alone form)) p = record {
+    contents = p.follows.contents;
+    session = None;
+    held = p.follows.held;
+    does = beside_net n n p.follows.does;
+    links = untouched dealt backs (without_net result s t p.follows.does.excused, nothing);
+    later = omega arith;
+  }
+  quiet_asked (Some (serve policy links workers)) p = rw p.memory (short_asked policy links workers p.memory (rw p.memory at p.does))
+
+  pub quiet_handed : (asked : Option Asked) → RunsQuietly result asked s t → HandedOn result s t
+  quiet_handed None p = p.handed
+  quiet_handed (Some (alone form)) p = p.handed
+  quiet_handed (Some (serve policy links workers)) p = p.handed
+
+-- a service that was asked for
+module _ {asked : Option Asked} {policy links : List ℕ} {workers : ℕ} (is : asked ≡ Some (serve policy links workers)) where
+  pub served_asked : {may : Moment → Type 0} {result : Result (Unit {0}) Stop} {s s' t : Seen} {n n' : ℕ} {d : Dealings} → s' ≡ s → Offers may policy links result s' t n n' d told → RunsAsked may result asked s t n n' d
+  served_asked same p = let q = rw same at p in rw is (record { contents = q.policy ∷ []; session = q.session; held = (q.held, tt); does = q.does; links = q.links; later = q.later })
+
+  pub served_idle : {N : Type 0} (result : Result (Unit {0}) Stop) (net net' : N) → IsIdleBefore (status_of result) net net' → IsIdle asked (status_of result) net net'
+  served_idle result net net' i = rw is i
+
+pub idle_same : {N : Type 0} (asked : Option Asked) (result : Result (Unit {0}) Stop) (net : N) → IsIdle asked (status_of result) net net
+idle_same None result net = refl
+idle_same (Some (alone form)) result net = refl
+idle_same (Some (serve policy links workers)) result net = idle_before net (status_of result)
+
+-- ---- told of the objects one by one
+
+told_ending : (writes : List Write) (o : Option Ending) → (line_for writes o).ending ≡ o
+told_ending writes None = refl
+told_ending writes (Some ending) = refl
+
+told_whole : (o : Option (Option Ending)) (s t s' t' : Seen) (due : Due) → IfSome o (λ e. (e ≡ (told due).ending) × Takes s t (told due).writes) → (Takes s t (told due).writes → Takes s' t' (told due).writes) → IfSome o (λ e. (e ≡ due.ending) × Takes s' t' (told due).writes)
+told_whole None s t s' t' due p f = tt
+told_whole (Some e) s t s' t' due p f = (p.0 ∙ told_ending due.writes due.ending, f p.1)
+
+as_streams : (s t : Seen) (writes : List Write) → Takes s t writes → Takes (streams s.out.taken s.audit.taken) (streams t.out.taken t.audit.taken) writes
+as_streams s t writes p = record { out_took = p.out_took; audit_took = p.audit_took }
+
+module _ {may : Moment → Type 0} {asked : Option Asked} {s t : Seen} {n n' : ℕ} {d : Dealings} where
+  pub runs_of : (result : Result (Unit {0}) Stop) → RunsAsked may result asked s t n n' d → Runs s.content may asked (status_of result) (streams s.out.taken s.audit.taken) (streams t.out.taken t.audit.taken) d
+  runs_of result p = let due : Due = due_asked asked p.contents p.session in record {
+    contents = p.contents;
+    session = p.session;
+    held = p.held;
+    told_all = told_whole (ended result) s t (streams s.out.taken s.audit.taken) (streams t.out.taken t.audit.taken) due p.does.whole (as_streams s t (told due).writes);
+    begun = record { whole = p.does.begun.whole; part = p.does.begun.part; takes = as_streams s t _ p.does.begun.takes };
+    links = p.links;
+  }
+
+  pub reason_of : (result : Result (Unit {0}) Stop) → RunsAsked may result asked s t n n' d → HasReason (status_of result) s.faults t.faults n n' (counts s.out.faults s.audit.faults) (counts t.out.faults t.audit.faults)
+  reason_of (Ok value) p = tt
+  reason_of (Err (stops.Ends ending)) p = tt
+  reason_of (Err stops.ReadFault) p = p.does.excused
+  reason_of (Err stops.WriteFault) p = p.does.excused
+  reason_of (Err stops.Memory) p = tt
+  reason_of (Err stops.NetFault) p = p.does.excused
