@@ -3,7 +3,7 @@
 use crate::codecs::codecs_of;
 use lnfs_gss3::TestMechanism;
 use lnfs_holder::Holds;
-use lnfs_policy::{Policy, read_policy, write_policy};
+use lnfs_policy::{read_policy, write_policy};
 use lnfs_test_support::clients::with_clients;
 use lnfs_test_support::flaw::{Flaw, demand, read_of};
 use lnfs_test_support::rows::{cells_of, counted_rows, frames_of, recording_of};
@@ -68,13 +68,20 @@ fn replies_to(rt: &impl Abort, alloc: Global, events: Vec<Event>) -> Result<Vec<
     Ok(frames)
 }
 
-/// The frames of the replies to events, by a core with HOLD, which has no journal and is told their numbers. It gives back the
-/// policy that it was made of.
+/// Whether a core gives back the policy that it was made of.
+fn gives_back(alloc: Global, core: Core<TestMechanism, Holds>) -> Result<bool, AllocError> {
+    let (policy, _) = core.into_parts();
+    let text = write_policy(alloc, &policy)?;
+    Ok(text.as_slice() == POLICY.as_bytes())
+}
+
+/// The frames of the replies to events, by a core with HOLD, which has no journal and is told their numbers; none where it
+/// doesn't give back its policy.
 fn replies_alone(
     rt: &impl Abort,
     alloc: Global,
     events: Vec<Event>,
-) -> Result<(Vec<u8>, Policy), AllocError> {
+) -> Result<Option<Vec<u8>>, AllocError> {
     let codecs = codecs_of(alloc)?;
     let read = read_policy(alloc, POLICY.as_bytes(), &codecs);
     let policy = read.ok().expect(rt, "a policy");
@@ -92,29 +99,31 @@ fn replies_alone(
             frames.extend_from_slice(&reply.into_frame())?;
         }
     }
-    let (policy, _) = core.into_parts();
-    Ok((frames, policy))
+    Ok(gives_back(alloc, core)?.then_some(frames))
 }
 
-/// Serves what each row of a table has recorded, by a vault and by a core, and compares the replies.
+/// Serves what a row has recorded by a vault and by a core, and compares the replies.
+fn check_row(rt: &impl Abort, alloc: Global, row: &str, whole: &str) -> Result<(), Flaw> {
+    let cells = cells_of(alloc, whole)?;
+    let [_, asked, told] = cells.as_slice() else {
+        return demand(alloc, false, "cells", row);
+    };
+    let traffic = read_of(alloc, recording_of(alloc, asked)?, row)?;
+    let due = read_of(alloc, frames_of(alloc, told)?, row)?;
+    let events = read_of(alloc, read_traffic(alloc, &traffic).ok(), row)?;
+    let replies = replies_to(rt, alloc, events)?;
+    demand(alloc, replies.as_slice() == due.as_slice(), "replies", row)?;
+    let events = read_of(alloc, read_traffic(alloc, &traffic).ok(), row)?;
+    let replies = read_of(alloc, replies_alone(rt, alloc, events)?, row)?;
+    demand(alloc, replies.as_slice() == due.as_slice(), "alone", row)
+}
+
+/// The same of each row of a table, which has so many.
 fn check_holds(rt: &impl Abort, alloc: Global, table: &str, count: usize) -> Result<(), Flaw> {
     for row in &counted_rows(alloc, table, count)? {
         let whole = read_of(alloc, opened(alloc, row)?, row)?;
         let whole = with_clients(alloc, &whole)?;
-        let cells = cells_of(alloc, &whole)?;
-        let [_, asked, told] = cells.as_slice() else {
-            return demand(alloc, false, "cells", row);
-        };
-        let traffic = read_of(alloc, recording_of(alloc, asked)?, row)?;
-        let due = read_of(alloc, frames_of(alloc, told)?, row)?;
-        let events = read_of(alloc, read_traffic(alloc, &traffic).ok(), row)?;
-        let replies = replies_to(rt, alloc, events)?;
-        demand(alloc, replies.as_slice() == due.as_slice(), "replies", row)?;
-        let events = read_of(alloc, read_traffic(alloc, &traffic).ok(), row)?;
-        let (replies, policy) = replies_alone(rt, alloc, events)?;
-        demand(alloc, replies.as_slice() == due.as_slice(), "alone", row)?;
-        let text = write_policy(alloc, &policy)?;
-        demand(alloc, text.as_slice() == POLICY.as_bytes(), "policy", row)?;
+        check_row(rt, alloc, row, &whole)?;
     }
     Ok(())
 }
