@@ -1,21 +1,63 @@
 //! The rows that are kept, each under its identifier.
+ghost use Rattle.std.proofs.Common.{rules};
+ghost use Rattle.std.specs.Cmp.Rules.{comparing};
+ghost use Rattle.std.specs.Ordering.{nat_cmp, ordering_then};
 
 use lnfs_arguments::Channel;
 use lnfs_types::Octets;
+use std::cmp::Ordering;
 
 /// The identifier of a client's record: the level that it was given in, and its number there.
-#[derive(Clone, Copy, Debug, PartialEq, Eq, PartialOrd, Ord)]
+#[derive(Clone, Copy, Debug, PartialEq, Eq, PartialOrd)]
 pub struct ClientRef {
     pub level: u32,
     pub number: u32,
 }
 
+// As a derive orders them, in one branch for each field: a look-up compares some ten keys.
+impl Ord for ClientRef {
+    ghost cmp = { λ a b. ordering_then (nat_cmp a.level b.level) (nat_cmp a.number b.number) };
+
+    ghost total = { Prim.search (comparing, rules) };
+
+    ghost matches_partial_cmp = { Prim.search (comparing, rules) };
+
+    ghost matches_eq = { Prim.search (comparing, rules) };
+
+    fn cmp(&self, other: &ClientRef) -> Ordering {
+        if self.level == other.level {
+            self.number.cmp(&other.number)
+        } else {
+            self.level.cmp(&other.level)
+        }
+    }
+}
+
 /// The identifier of a session: the level that it was given in, and its number there, which has eight
 /// bytes where it is sent.
-#[derive(Clone, Copy, Debug, PartialEq, Eq, PartialOrd, Ord)]
+#[derive(Clone, Copy, Debug, PartialEq, Eq, PartialOrd)]
 pub struct SessionRef {
     pub level: u32,
     pub number: u64,
+}
+
+// As a derive orders them, in one branch for each field.
+impl Ord for SessionRef {
+    ghost cmp = { λ a b. ordering_then (nat_cmp a.level b.level) (nat_cmp a.number b.number) };
+
+    ghost total = { Prim.search (comparing, rules) };
+
+    ghost matches_partial_cmp = { Prim.search (comparing, rules) };
+
+    ghost matches_eq = { Prim.search (comparing, rules) };
+
+    fn cmp(&self, other: &SessionRef) -> Ordering {
+        if self.level == other.level {
+            self.number.cmp(&other.number)
+        } else {
+            self.level.cmp(&other.level)
+        }
+    }
 }
 
 /// The arguments of a request that was accepted, and the answer that it got.
