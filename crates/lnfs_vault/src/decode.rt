@@ -83,6 +83,7 @@ fn begin<E: ExtraGrammar>(
 
 /// What a record of a class asks under a policy. The codecs read the labels that are asserted, the mechanism checks what is
 /// signed and signs the header, and the reader reads further operations.
+#[inline(always)]
 pub fn prepare<'p, 'a, E: ExtraGrammar, M: Mechanism>(
     alloc: Global,
     policy: &'p Policy,

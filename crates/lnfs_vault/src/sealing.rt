@@ -22,6 +22,7 @@ use std::alloc::{AllocError, Global};
 const SIGNED: usize = 8 + 3 + SIGNATURE;
 
 /// How the reply to a call is sealed: the header is signed here.
+#[inline(always)]
 pub fn sealing_of<'p, M: Mechanism>(
     alloc: Global,
     mechanism: &M,
@@ -105,6 +106,7 @@ pub fn begin_results(
 }
 
 /// The reply with the results in their buffer.
+#[inline(always)]
 fn end_results<M: Mechanism>(
     alloc: Global,
     mechanism: &M,
@@ -168,6 +170,7 @@ fn refusal(
 }
 
 /// Seals what a step says: the reply, where one is due.
+#[inline(always)]
 pub fn seal<M: Mechanism>(
     alloc: Global,
     mechanism: &M,

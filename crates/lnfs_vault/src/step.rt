@@ -273,6 +273,7 @@ fn answer<'p, X: Extra, M: Mechanism>(
 
 /// Makes the step of an event whose record was decoded. What it says borrows nothing from the event.
 #[tactic(auto, unfolding(lnfs_step::specs::Step::step_with))]
+#[inline(always)]
 pub fn make_step<'p, X: Extra, M: Mechanism>(
     alloc: Global,
     site: &Site<'_>,
