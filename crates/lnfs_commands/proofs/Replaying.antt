@@ -8,8 +8,9 @@ use Rattle.std.specs.declared.option.Option.TheVariants.{Some, None}
 use Rattle.lnfs_types.specs.declared.event.Event.{Event}
 use Rattle.lnfs_types.specs.Moments.{Fits}
 use Rattle.lnfs_policy.specs.Policy.{Policy}
+use Rattle.lnfs_operations.specs.Extra.{Extra}
 use Rattle.lnfs_gss3.specs.Mechanism.{Signing}
-use Rattle.lnfs_step.specs.Journal.{answer, audit_at}
+use Rattle.lnfs_step.specs.Journal.{answer_with}
 use Rattle.lnfs_xdr.specs.Reading.{read}
 use Rattle.lnfs_traffic.specs.Recording.{event}
 use Rattle.lnfs_traffic.specs.Parts.{Parts, parts_of, recorded, is_recording, place_of}
@@ -30,7 +31,7 @@ use Rattle.lnfs_stage.specs.Due.{Due, written, ends}
 use Rattle.lnfs_stage.specs.Does.{Does, DoesLeft, ReadsPiece}
 use Rattle.lnfs_stage.proofs.Doing.{does_nothing, does_end, does_short, does_first, does_then, as_value}
 use Rattle.lnfs_commands.specs.Commands.{replayed}
-use Rattle.lnfs_commands.specs.Events.{answer_writes, writes_after}
+use Rattle.lnfs_commands.specs.Events.{audit_with, answer_writes, writes_after}
 use Rattle.lnfs_commands.specs.Replays.{Feeds, ending_of}
 use Rattle.lnfs_commands.proofs.Events.{writes_join, writes_one}
 
@@ -76,13 +77,13 @@ last_fits fed events e (suc n) rest r =
     let g = given (events ++ e ∷ []) b.front rest fed b.recording b.parts in
     fits_in events e (parts_of rest).events (drop 8 fed) (g.events_are ∙ append_assoc events (e ∷ []) (parts_of rest).events)
 
--- ---- what was read so far, the events that it gave, and what was done of what they are due
+-- ---- what was read so far, the events that it gave behind a journal, and what was done of what they are due
 
-pub record Underway (m : Signing) (policy : Policy) (before now : Seen) (journal : List Event) (place : ℕ) (rest : List ℕ) : Type 0 where
+pub record Underway (X : Extra) (m : Signing) (policy : Policy) (before : List Event) (old now : Seen) (events : List Event) (place : ℕ) (rest : List ℕ) : Type 0 where
   pub fed : List ℕ
-  pub was_read : Consumes before.left now.left fed
-  pub reads : Reads fed journal place rest
-  pub did : Does {T = Unit {0}} (Ok tt) before now (written (writes_after (answer m policy) (audit_at m policy) [] journal))
+  pub was_read : Consumes old.left now.left fed
+  pub reads : Reads fed events place rest
+  pub did : Does {T = Unit {0}} (Ok tt) old now (written (writes_after (answer_with X m policy) (audit_with X m policy) before events))
 
 -- what is left is behind what was read
 behind_read : (left left' : Option (List ℕ)) (fed : List ℕ) → Consumes left left' fed → IfSome left (λ bytes. fed ++ unwrap_or left' [] ≡ bytes)
@@ -108,84 +109,84 @@ due_of ws o = record { writes = ws; ending = o }
 as_due : (ws ws' : List Write) (o o' : Option Ending) → ws ≡ ws' → o ≡ o' → due_of ws o ≡ due_of ws' o'
 as_due ws ws' o o' p q = λ i. record { writes = p i; ending = q i }
 
-module _ (m : Signing) (policy : Policy) where
+abbrev ending_in : List ℕ → Option Ending
+ending_in text = cond (is_recording text) None (Some (TrafficDamaged (place_of text)))
+
+module _ (X : Extra) (m : Signing) (policy : Policy) (before : List Event) where
   -- the writes of events, and those of one event behind others
   abbrev served : List Event → List Write
-  served events = writes_after (answer m policy) (audit_at m policy) [] events
+  served events = writes_after (answer_with X m policy) (audit_with X m policy) before events
 
   abbrev served_one : List Event → Event → List Write
-  served_one journal e = answer_writes (answer m policy journal e) (audit_at m policy journal e)
+  served_one events e = answer_writes (answer_with X m policy (before ++ events) e) (audit_with X m policy (before ++ events) e)
 
-  abbrev ending_in : List ℕ → Option Ending
-  ending_in text = cond (is_recording text) None (Some (TrafficDamaged (place_of text)))
+  served_more : (events : List Event) (e : Event) → served (events ++ e ∷ []) ≡ served events ++ served_one events e
+  served_more events e = writes_join (answer_with X m policy) (audit_with X m policy) before events (e ∷ []) ∙ ap (λ (ws : List Write). served events ++ ws) (writes_one (answer_with X m policy) (audit_with X m policy) (before ++ events) e)
 
-  served_more : (journal : List Event) (e : Event) → served (journal ++ e ∷ []) ≡ served journal ++ served_one journal e
-  served_more journal e = writes_join (answer m policy) (audit_at m policy) [] journal (e ∷ []) ∙ ap (λ (ws : List Write). served journal ++ ws) (writes_one (answer m policy) (audit_at m policy) journal e)
+  served_others : (events others bytes : List Event) → bytes ≡ events ++ others → served bytes ≡ served events ++ writes_after (answer_with X m policy) (audit_with X m policy) (before ++ events) others
+  served_others events others bytes e = ap served e ∙ writes_join (answer_with X m policy) (audit_with X m policy) before events others
 
-  served_others : (events others bytes : List Event) → bytes ≡ events ++ others → served bytes ≡ served events ++ writes_after (answer m policy) (audit_at m policy) events others
-  served_others events others bytes e = ap served e ∙ writes_join (answer m policy) (audit_at m policy) [] events others
-
-  pub begins_reading : (s : Seen) {journal : List Event} {place : ℕ} {rest : List ℕ} → journal ≡ [] → Reads [] [] place rest → Underway m policy s s journal place rest
+  pub begins_reading : (s : Seen) {place : ℕ} {rest : List ℕ} → Reads [] [] place rest → Underway X m policy before s s [] place rest
   unfolding writes_after
-  begins_reading s none r = rw none (record { fed = []; was_read = Consumes-nil s.left; reads = r; did = does_nothing tt s })
+  begins_reading s r = record { fed = []; was_read = Consumes-nil s.left; reads = r; did = does_nothing tt s }
 
-module _ {m : Signing} {policy : Policy} {journal : List Event} {place : ℕ} {rest : List ℕ} {r s : Seen} (u : Underway m policy r s journal place rest) where
+module _ {X : Extra} {m : Signing} {policy : Policy} {before events : List Event} {place : ℕ} {rest : List ℕ} {r s : Seen} (u : Underway X m policy before r s events place rest) where
   -- one more event
-  module _ (e : Event) {place' : ℕ} {rest' : List ℕ} (next : Reads u.fed (journal ++ e ∷ []) place' rest') {t : Seen} {S : Type 0} where
-    goes_on_event : (value : S) → t.left ≡ s.left → Does {T = S} (Ok value) s t (written (served_one m policy journal e)) → Underway m policy r t (journal ++ e ∷ []) place' rest'
+  module _ (e : Event) {place' : ℕ} {rest' : List ℕ} (next : Reads u.fed (events ++ e ∷ []) place' rest') {t : Seen} {S : Type 0} where
+    goes_on_event : (value : S) → t.left ≡ s.left → Does {T = S} (Ok value) s t (written (served_one X m policy before events e)) → Underway X m policy before r t (events ++ e ∷ []) place' rest'
     goes_on_event value same q = record {
       fed = u.fed;
       was_read = subst (λ (l : Option (List ℕ)). Consumes r.left l u.fed) (sym same) u.was_read;
       reads = next;
-      did = subst (λ (ws : List Write). Does {T = Unit {0}} (Ok tt) r t (written ws)) (sym (served_more m policy journal e)) (does_then tt (written (served m policy journal)) (written (served_one m policy journal e)) u.did (as_value value tt q));
+      did = subst (λ (ws : List Write). Does {T = Unit {0}} (Ok tt) r t (written ws)) (sym (served_more X m policy before events e)) (does_then tt (written (served X m policy before events)) (written (served_one X m policy before events e)) u.did (as_value value tt q));
     }
 
-    stops_in_event : {T : Type 0} (stop : Stop) {result : Result T Stop} → result ≡ Err stop → Does {T = S} (Err stop) s t (written (served_one m policy journal e)) → DoesLeft result r t (replayed m policy)
+    stops_in_event : {T : Type 0} (stop : Stop) {result : Result T Stop} → result ≡ Err stop → Does {T = S} (Err stop) s t (written (served_one X m policy before events e)) → DoesLeft result r t (replayed X m policy before)
     stops_in_event stop {result} is q =
         let text : List ℕ = u.fed ++ unwrap_or s.left [] in
-        let f : Firsts (journal ++ e ∷ []) text = firsts u.fed (journal ++ e ∷ []) place' rest' (unwrap_or s.left []) next in
-        let front : List Write = served m policy journal ++ served_one m policy journal e in
-        let others : List Write = writes_after (answer m policy) (audit_at m policy) (journal ++ e ∷ []) f.others in
-        let all : served m policy (recorded text) ≡ front ++ others =
-        served_others m policy (journal ++ e ∷ []) f.others (recorded text) f.are ∙ ap (λ (ws : List Write). ws ++ others) (served_more m policy journal e) in
-        let both : Does {T = S} (Err stop) r t (written front) = does_then tt (written (served m policy journal)) (written (served_one m policy journal e)) u.did q in
+        let f : Firsts (events ++ e ∷ []) text = firsts u.fed (events ++ e ∷ []) place' rest' (unwrap_or s.left []) next in
+        let front : List Write = served X m policy before events ++ served_one X m policy before events e in
+        let others : List Write = writes_after (answer_with X m policy) (audit_with X m policy) (before ++ (events ++ e ∷ [])) f.others in
+        let all : served X m policy before (recorded text) ≡ front ++ others =
+        served_others X m policy before (events ++ e ∷ []) f.others (recorded text) f.are ∙ ap (λ (ws : List Write). ws ++ others) (served_more X m policy before events e) in
+        let both : Does {T = S} (Err stop) r t (written front) = does_then tt (written (served X m policy before events)) (written (served_one X m policy before events e)) u.did q in
         record {
           text = text;
           was_left = behind_read r.left s.left u.fed u.was_read;
-          does = subst (λ (ws : List Write). Does result r t (record { writes = ws; ending = ending_in m policy text })) (sym all) (does_first stop (written front) (record { writes = others; ending = ending_in m policy text }) both is);
+          does = subst (λ (ws : List Write). Does result r t (record { writes = ws; ending = ending_in text })) (sym all) (does_first stop (written front) (record { writes = others; ending = ending_in text }) both is);
         }
 
   -- it stopped in what was due next
-  stops_there : {T : Type 0} {result : Result T Stop} {t : Seen} → ((next : Due) → Does result s t next) → DoesLeft result r t (replayed m policy)
+  stops_there : {T : Type 0} {result : Result T Stop} {t : Seen} → ((next : Due) → Does result s t next) → DoesLeft result r t (replayed X m policy before)
   stops_there {T} {result} {t} q =
       let text : List ℕ = u.fed ++ unwrap_or s.left [] in
-      let f : Firsts journal text = firsts u.fed journal place rest (unwrap_or s.left []) u.reads in
-      let others : List Write = writes_after (answer m policy) (audit_at m policy) journal f.others in
-      let all : served m policy (recorded text) ≡ served m policy journal ++ others = served_others m policy journal f.others (recorded text) f.are in
-      let next : Due = record { writes = others; ending = ending_in m policy text } in
+      let f : Firsts events text = firsts u.fed events place rest (unwrap_or s.left []) u.reads in
+      let others : List Write = writes_after (answer_with X m policy) (audit_with X m policy) (before ++ events) f.others in
+      let all : served X m policy before (recorded text) ≡ served X m policy before events ++ others = served_others X m policy before events f.others (recorded text) f.are in
+      let next : Due = record { writes = others; ending = ending_in text } in
       record {
         text = text;
         was_left = behind_read r.left s.left u.fed u.was_read;
-        does = subst (λ (ws : List Write). Does result r t (record { writes = ws; ending = ending_in m policy text })) (sym all) (does_then tt (written (served m policy journal)) next u.did (q next));
+        does = subst (λ (ws : List Write). Does result r t (record { writes = ws; ending = ending_in text })) (sym all) (does_then tt (written (served X m policy before events)) next u.did (q next));
       }
 
-  pub stops_short : {T : Type 0} {result : Result T Stop} → result ≡ Err Memory → DoesLeft result r s (replayed m policy)
+  pub stops_short : {T : Type 0} {result : Result T Stop} → result ≡ Err Memory → DoesLeft result r s (replayed X m policy before)
   stops_short is = stops_there (λ next. does_short s next is)
 
   -- one more piece, or none
   module _ {t : Seen} {S : Type 0} (value : S) (q : Does {T = S} (Ok value) s t (written [])) where
-    did_more : Does {T = Unit {0}} (Ok tt) r t (written (served m policy journal))
-    did_more = subst (λ (ws : List Write). Does {T = Unit {0}} (Ok tt) r t (written ws)) (append-nil (served m policy journal)) (does_then tt (written (served m policy journal)) (written []) u.did (as_value value tt q))
+    did_more : Does {T = Unit {0}} (Ok tt) r t (written (served X m policy before events))
+    did_more = subst (λ (ws : List Write). Does {T = Unit {0}} (Ok tt) r t (written ws)) (append-nil (served X m policy before events)) (does_then tt (written (served X m policy before events)) (written []) u.did (as_value value tt q))
 
-    goes_on_piece : (piece : List ℕ) → Consumes s.left t.left piece → Underway m policy r t journal place (rest ++ piece)
+    goes_on_piece : (piece : List ℕ) → Consumes s.left t.left piece → Underway X m policy before r t events place (rest ++ piece)
     goes_on_piece piece p = record {
       fed = u.fed ++ piece;
       was_read = Consumes-trans r.left s.left t.left u.fed piece u.was_read p;
-      reads = more_fed u.fed journal place rest piece u.reads;
+      reads = more_fed u.fed events place rest piece u.reads;
       did = did_more;
     }
 
-    goes_on_none : Consumes s.left t.left [] → Underway m policy r t journal place rest
+    goes_on_none : Consumes s.left t.left [] → Underway X m policy before r t events place rest
     goes_on_none p = record {
       fed = u.fed;
       was_read = subst (λ (l : List ℕ). Consumes r.left t.left l) (append-nil u.fed) (Consumes-trans r.left s.left t.left u.fed [] u.was_read p);
@@ -194,34 +195,34 @@ module _ {m : Signing} {policy : Policy} {journal : List Event} {place : ℕ} {r
     }
 
   -- it ends with the events that were served, by a damage
-  damaged : (text : List ℕ) (at : ℕ) → IfSome r.left (λ bytes. text ≡ bytes) → journal ≡ recorded text → is_recording text ≡ false → at ≡ place_of text → DoesLeft {T = Unit {0}} (Err (Ends (TrafficDamaged at))) r s (replayed m policy)
+  damaged : (text : List ℕ) (at : ℕ) → IfSome r.left (λ bytes. text ≡ bytes) → events ≡ recorded text → is_recording text ≡ false → at ≡ place_of text → DoesLeft {T = Unit {0}} (Err (Ends (TrafficDamaged at))) r s (replayed X m policy before)
   damaged text at was_left all none place_is =
-      let does : Does {T = Unit {0}} (Err (Ends (TrafficDamaged at))) r s (record { writes = served m policy journal ++ []; ending = Some (TrafficDamaged at) }) =
-      does_then tt (written (served m policy journal)) (ends (TrafficDamaged at)) u.did (does_end (TrafficDamaged at) s refl) in
+      let does : Does {T = Unit {0}} (Err (Ends (TrafficDamaged at))) r s (record { writes = served X m policy before events ++ []; ending = Some (TrafficDamaged at) }) =
+      does_then tt (written (served X m policy before events)) (ends (TrafficDamaged at)) u.did (does_end (TrafficDamaged at) s refl) in
       record {
         text = text;
         was_left = was_left;
         does = subst (λ (d : Due). Does {T = Unit {0}} (Err (Ends (TrafficDamaged at))) r s d)
-            (as_due (served m policy journal ++ []) (served m policy (recorded text)) (Some (TrafficDamaged at)) (ending_in m policy text)
-            (append-nil (served m policy journal) ∙ ap (served m policy) all) (damaged_ending (is_recording text) at (place_of text) none place_is)) does;
+            (as_due (served X m policy before events ++ []) (served X m policy before (recorded text)) (Some (TrafficDamaged at)) (ending_in text)
+            (append-nil (served X m policy before events) ∙ ap (served X m policy before) all) (damaged_ending (is_recording text) at (place_of text) none place_is)) does;
       }
 
-  breaks : {at : ℕ} → IsBroken u.fed journal at → DoesLeft {T = Unit {0}} (Err (Ends (TrafficDamaged at))) r s (replayed m policy)
+  breaks : {at : ℕ} → IsBroken u.fed events at → DoesLeft {T = Unit {0}} (Err (Ends (TrafficDamaged at))) r s (replayed X m policy before)
   breaks {at} b =
       let more : List ℕ = unwrap_or s.left [] in
       damaged (u.fed ++ more) at (behind_read r.left s.left u.fed u.was_read) (b.events_are more) (b.none more) (b.place_is more)
 
   -- all events were served, and nothing is left
-  ends_by : {T : Type 0} (said : Result T TrafficError) → IsAtEnd s.left → journal ≡ recorded u.fed → Finishes said place rest → DoesLeft (ending_of said) r s (replayed m policy)
+  ends_by : {T : Type 0} (said : Result T TrafficError) → IsAtEnd s.left → events ≡ recorded u.fed → Finishes said place rest → DoesLeft (ending_of said) r s (replayed X m policy before)
   ends_by (Ok done) end all f = record {
     text = u.fed;
     was_left = all_read r.left s.left u.fed u.was_read end;
     does = subst (λ (d : Due). Does {T = Unit {0}} (Ok tt) r s d)
-        (as_due (served m policy journal) (served m policy (recorded u.fed)) None (ending_in m policy u.fed)
-        (ap (served m policy) all) (whole_ending (is_recording u.fed) (place_of u.fed) (whole_again journal u.fed (f u.fed journal u.reads)).0)) u.did;
+        (as_due (served X m policy before events) (served X m policy before (recorded u.fed)) None (ending_in u.fed)
+        (ap (served X m policy before) all) (whole_ending (is_recording u.fed) (place_of u.fed) (whole_again events u.fed (f u.fed events u.reads)).0)) u.did;
   }
   ends_by (Err (error.Damaged at)) end all f =
-      let damage = f.1 u.fed journal u.reads all in
+      let damage = f.1 u.fed events u.reads all in
       damaged u.fed at (all_read r.left s.left u.fed u.was_read end) all damage.0 damage.1
   ends_by (Err error.Memory) end all f = absurd f
 
@@ -237,40 +238,40 @@ was_none A B false is fed = fed
 -- ---- the turns of the loop, by what the reader gave, with what it had before
 
 -- where no server was made
-pub stops_at_first : (m : Signing) (policy : Policy) (s : Seen) {T : Type 0} {result : Result T Stop} → result ≡ Err Memory → DoesLeft result s s (replayed m policy)
-stops_at_first m policy s is = stops_short (begins_reading m policy s refl nothing_fed) is
+pub stops_at_first : (X : Extra) (m : Signing) (policy : Policy) (before : List Event) (s : Seen) {T : Type 0} {result : Result T Stop} → result ≡ Err Memory → DoesLeft result s s (replayed X m policy before)
+stops_at_first X m policy before s is = stops_short (begins_reading X m policy before s nothing_fed) is
 
-module _ {m : Signing} {policy : Policy} {journal : List Event} {r s : Seen} (old : Unread) (u : Underway m policy r s journal old.place old.rest) where
+module _ {X : Extra} {m : Signing} {policy : Policy} {before events : List Event} {r s : Seen} (old : Unread) (u : Underway X m policy before r s events old.place old.rest) where
   -- an event
   module _ (e : Event) (next : Unread) (n : IsNext (Ok (Some e)) old next) where
     pub fits_next : Fits e
-    fits_next = last_fits u.fed journal e next.place next.rest (n.2 u.fed journal u.reads)
+    fits_next = last_fits u.fed events e next.place next.rest (n.2 u.fed events u.reads)
 
     module _ {t : Seen} {S : Type 0} where
-      pub goes_on : (value : S) → t.left ≡ s.left → Does {T = S} (Ok value) s t (written (served_one m policy journal e)) → Underway m policy r t (journal ++ e ∷ []) next.place next.rest
-      goes_on value same q = goes_on_event u e (n.2 u.fed journal u.reads) value same q
+      pub goes_on : (value : S) → t.left ≡ s.left → Does {T = S} (Ok value) s t (written (served_one X m policy before events e)) → Underway X m policy before r t (events ++ e ∷ []) next.place next.rest
+      goes_on value same q = goes_on_event u e (n.2 u.fed events u.reads) value same q
 
-      pub stops_in : {T : Type 0} (stop : Stop) {result : Result T Stop} → result ≡ Err stop → Does {T = S} (Err stop) s t (written (served_one m policy journal e)) → DoesLeft result r t (replayed m policy)
-      stops_in stop is q = stops_in_event u e (n.2 u.fed journal u.reads) stop is q
+      pub stops_in : {T : Type 0} (stop : Stop) {result : Result T Stop} → result ≡ Err stop → Does {T = S} (Err stop) s t (written (served_one X m policy before events e)) → DoesLeft result r t (replayed X m policy before)
+      stops_in stop is q = stops_in_event u e (n.2 u.fed events u.reads) stop is q
 
   -- no event, and a piece that was read
   module _ {t : Seen} where
-    pub stops_reading : {S T : Type 0} (stop : Stop) {result : Result T Stop} → result ≡ Err stop → Does {T = S} (Err stop) s t (written []) → DoesLeft result r t (replayed m policy)
+    pub stops_reading : {S T : Type 0} (stop : Stop) {result : Result T Stop} → result ≡ Err stop → Does {T = S} (Err stop) s t (written []) → DoesLeft result r t (replayed X m policy before)
     stops_reading stop is q = stops_there u (λ next. does_first stop (written []) next q is)
 
     module _ {S : Type 0} (value : S) (q : Does {T = S} (Ok value) s t (written [])) (piece : List ℕ) (was_read : Consumes s.left t.left piece) where
-      pub goes_on_reading : (next new : Unread) → next ≡ old → new ≡ fed_to next piece → Underway m policy r t journal new.place new.rest
+      pub goes_on_reading : (next new : Unread) → next ≡ old → new ≡ fed_to next piece → Underway X m policy before r t events new.place new.rest
       goes_on_reading next new same fed = rw (fed, same) (goes_on_piece u value q piece was_read)
 
-      pub ends_at_last : {T : Type 0} (said : Result T TrafficError) (next new : Unread) → IsNext (Ok None) old next → (piece ≡ []) × (new ≡ next) × IsAtEnd t.left → Finishes said new.place new.rest → DoesLeft (ending_of said) r t (replayed m policy)
+      pub ends_at_last : {T : Type 0} (said : Result T TrafficError) (next new : Unread) → IsNext (Ok None) old next → (piece ≡ []) × (new ≡ next) × IsAtEnd t.left → Finishes said new.place new.rest → DoesLeft (ending_of said) r t (replayed X m policy before)
       unfolding goes_on_none
       ends_at_last said next new n f h =
           let u' = goes_on_none u value q (subst (λ (l : List ℕ). Consumes s.left t.left l) f.0 was_read) in
-          ends_by u' said f.2 (n.3 u.fed journal u.reads) (subst (λ (x : Unread). Finishes said x.place x.rest) (f.1 ∙ n.1) h)
+          ends_by u' said f.2 (n.3 u.fed events u.reads) (subst (λ (x : Unread). Finishes said x.place x.rest) (f.1 ∙ n.1) h)
 
   -- damage, or no memory for an event
-  pub ends_early : (cause : TrafficError) (next : Unread) → IsNext (Err cause) old next → DoesLeft (ending_of {T = Unit {0}} (Err cause)) r s (replayed m policy)
-  ends_early (error.Damaged at) next n = breaks u (n.2 u.fed journal u.reads)
+  pub ends_early : (cause : TrafficError) (next : Unread) → IsNext (Err cause) old next → DoesLeft (ending_of {T = Unit {0}} (Err cause)) r s (replayed X m policy before)
+  ends_early (error.Damaged at) next n = breaks u (n.2 u.fed events u.reads)
   ends_early error.Memory next n = stops_short u refl
 
 -- ---- a piece

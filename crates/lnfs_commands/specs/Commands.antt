@@ -8,8 +8,10 @@ use Rattle.lnfs_policy.specs.PolicyText.{Refused, policy_of}
 use Rattle.lnfs_map.specs.Translated.{translated}
 use Rattle.lnfs_map.specs.declared.table.MapError.{MapError}
 use Rattle.lnfs_map.specs.declared.table.MapError.TheVariants as error
+use Rattle.lnfs_types.specs.declared.event.Event.{Event}
+use Rattle.lnfs_operations.specs.Extra.{Extra, no_extra}
 use Rattle.lnfs_gss3.specs.Mechanism.{Signing, keyed_digest}
-use Rattle.lnfs_step.specs.Journal.{answer, audit_at}
+use Rattle.lnfs_step.specs.Journal.{answer_with}
 use Rattle.lnfs_traffic.specs.Parts.{recorded, is_recording, place_of}
 use Rattle.lnfs_traffic.specs.Generated.{generated}
 use Rattle.lnfs_stage.specs.declared.ending.Ending.TheVariants.{Usage, PolicyRefused, TrafficDamaged, Untranslated}
@@ -19,7 +21,7 @@ use Rattle.lnfs_stage.specs.declared.stop.Stop.TheVariants.{Ends, Memory}
 use Rattle.lnfs_stage.specs.Writes.{to_out}
 use Rattle.lnfs_stage.specs.Due.{Due, written, ends, given}
 use Rattle.lnfs_stage.specs.Contents.{Contents, first, others}
-use Rattle.lnfs_commands.specs.Events.{writes_after}
+use Rattle.lnfs_commands.specs.Events.{audit_with, writes_after}
 use Rattle.lnfs_commands.specs.Summary.{summary}
 use Rattle.lnfs_commands.specs.Words.{Task, check, replay, translate, generate, Form, help, version, under, help_text, version_text}
 
@@ -32,11 +34,12 @@ abbrev pub judged : Result Policy Refused → (Policy → Due) → Due
 judged (Err refused) next = ends (PolicyRefused refused.line refused.cause)
 judged (Ok policy) next = next policy
 
--- ---- replay: under a meaning of signatures, the replies and lines of the events, up to the end or up to the damage
+-- ---- replay: with further operations, under a meaning of signatures and after a journal, the replies and lines of the
+-- events, up to the end or up to the damage
 
-abbrev pub replayed : Signing → Policy → List ℕ → Due
-replayed m policy traffic = record {
-  writes = writes_after (answer m policy) (audit_at m policy) [] (recorded traffic);
+abbrev pub replayed : (X : Extra) → Signing → Policy → (before : List Event) → (traffic : List ℕ) → Due
+replayed X m policy before traffic = record {
+  writes = writes_after (answer_with X m policy) (audit_with X m policy) before (recorded traffic);
   ending = cond (is_recording traffic) None (Some (TrafficDamaged (place_of traffic)));
 }
 
@@ -58,10 +61,10 @@ spelled (Err error) = ends_by (stop_of error)
 
 -- ---- generate: what generated events come to
 
-abbrev pub generation_due : Signing → Policy → (seed count : ℕ) → Due
-generation_due m policy seed count = shown (summary m policy (generated policy seed count))
+abbrev pub generation_due : (X : Extra) → Signing → Policy → (before : List Event) → (seed count : ℕ) → Due
+generation_due X m policy before seed count = shown (summary X m policy before (generated policy seed count))
 
--- ---- the table
+-- ---- the table: with the operations of the table alone, in a server that was given no event
 
 abbrev pub files_under : Task → List (List ℕ)
 files_under check = []
@@ -71,8 +74,8 @@ files_under (translate source target bytes) = []
 
 abbrev pub due_under : Policy → Task → Contents → Due
 due_under policy check files = shown policy.text
-due_under policy (replay traffic) files = given (first files) traffic (replayed keyed_digest policy)
-due_under policy (generate seed count) files = generation_due keyed_digest policy seed count
+due_under policy (replay traffic) files = given (first files) traffic (replayed no_extra keyed_digest policy [])
+due_under policy (generate seed count) files = generation_due no_extra keyed_digest policy [] seed count
 due_under policy (translate source target bytes) files = spelled (translated policy.formats policy.labels source target bytes)
 
 -- the files that a form names

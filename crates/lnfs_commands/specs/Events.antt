@@ -1,11 +1,19 @@
 -- What is written for events that are served, one after another.
-use Rattle.std.specs.Prelude.{ℕ, List, [], ◌∷◌, ◌++◌, unwrap_or}
+use Rattle.std.specs.Prelude.{ℕ, ◌+◌, List, [], ◌∷◌, ◌++◌, length, unwrap_or}
 use Rattle.std.specs.Option.{option_map}
 use Rattle.std.specs.declared.option.Option.{Option}
 use Rattle.std.specs.declared.option.Option.TheVariants.{Some, None}
 use Rattle.lnfs_types.specs.declared.event.Event.{Event}
+use Rattle.lnfs_policy.specs.Policy.{Policy}
 use Rattle.lnfs_rpc.specs.Formats.{frame_of}
+use Rattle.lnfs_operations.specs.Extra.{Extra}
+use Rattle.lnfs_gss3.specs.Mechanism.{Signing}
+use Rattle.lnfs_step.specs.Journal.{line_with, text_of}
 use Rattle.lnfs_stage.specs.Writes.{Write, to_out, to_audit}
+
+-- the audit line of an event after a journal, with its place there, from 1
+unfoldable pub audit_with : (X : Extra) → Signing → Policy → (journal : List Event) → Event → Option (List ℕ)
+audit_with X m p journal event = text_of (length journal + 1) (line_with X m p journal event)
 
 -- nothing is written where no reply is due
 abbrev pub framed : Option (List ℕ) → List ℕ

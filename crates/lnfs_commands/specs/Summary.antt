@@ -1,4 +1,4 @@
--- What events come to that are served one after another: how many get a reply, how many are refused, and a digest of the replies.
+-- What events come to that are served one after another, behind a journal: how many get a reply, how many are refused, and a digest of the replies.
 use Rattle.std.specs.Prelude.{ℕ, ◌+◌, List, [], ◌∷◌, ◌++◌, length, codes}
 use Rattle.std.specs.Fmt.{decimal}
 use Rattle.std.specs.declared.option.Option.{Option}
@@ -7,8 +7,9 @@ use Rattle.sha2.specs.Sha256.{sha256}
 use Rattle.hex.specs.Hex.{encode_lower}
 use Rattle.lnfs_types.specs.declared.event.Event.{Event}
 use Rattle.lnfs_policy.specs.Policy.{Policy}
+use Rattle.lnfs_operations.specs.Extra.{Extra}
 use Rattle.lnfs_gss3.specs.Mechanism.{Signing}
-use Rattle.lnfs_step.specs.Journal.{answer, line_at}
+use Rattle.lnfs_step.specs.Journal.{answer_with, line_with}
 use Rattle.lnfs_commands.specs.Events.{frames_after}
 
 abbrev pub one_of : {A : Type 0} → Option A → ℕ
@@ -32,5 +33,6 @@ told events replies failed frames =
     ++ row (codes "failed ") (decimal failed)
     ++ row (codes "digest ") (encode_lower (sha256 frames))
 
-abbrev pub summary : Signing → Policy → List Event → List ℕ
-summary m p events = told (length events) (count_after (answer m p) [] events) (count_after (line_at m p) [] events) (frames_after (answer m p) [] events)
+abbrev pub summary : (X : Extra) → Signing → Policy → (before events : List Event) → List ℕ
+summary X m p before events =
+    told (length events) (count_after (answer_with X m p) before events) (count_after (line_with X m p) before events) (frames_after (answer_with X m p) before events)

@@ -1,6 +1,7 @@
 //! The table of the commands.
-ghost use Rattle.std.specs.Prelude.{Some};
+ghost use Rattle.std.specs.Prelude.{Some, []};
 ghost use Rattle.std.specs.Option.{option_map};
+ghost use Rattle.lnfs_operations.specs.Extra.{no_extra};
 ghost use Rattle.lnfs_gss3.specs.Mechanism.{keyed_digest};
 ghost use Rattle.lnfs_stage.specs.Contents.{Follows};
 ghost use Rattle.lnfs_stage.specs.Does.{Does};
@@ -19,9 +20,10 @@ use lnfs_gss3::KeyedDigest;
 use lnfs_policy::Policy;
 use lnfs_stage::{Ending, Outside, Stop};
 use lnfs_traffic::generate;
+use lnfs_vault::Vault;
 use std::alloc::Global;
 
-/// Replays the recording of a name.
+/// Replays the recording of a name in a new server.
 fn replay_file<O: Outside>(
     alloc: Global,
     codecs: &Codecs,
@@ -33,10 +35,11 @@ fn replay_file<O: Outside>(
         (files_under (replay traffic.now)) (due_under policy (replay traffic.now)) }
 {
     outside.open(alloc, traffic)?;
-    replay(alloc, codecs, KeyedDigest, policy, outside)
+    let mut vault = Vault::new(alloc, policy, codecs, KeyedDigest)?;
+    replay(alloc, codecs, &mut vault, outside)
 }
 
-/// Serves generated events, and shows what they come to.
+/// Serves generated events in a new server, and shows what they come to.
 fn serve_generated<O: Outside>(
     alloc: Global,
     codecs: &Codecs,
@@ -46,10 +49,11 @@ fn serve_generated<O: Outside>(
     outside: &mut O,
 ) -> Result<(), Stop>
     ensures { Does result (O.seen outside.old) (O.seen outside.new)
-        (generation_due keyed_digest policy seed count) }
+        (generation_due no_extra keyed_digest policy [] seed count) }
 {
     let events = generate(alloc, &policy, seed, count)?;
-    sum_up(alloc, codecs, KeyedDigest, policy, events, outside)
+    let mut vault = Vault::new(alloc, policy, codecs, KeyedDigest)?;
+    sum_up(alloc, codecs, &mut vault, events, outside)
 }
 
 /// Does a task under a policy that was read.

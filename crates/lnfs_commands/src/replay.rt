@@ -1,22 +1,22 @@
 //! Serving a recording's events, one after another, as their file is read.
 ghost use Rattle.std.specs.Prelude.{◌≡◌, ◌++◌, ◌∷◌, ◌<◌, [], IfOk, OnOk, length, unwrap_or};
 ghost use Rattle.lnfs_types.specs.Moments.{Fits};
-ghost use Rattle.lnfs_step.specs.Journal.{answer, audit_at};
+ghost use Rattle.lnfs_step.specs.Journal.{answer_with};
 ghost use Rattle.lnfs_stage.specs.Due.{written};
 ghost use Rattle.lnfs_stage.specs.Does.{Does, DoesLeft};
 ghost use Rattle.lnfs_commands.specs.Commands.{replayed};
-ghost use Rattle.lnfs_commands.specs.Events.{answer_writes};
+ghost use Rattle.lnfs_commands.specs.Events.{answer_writes, audit_with};
 ghost use Rattle.lnfs_commands.specs.Lines.{text_in};
 ghost use Rattle.lnfs_commands.specs.Replays.{Feeds, ending_of};
 
 use crate::frame::frame;
+use lnfs_engine::ReadExtra;
 use lnfs_format::Codecs;
 use lnfs_gss3::Mechanism;
-use lnfs_policy::Policy;
 use lnfs_stage::{Ending, Outside, Stop};
 use lnfs_traffic::{TrafficError, TrafficReader};
 use lnfs_types::Event;
-use lnfs_vault::{AuditLine, Vault, write_line};
+use lnfs_vault::{AuditLine, VaultOf, write_line};
 use std::alloc::{AllocError, Global};
 
 /// The length of a piece that is read at once, in bytes.
@@ -33,17 +33,18 @@ fn text_of(alloc: Global, line: &Option<AuditLine>) -> Result<Vec<u8>, AllocErro
 }
 
 /// Serves one event: hands over its reply's frame, and then its line.
-fn serve_event<M: Mechanism + Drop, O: Outside>(
+fn serve_event<M: Mechanism + Drop, X: ReadExtra, O: Outside>(
     alloc: Global,
     codecs: &Codecs,
-    vault: &mut Vault<M>,
+    vault: &mut VaultOf<M, X>,
     event: Event,
     outside: &mut O,
 ) -> Result<(), Stop>
     requires fits { Fits event }
     ensures does { Does result (O.seen outside.old) (O.seen outside.new)
-        (written (answer_writes (answer M.signing vault.old.policy vault.old.journal event)
-        (audit_at M.signing vault.old.policy vault.old.journal event))) }
+        (written (answer_writes
+        (answer_with X.extra M.signing vault.old.policy vault.old.journal event)
+        (audit_with X.extra M.signing vault.old.policy vault.old.journal event))) }
     ensures left { (O.seen outside.new).left ≡ (O.seen outside.old).left }
     ensures state { OnOk result (vault.new ≡ record vault.old
         { journal = vault.old.journal ++ event ∷ [] }) }
@@ -84,18 +85,22 @@ fn feed_piece<O: Outside>(
     Ok(true)
 }
 
-/// Serves the events that are recorded in what is left of the current file, in a vault that has served
-/// none. Each is served as soon as what was read of the file has all of it, and nothing more is read
-/// where a damage shows.
-fn serve_rest<M: Mechanism + Drop, O: Outside>(
+/// Replays the recording that is left of the current file in a vault, behind the events that it was given before. Each event
+/// is served as soon as what was read of the file has all of it, and nothing more is read where a damage shows.
+///
+/// # Errors
+///
+/// `Ends` with `TrafficDamaged` where it is damaged, with the place in bytes from where the file was
+/// read; the events before it were served. `ReadFault` where a call of the files failed, `WriteFault`
+/// where one of the streams did, and `Memory`. The streams took a front of what is due then.
+pub fn replay<M: Mechanism + Drop, X: ReadExtra, O: Outside>(
     alloc: Global,
     codecs: &Codecs,
-    vault: &mut Vault<M>,
+    vault: &mut VaultOf<M, X>,
     outside: &mut O,
 ) -> Result<(), Stop>
-    requires first { vault.old.journal ≡ [] }
     ensures { DoesLeft result (O.seen outside.old) (O.seen outside.new)
-        (replayed M.signing vault.old.policy) }
+        (replayed X.extra M.signing vault.old.policy vault.old.journal) }
 {
     let mut reader = TrafficReader::new(alloc);
     let mut buf = [0u8; PIECE];
@@ -113,25 +118,4 @@ fn serve_rest<M: Mechanism + Drop, O: Outside>(
         serve_event(alloc, codecs, vault, event, outside)?;
     }
     Err(Stop::Memory)
-}
-
-/// Replays the recording that is left of the current file in a new server, whose callers sign by a
-/// mechanism.
-///
-/// # Errors
-///
-/// `Ends` with `TrafficDamaged` where it is damaged, with the place in bytes from where the file was
-/// read; the events before it were served. `ReadFault` where a call of the files failed, `WriteFault`
-/// where one of the streams did, and `Memory`. The streams took a front of what is due then.
-pub fn replay<M: Mechanism + Drop, O: Outside>(
-    alloc: Global,
-    codecs: &Codecs,
-    mechanism: M,
-    policy: Policy,
-    outside: &mut O,
-) -> Result<(), Stop>
-    ensures { DoesLeft result (O.seen outside.old) (O.seen outside.new) (replayed M.signing policy) }
-{
-    let mut vault = Vault::new(alloc, policy, codecs, mechanism)?;
-    serve_rest(alloc, codecs, &mut vault, outside)
 }

@@ -4,19 +4,19 @@ ghost use Rattle.std.specs.List.{AllByRecursion};
 ghost use Rattle.std.specs.Fmt.{decimal};
 ghost use Rattle.sha2.specs.Hashers.{Holds256};
 ghost use Rattle.lnfs_types.specs.Moments.{Fits};
-ghost use Rattle.lnfs_step.specs.Journal.{answer, line_at};
+ghost use Rattle.lnfs_step.specs.Journal.{answer_with, line_with};
 ghost use Rattle.lnfs_stage.specs.Does.{Does};
 ghost use Rattle.lnfs_commands.specs.Commands.{shown};
 ghost use Rattle.lnfs_commands.specs.Events.{framed, frames_after};
 ghost use Rattle.lnfs_commands.specs.Summary.{one_of, count_after, row, told, summary};
 
 use crate::frame::frame;
+use lnfs_engine::ReadExtra;
 use lnfs_format::Codecs;
 use lnfs_gss3::Mechanism;
-use lnfs_policy::Policy;
 use lnfs_stage::{Outside, Stop};
 use lnfs_types::Event;
-use lnfs_vault::Vault;
+use lnfs_vault::VaultOf;
 use sha2::{Digest, Sha256};
 use std::alloc::{AllocError, Global};
 use std::collections::VecDeque;
@@ -31,10 +31,10 @@ struct Tally {
 }
 
 /// Serves one event, and adds what it comes to.
-fn count<M: Mechanism + Drop>(
+fn count<M: Mechanism + Drop, X: ReadExtra>(
     alloc: Global,
     codecs: &Codecs,
-    vault: &mut Vault<M>,
+    vault: &mut VaultOf<M, X>,
     event: Event,
     tally: &mut Tally,
 ) -> Result<(), AllocError>
@@ -42,12 +42,12 @@ fn count<M: Mechanism + Drop>(
     requires replies { tally.old.replies < 2 ^ 63 }
     requires failed { tally.old.failed < 2 ^ 63 }
     ensures replies { OnOk result (tally.new.replies ≡ tally.old.replies
-        + one_of (answer M.signing vault.old.policy vault.old.journal event)) }
+        + one_of (answer_with X.extra M.signing vault.old.policy vault.old.journal event)) }
     ensures failed { OnOk result (tally.new.failed ≡ tally.old.failed
-        + one_of (line_at M.signing vault.old.policy vault.old.journal event)) }
+        + one_of (line_with X.extra M.signing vault.old.policy vault.old.journal event)) }
     ensures frames { (bytes : List ℕ) → Holds256 tally.old.frames bytes →
         OnOk result (Holds256 tally.new.frames (bytes
-        ++ framed (answer M.signing vault.old.policy vault.old.journal event))) }
+        ++ framed (answer_with X.extra M.signing vault.old.policy vault.old.journal event))) }
     ensures state { OnOk result (vault.new ≡ record vault.old
         { journal = vault.old.journal ++ event ∷ [] }) }
 {
@@ -63,25 +63,24 @@ fn count<M: Mechanism + Drop>(
     Ok(())
 }
 
-/// Serves events in a vault that has served none, one after another, and adds what they come to.
-fn count_all<M: Mechanism + Drop>(
+/// Serves events in a vault, one after another, and adds what they come to.
+fn count_all<M: Mechanism + Drop, X: ReadExtra>(
     alloc: Global,
     codecs: &Codecs,
-    vault: &mut Vault<M>,
+    vault: &mut VaultOf<M, X>,
     events: Vec<Event>,
     tally: &mut Tally,
 ) -> Result<(), AllocError>
-    requires first { vault.old.journal ≡ [] }
     requires fits { AllByRecursion Fits events.items }
     requires replies { tally.old.replies ≡ 0 }
     requires failed { tally.old.failed ≡ 0 }
     requires frames { Holds256 tally.old.frames [] }
-    ensures replies { OnOk result (tally.new.replies
-        ≡ count_after (answer M.signing vault.old.policy) [] events.items) }
-    ensures failed { OnOk result (tally.new.failed
-        ≡ count_after (line_at M.signing vault.old.policy) [] events.items) }
-    ensures frames { OnOk result (Holds256 tally.new.frames
-        (frames_after (answer M.signing vault.old.policy) [] events.items)) }
+    ensures replies { OnOk result (tally.new.replies ≡ count_after
+        (answer_with X.extra M.signing vault.old.policy) vault.old.journal events.items) }
+    ensures failed { OnOk result (tally.new.failed ≡ count_after
+        (line_with X.extra M.signing vault.old.policy) vault.old.journal events.items) }
+    ensures frames { OnOk result (Holds256 tally.new.frames (frames_after
+        (answer_with X.extra M.signing vault.old.policy) vault.old.journal events.items)) }
 {
     let mut rest = VecDeque::from_vec(events);
     while let Some(event) = rest.pop_front() {
@@ -90,29 +89,27 @@ fn count_all<M: Mechanism + Drop>(
     Ok(())
 }
 
-/// Serves events in a new server, one after another.
-fn tally_of<M: Mechanism + Drop>(
+/// Serves events in a vault, one after another: what they come to.
+fn tally_of<M: Mechanism + Drop, X: ReadExtra>(
     alloc: Global,
     codecs: &Codecs,
-    mechanism: M,
-    policy: Policy,
+    vault: &mut VaultOf<M, X>,
     events: Vec<Event>,
 ) -> Result<Tally, AllocError>
     requires { AllByRecursion Fits events.items }
-    ensures replies { IfOk result (λ tally. tally.replies
-        ≡ count_after (answer M.signing policy) [] events.items) }
-    ensures failed { IfOk result (λ tally. tally.failed
-        ≡ count_after (line_at M.signing policy) [] events.items) }
-    ensures frames { IfOk result (λ tally. Holds256 tally.frames
-        (frames_after (answer M.signing policy) [] events.items)) }
+    ensures replies { IfOk result (λ tally. tally.replies ≡ count_after
+        (answer_with X.extra M.signing vault.old.policy) vault.old.journal events.items) }
+    ensures failed { IfOk result (λ tally. tally.failed ≡ count_after
+        (line_with X.extra M.signing vault.old.policy) vault.old.journal events.items) }
+    ensures frames { IfOk result (λ tally. Holds256 tally.frames (frames_after
+        (answer_with X.extra M.signing vault.old.policy) vault.old.journal events.items)) }
 {
-    let mut vault = Vault::new(alloc, policy, codecs, mechanism)?;
     let mut tally = Tally {
         replies: 0,
         failed: 0,
         frames: Sha256::new(),
     };
-    count_all(alloc, codecs, &mut vault, events, &mut tally)?;
+    count_all(alloc, codecs, vault, events, &mut tally)?;
     Ok(tally)
 }
 
@@ -148,21 +145,20 @@ fn summary_of(alloc: Global, events: u64, tally: Tally) -> Result<Vec<u8>, Alloc
     Ok(text)
 }
 
-/// Serves events in a new server, and shows what they come to in four lines.
-pub fn sum_up<M: Mechanism + Drop, O: Outside>(
+/// Serves events in a vault, behind those that it was given before, and shows what they come to in four lines.
+pub fn sum_up<M: Mechanism + Drop, X: ReadExtra, O: Outside>(
     alloc: Global,
     codecs: &Codecs,
-    mechanism: M,
-    policy: Policy,
+    vault: &mut VaultOf<M, X>,
     events: Vec<Event>,
     outside: &mut O,
 ) -> Result<(), Stop>
     requires { AllByRecursion Fits events.items }
     ensures { Does result (O.seen outside.old) (O.seen outside.new)
-        (shown (summary M.signing policy events.items)) }
+        (shown (summary X.extra M.signing vault.old.policy vault.old.journal events.items)) }
 {
     let number = events.len() as u64;
-    let tally = tally_of(alloc, codecs, mechanism, policy, events)?;
+    let tally = tally_of(alloc, codecs, vault, events)?;
     let text = summary_of(alloc, number, tally)?;
     outside.put_text(&text)
 }

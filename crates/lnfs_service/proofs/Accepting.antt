@@ -10,7 +10,7 @@ use Rattle.lnfs_types.specs.declared.event.Event.{Event}
 use Rattle.lnfs_types.specs.declared.event.Moment.{Moment}
 use Rattle.lnfs_policy.specs.Policy.{Policy}
 use Rattle.lnfs_gss3.specs.Mechanism.{Signing}
-use Rattle.lnfs_operations.specs.Extra.{no_extra}
+use Rattle.lnfs_operations.specs.Extra.{Extra}
 use Rattle.lnfs_history.specs.Entries.{of}
 use Rattle.lnfs_workers.specs.Links.{IsServed}
 use Rattle.lnfs_workers.specs.Pairs.{EachAt}
@@ -24,14 +24,13 @@ use Rattle.lnfs_stage.specs.Does.{Does}
 use Rattle.lnfs_stage.proofs.Writing.{front_none}
 use Rattle.lnfs_stage.proofs.Staying.{stays_same}
 use Rattle.lnfs_stage.proofs.Doing.{beside_net}
-use Rattle.lnfs_step.specs.Journal.{reply_with, answer}
 use Rattle.lnfs_service.specs.Handed.{Dealings, dealings, Adds, Deals, AreServed}
 use Rattle.lnfs_service.specs.Links.{AreUnserved, Came, IsCut, IsNew, deal_of, told_end}
 use Rattle.lnfs_service.specs.Serves.{IsUntold, NetStop, Remains, Serves, served}
 use Rattle.lnfs_service.specs.Session.{Session, FoundMemory, IsSession, IsShort}
 use Rattle.lnfs_service.proofs.Dealing.{adds_none, adds_more, says, untouched, nothing}
 use Rattle.lnfs_service.proofs.Handing.{unserved_is, served_is}
-use Rattle.lnfs_service.proofs.Sessions.{New, classes_dealt, began_all, fresh_all, is_session, told_found}
+use Rattle.lnfs_service.proofs.Sessions.{IsPurged, New, classes_dealt, began_all, fresh_all, is_session, told_found}
 
 on_ok : {T E : Type 0} (result : Result T E) {A B : Type 0} → (A → B) → OnOk result A → OnOk result B
 on_ok {T} {E} result {A} {B} f h = elim result as (λ r. OnOk r A → OnOk r B) [
@@ -101,34 +100,36 @@ module _ {L : Type 0} (tell : L → Back) (classes : List ℕ) (links : List (�
     say = record { dealt = classes_dealt tell links ∙ came.all; fresh = fresh_all tell links came.new; kept = refl };
   }
 
-module _ (may : Moment → Type 0) (m : Signing) (policy : Policy) (classes : List ℕ) where
-  serves_none : {s : Seen} {n n' : ℕ} {d : Dealings} (stop : Stop) {result : Result (Unit {0}) Stop} → result ≡ Err stop → NetStop stop n n' → Remains n n' → Deals d (AreServed (Unit {0}) (IsSession may m policy) None (status_of {T = Unit {0}} (Err stop)) classes) → Serves may m policy classes result s s n n' d
+module _ (X : Extra) (may : Moment → Type 0) (m : Signing) (policy : Policy) (before : List Event) (classes : List ℕ) where
+  serves_none : {s : Seen} {n n' : ℕ} {d : Dealings} (stop : Stop) {result : Result (Unit {0}) Stop} → result ≡ Err stop → NetStop stop n n' → Remains n n' → Deals d (AreServed (Unit {0}) (IsSession X may m policy before) None (status_of {T = Unit {0}} (Err stop)) classes) → Serves X may m policy before classes result s s n n' d
   serves_none (Ends ending) is x later links = absurd x
   serves_none ReadFault is x later links = absurd x
   serves_none WriteFault is x later links = absurd x
   serves_none {s} Memory is x later links = rw is (record { session = None; does = record { whole = tt; begun = front_none s []; stays = stays_same s; excused = tt }; links = links; later = later })
   serves_none {s} NetFault is x later links = rw is (record { session = None; does = record { whole = tt; begun = front_none s []; stays = stays_same s; excused = x }; links = links; later = later })
 
-  pub serves_stopped : {s : Seen} {n n' : ℕ} {d : Dealings} (stop : Stop) {result : Result (Unit {0}) Stop} → result ≡ Err stop → NetStop stop n n' → Remains n n' → Deals d (AreUnserved stop classes) → Serves may m policy classes result s s n n' d
-  serves_stopped stop is x later deals = serves_none stop is x later (says (unserved_is (Unit {0}) (IsSession may m policy) classes tt stop) deals)
+  pub serves_stopped : {s : Seen} {n n' : ℕ} {d : Dealings} (stop : Stop) {result : Result (Unit {0}) Stop} → result ≡ Err stop → NetStop stop n n' → Remains n n' → Deals d (AreUnserved stop classes) → Serves X may m policy before classes result s s n n' d
+  serves_stopped stop is x later deals = serves_none stop is x later (says (unserved_is (Unit {0}) (IsSession X may m policy before) classes tt stop) deals)
 
-  pub serves_short : {s : Seen} {n n' : ℕ} {d : Dealings} {result : Result (Unit {0}) Stop} → result ≡ Err Memory → Remains n n' → Deals d (IsShort classes) → Serves may m policy classes result s s n n' d
+  pub serves_short : {s : Seen} {n n' : ℕ} {d : Dealings} {result : Result (Unit {0}) Stop} → result ≡ Err Memory → Remains n n' → Deals d (IsShort classes) → Serves X may m policy before classes result s s n n' d
   serves_short is later deals = serves_none Memory is tt later (says (λ deals backs short. inr (tt, short)) deals)
 
-  -- ---- a service, and what is told of it
+-- ---- a service, and what is told of it
+
+module _ (X : Extra) (may : Moment → Type 0) (m : Signing) (policy : Policy) (classes : List ℕ) where
   module _ {L : Type 0} (tell : L → Back) (links : List (ℕ × L)) (ends : List (LinkEnd L)) (journal : List Event) {dealt dealt' dealt'' : Option (List Deal)} {backs backs' backs'' : Option (List Back)} (came : Came tell classes links (dealings dealt dealt' backs backs')) where
     pub serves_told : {result : Result (Unit {0}) Stop} {s t : Seen} {n n' n'' : ℕ}
-        → ((before : List Event) (event : Event) → reply_with no_extra m policy before event ≡ answer m policy before event)
-        → EachAt (λ n link end. IsServed tell may link.0 link.1 end (of n (entries_of no_extra m policy journal))) 0 links ends
-        → ((link : ℕ) → length links ≤ link → of link (entries_of no_extra m policy journal) ≡ [])
-        → Does result s t (served m policy (Some (record { journal = journal; ends = map (told_end tell) ends })))
+        → IsPurged X m policy
+        → EachAt (λ n link end. IsServed tell may link.0 link.1 end (of n (entries_of X m policy journal))) 0 links ends
+        → ((link : ℕ) → length links ≤ link → of link (entries_of X m policy journal) ≡ [])
+        → Does result s t (served X m policy [] (Some (record { journal = journal; ends = map (told_end tell) ends })))
         → IfErr result IsUntold → OnOk result (All FoundMemory ends) → dealt'' ≡ dealt' → Adds backs' backs'' (map (λ end. tell end.link) ends) → Remains n n' → Remains n' n''
-        → Serves may m policy classes result s t n n'' (dealings dealt dealt'' backs backs'')
+        → Serves X may m policy [] classes result s t n n'' (dealings dealt dealt'' backs backs'')
     serves_told {result} {s} {t} {n} {n'} {n''} purged each others does untold found same handed first last =
         let session : Session = record { journal = journal; ends = map (told_end tell) ends } in
         let deals : List Deal = map (deal_of tell) links in
         let given : List Back = map (λ end. tell end.link) ends in
-        let is : IsSession may m policy session classes deals given = is_session tell may m policy journal classes links ends purged came.all came.new each others in
+        let is : IsSession X may m policy [] session classes deals given = is_session tell X may m policy journal classes links ends purged came.all came.new each others in
         let all : OnOk result (All FoundMemory session.ends) = on_ok result (told_found tell ends) found in
         record {
           session = Some session;
@@ -138,7 +139,7 @@ module _ (may : Moment → Type 0) (m : Signing) (policy : Policy) (classes : Li
             backs = given;
             dealt = rw same came.dealt;
             handed = subst (λ (b : Option (List Back)). Adds b backs'' given) came.kept handed;
-            say = served_is (Unit {0}) (IsSession may m policy) classes session deals given result is all untold;
+            say = served_is (Unit {0}) (IsSession X may m policy []) classes session deals given result is all untold;
           };
           later = omega (arith, first, last);
         }

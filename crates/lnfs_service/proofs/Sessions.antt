@@ -10,11 +10,11 @@ use Rattle.lnfs_types.specs.declared.event.Event.{Event}
 use Rattle.lnfs_types.specs.declared.event.Moment.{Moment}
 use Rattle.lnfs_policy.specs.Policy.{Policy}
 use Rattle.lnfs_gss3.specs.Mechanism.{Signing}
-use Rattle.lnfs_operations.specs.Extra.{no_extra}
+use Rattle.lnfs_operations.specs.Extra.{Extra}
 use Rattle.lnfs_history.specs.Entries.{entry, of}
 use Rattle.lnfs_history.specs.declared.entry.Entry.{Entry}
 use Rattle.lnfs_step.specs.Step.{Line}
-use Rattle.lnfs_step.specs.Journal.{reply_with, answer, line_at, line_text, text_of, audit_at}
+use Rattle.lnfs_step.specs.Journal.{reply_with, answer_with, line_with, line_text, text_of}
 use Rattle.lnfs_workers.specs.Links.{IsServed}
 use Rattle.lnfs_workers.specs.Lines.{placed, lines_from, lines_of, lines_in}
 use Rattle.lnfs_vault.specs.declared.audit.AuditLine.{AuditLine}
@@ -23,9 +23,9 @@ use Rattle.lnfs_workers.specs.Pairs.{EachAt}
 use Rattle.lnfs_workers.specs.Transcripts.{entries_from, entries_of}
 use Rattle.lnfs_workers.specs.declared.line.LinkEnd.{LinkEnd}
 use Rattle.lnfs_commands.specs.Lines.{text_at_place}
-use Rattle.lnfs_commands.specs.Events.{each_line, lone}
+use Rattle.lnfs_commands.specs.Events.{audit_with, each_line, lone}
 use Rattle.lnfs_service.specs.Links.{deal_of, IsNew, told_end}
-use Rattle.lnfs_service.specs.Session.{answered_after, answered, began, link_line, link_lines, FoundMemory, IsSession}
+use Rattle.lnfs_service.specs.Session.{answered_after, began, link_line, link_lines, FoundMemory, IsSession}
 
 -- ---- the lines of links
 
@@ -95,22 +95,26 @@ module _ {L : Type 0} (tell : L → Back) where
 
 -- ---- the whole service
 
-pub answered_is : (m : Signing) (policy : Policy) → ((journal : List Event) (event : Event) → reply_with no_extra m policy journal event ≡ answer m policy journal event) → (before journal : List Event) → entries_from no_extra m policy before journal ≡ answered_after m policy before journal
-answered_is m policy purged before [] = refl
-answered_is m policy purged before (e ∷ journal) = λ i. entry e (purged before e i) ∷ answered_is m policy purged (before ++ e ∷ []) journal i
+-- each reply is the one that its requester would get with what it doesn't dominate purged
+abbrev pub IsPurged : (X : Extra) → Signing → Policy → Type 0
+IsPurged X m policy = (journal : List Event) (event : Event) → reply_with X m policy journal event ≡ answer_with X m policy journal event
 
-module _ {L : Type 0} (tell : L → Back) (may : Moment → Type 0) (m : Signing) (policy : Policy) (journal : List Event) (classes : List ℕ) (links : List (ℕ × L)) (ends : List (LinkEnd L)) where
+answered_is : (X : Extra) (m : Signing) (policy : Policy) → IsPurged X m policy → (before journal : List Event) → entries_from X m policy before journal ≡ answered_after X m policy before journal
+answered_is X m policy purged before [] = refl
+answered_is X m policy purged before (e ∷ journal) = λ i. entry e (purged before e i) ∷ answered_is X m policy purged (before ++ e ∷ []) journal i
+
+module _ {L : Type 0} (tell : L → Back) (X : Extra) (may : Moment → Type 0) (m : Signing) (policy : Policy) (journal : List Event) (classes : List ℕ) (links : List (ℕ × L)) (ends : List (LinkEnd L)) where
   abbrev entries : List Entry
-  entries = entries_of no_extra m policy journal
+  entries = entries_of X m policy journal
 
-  pub is_session : ((before : List Event) (event : Event) → reply_with no_extra m policy before event ≡ answer m policy before event) → map (λ link. link.0) links ≡ classes → New tell links
+  pub is_session : IsPurged X m policy → map (λ link. link.0) links ≡ classes → New tell links
       → EachAt (λ n link end. IsServed tell may link.0 link.1 end (of n entries)) 0 links ends
       → ((link : ℕ) → length links ≤ link → of link entries ≡ [])
-      → IsSession may m policy (record { journal = journal; ends = map (told_end tell) ends }) classes (map (deal_of tell) links) (map (λ end. tell end.link) ends)
-  is_session purged all new each others = let same : entries ≡ answered m policy journal = answered_is m policy purged [] journal in record {
+      → IsSession X may m policy [] (record { journal = journal; ends = map (told_end tell) ends }) classes (map (deal_of tell) links) (map (λ end. tell end.link) ends)
+  is_session purged all new each others = let same : entries ≡ answered_after X m policy [] journal = answered_is X m policy purged [] journal in record {
     dealt = classes_dealt tell links ∙ all;
     fresh = fresh_all tell links new;
-    links = served_all tell may (λ n. of n (answered m policy journal)) 0 links ends new (subst (λ (es : List Entry). EachAt (λ n link end. IsServed tell may link.0 link.1 end (of n es)) 0 links ends) same each);
+    links = served_all tell may (λ n. of n (answered_after X m policy [] journal)) 0 links ends new (subst (λ (es : List Entry). EachAt (λ n link end. IsServed tell may link.0 link.1 end (of n es)) 0 links ends) same each);
     others = λ link le. sym (ap (of link) same) ∙ others link (omega (arith, le, length-map links (deal_of tell)));
     handed = ends_back tell ends;
   }
@@ -128,12 +132,12 @@ placed_text : (event : ℕ) (line : Option Line) → map at_place (placed event 
 placed_text event None = refl
 placed_text event (Some line) = refl
 
-from_journal : (m : Signing) (p : Policy) (before journal : List Event) → map at_place (lines_from no_extra m p before journal) ≡ each_line (audit_at m p) before journal
-unfolding each_line audit_at
-from_journal m p before [] = refl
-from_journal m p before (e ∷ journal) =
-    map-append at_place (placed (length before + 1) (line_at m p before e)) (lines_from no_extra m p (before ++ e ∷ []) journal)
-    ∙ (λ i. placed_text (length before + 1) (line_at m p before e) i ++ from_journal m p (before ++ e ∷ []) journal i)
+from_journal : (X : Extra) (m : Signing) (p : Policy) (before journal : List Event) → map at_place (lines_from X m p before journal) ≡ each_line (audit_with X m p) before journal
+unfolding each_line audit_with
+from_journal X m p before [] = refl
+from_journal X m p before (e ∷ journal) =
+    map-append at_place (placed (length before + 1) (line_with X m p before e)) (lines_from X m p (before ++ e ∷ []) journal)
+    ∙ (λ i. placed_text (length before + 1) (line_with X m p before e) i ++ from_journal X m p (before ++ e ∷ []) journal i)
 
-pub journal_lines : (m : Signing) (p : Policy) (journal : List Event) (lines : List AuditLine) → lines_in lines ≡ lines_of no_extra m p journal → map text_at_place lines ≡ each_line (audit_at m p) [] journal
-journal_lines m p journal lines are = in_place lines ∙ ap (map at_place) are ∙ from_journal m p [] journal
+pub journal_lines : (X : Extra) (m : Signing) (p : Policy) (journal : List Event) (lines : List AuditLine) → lines_in lines ≡ lines_of X m p journal → map text_at_place lines ≡ each_line (audit_with X m p) [] journal
+journal_lines X m p journal lines are = in_place lines ∙ ap (map at_place) are ∙ from_journal X m p [] journal

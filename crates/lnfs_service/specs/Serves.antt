@@ -2,12 +2,13 @@
 use Rattle.std.specs.Prelude.{◌≡◌, ◌≤◌, ◌-◌, ◌^◌, ℕ, List, [], ◌∷◌, ◌++◌, map, min, Result, IfErr}
 use Rattle.std.specs.declared.option.Option.{Option}
 use Rattle.std.specs.declared.option.Option.TheVariants.{Some, None}
+use Rattle.lnfs_types.specs.declared.event.Event.{Event}
 use Rattle.lnfs_types.specs.declared.event.Moment.{Moment}
 use Rattle.lnfs_outside.specs.Causes.{Rose}
 use Rattle.lnfs_policy.specs.Policy.{Policy}
 use Rattle.lnfs_policy.specs.PolicyText.{policy_of}
+use Rattle.lnfs_operations.specs.Extra.{Extra, no_extra}
 use Rattle.lnfs_gss3.specs.Mechanism.{Signing, keyed_digest}
-use Rattle.lnfs_step.specs.Journal.{audit_at}
 use Rattle.lnfs_traffic.specs.Texts.{recording_text}
 use Rattle.lnfs_stage.specs.declared.status.Status.{Status}
 use Rattle.lnfs_stage.specs.declared.status.Status.TheVariants as status
@@ -19,18 +20,18 @@ use Rattle.lnfs_stage.specs.Ending.{status_of}
 use Rattle.lnfs_stage.specs.Due.{Due, written, given}
 use Rattle.lnfs_stage.specs.Does.{DoesBy, Holds}
 use Rattle.lnfs_commands.specs.Commands.{judged}
-use Rattle.lnfs_commands.specs.Events.{each_line}
+use Rattle.lnfs_commands.specs.Events.{audit_with, each_line}
 use Rattle.lnfs_service.specs.Handed.{Dealings, Deals, IsSpelled, IsService, AreServed}
 use Rattle.lnfs_service.specs.Session.{Session, IsSession, link_lines}
 
--- The recording of the journal, then each of its lines, then the line of each link. Where nobody was served nothing is written.
-abbrev pub served : Signing → Policy → Option Session → Due
-served m policy None = written []
-served m policy (Some session) = written (to_out (recording_text session.journal) ∷ map to_audit (each_line (audit_at m policy) [] session.journal ++ link_lines 0 session.ends))
+-- The recording of the events that were served behind a journal, then each of their lines, then the line of each link. Where nobody was served nothing is written.
+abbrev pub served : (X : Extra) → Signing → Policy → (before : List Event) → Option Session → Due
+served X m policy before None = written []
+served X m policy before (Some session) = written (to_out (recording_text session.journal) ∷ map to_audit (each_line (audit_with X m policy) before session.journal ++ link_lines 0 session.ends))
 
--- under the policy of a name
+-- under the policy of a name, with the operations of the table alone, in a server that was given no event
 abbrev pub service_due : (name : List ℕ) → (policy : Option (List ℕ)) → Option Session → Due
-service_due name policy session = given policy name (λ text. judged (policy_of text) (λ rules. served keyed_digest rules session))
+service_due name policy session = given policy name (λ text. judged (policy_of text) (λ rules. served no_extra keyed_digest rules [] session))
 
 -- a count of 64 bits hasn't fallen
 abbrev pub Remains : ℕ → ℕ → Type 0
@@ -65,11 +66,11 @@ IsIdleBefore status.NetFault net net' = Unit {0}
 IsIdleBefore (status.Ends ending) net net' = net' ≡ net
 IsIdleBefore status.ReadFault net net' = net' ≡ net
 
--- a service under a policy that was read, with a link of each of the classes, of callers who sign by a mechanism
-pub record Serves (may : Moment → Type 0) (m : Signing) (policy : Policy) (classes : List ℕ) (result : Result (Unit {0}) Stop) (before after : Seen) (net net' : ℕ) (d : Dealings) : Type 0 where
+-- a service under a policy that was read and behind a journal, with a link of each of the classes, of callers who sign by a mechanism
+pub record Serves (X : Extra) (may : Moment → Type 0) (m : Signing) (policy : Policy) (journal : List Event) (classes : List ℕ) (result : Result (Unit {0}) Stop) (before after : Seen) (net net' : ℕ) (d : Dealings) : Type 0 where
   pub session : Option Session
-  pub does : DoesBy net net' result before after (served m policy session)
-  pub links : Deals d (AreServed (Unit {0}) (IsSession may m policy) session (status_of result) classes)
+  pub does : DoesBy net net' result before after (served X m policy journal session)
+  pub links : Deals d (AreServed (Unit {0}) (IsSession X may m policy journal) session (status_of result) classes)
   pub later : Remains net net'
 
 -- the same under the policy of a name, up to what is due by `finish`

@@ -5,8 +5,9 @@ use Rattle.lnfs_outside.specs.Nets.{Deal, Back}
 use Rattle.lnfs_types.specs.declared.event.Event.{Event}
 use Rattle.lnfs_types.specs.declared.event.Moment.{Moment}
 use Rattle.lnfs_policy.specs.Policy.{Policy}
+use Rattle.lnfs_operations.specs.Extra.{Extra}
 use Rattle.lnfs_gss3.specs.Mechanism.{Signing}
-use Rattle.lnfs_step.specs.Journal.{answer}
+use Rattle.lnfs_step.specs.Journal.{answer_with}
 use Rattle.lnfs_history.specs.declared.entry.Entry.{Entry}
 use Rattle.lnfs_history.specs.Entries.{entry, of}
 use Rattle.lnfs_workers.specs.Links.{IsServed}
@@ -15,7 +16,7 @@ use Rattle.lnfs_workers.specs.declared.line.LinkEnd.{LinkEnd}
 use Rattle.lnfs_workers.specs.declared.ending.Ending.{Ending}
 use Rattle.lnfs_workers.specs.declared.ending.Ending.TheVariants.{Closed, Cut, ReadFault, WriteFault, TooLong, Budget, Memory}
 
--- the journal, and the ends of the links in their order, each with what is told of the link when it is handed back
+-- the events that it served, and the ends of the links in their order, each with what is told of the link when it is handed back
 pub record Session : Type 0 where
   pub journal : List Event
   pub ends : List (LinkEnd Back)
@@ -39,12 +40,9 @@ link_lines number [] = []
 link_lines number (end ∷ ends) = link_line number end ∷ link_lines (number + 1) ends
 
 -- each event with the reply that its requester would get with every event outside its dominance purged from the journal before it
-abbrev pub answered_after : Signing → Policy → (before journal : List Event) → List Entry
-answered_after m policy before [] = []
-answered_after m policy before (e ∷ es) = entry e (answer m policy before e) ∷ answered_after m policy (before ++ e ∷ []) es
-
-abbrev pub answered : Signing → Policy → (journal : List Event) → List Entry
-answered m policy journal = answered_after m policy [] journal
+abbrev pub answered_after : (X : Extra) → Signing → Policy → (before journal : List Event) → List Entry
+answered_after X m policy before [] = []
+answered_after X m policy before (e ∷ es) = entry e (answer_with X m policy before e) ∷ answered_after X m policy (before ++ e ∷ []) es
 
 -- its service found memory
 abbrev pub FoundMemory : {L : Type 0} → LinkEnd L → Type 0
@@ -54,15 +52,15 @@ FoundMemory end = end.ending ≢ Memory
 abbrev pub began : Deal → Back
 began deal = record { left = deal.left; taken = deal.taken; read_faults = 0; write_faults = 0 }
 
--- A service, with a link of each of the classes, and the links that were dealt and handed back for it. `IsServed` says ReadFault or WriteFault only where that count of the link isn't 0.
-pub record IsSession (may : Moment → Type 0) (m : Signing) (policy : Policy) (session : Session) (classes : List ℕ) (deals : List Deal) (backs : List Back) : Type 0 where
+-- A service behind a journal, with a link of each of the classes, and the links that were dealt and handed back for it. `IsServed` says ReadFault or WriteFault only where that count of the link isn't 0.
+pub record IsSession (X : Extra) (may : Moment → Type 0) (m : Signing) (policy : Policy) (before : List Event) (session : Session) (classes : List ℕ) (deals : List Deal) (backs : List Back) : Type 0 where
   -- one link of each class was dealt, in their order, and had taken nothing
   pub dealt : map (λ deal. deal.class) deals ≡ classes
   pub fresh : All (λ deal. IfSome deal.taken (λ bytes. bytes ≡ [])) deals
   -- link by link, the events of the journal are what it gave, at moments of the clock, and it took the frames of the replies that their requesters would get with every event outside their dominance purged
-  pub links : EachAt (λ n deal end. IsServed (λ back. back) may deal.class (began deal) end (of n (answered m policy session.journal))) 0 deals session.ends
+  pub links : EachAt (λ n deal end. IsServed (λ back. back) may deal.class (began deal) end (of n (answered_after X m policy before session.journal))) 0 deals session.ends
   -- the journal has no other events
-  pub others : (link : ℕ) → length deals ≤ link → of link (answered m policy session.journal) ≡ []
+  pub others : (link : ℕ) → length deals ≤ link → of link (answered_after X m policy before session.journal) ≡ []
   -- they were handed back in their order
   pub handed : backs ≡ map (λ end. end.link) session.ends
 

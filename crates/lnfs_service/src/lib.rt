@@ -6,4 +6,4 @@ mod offer;
 mod service;
 
 pub use offer::run_served;
-pub use service::serve;
+pub use service::{NewVault, serve};

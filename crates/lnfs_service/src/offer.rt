@@ -1,19 +1,53 @@
 //! A run that serves links under the policy of a name.
+ghost use Rattle.std.specs.Prelude.{[]};
+ghost use Rattle.lnfs_operations.specs.Extra.{no_extra};
 ghost use Rattle.lnfs_stage.specs.Due.{told};
 ghost use Rattle.lnfs_stage.specs.Does.{HandedOn};
 ghost use Rattle.lnfs_stage.specs.Ending.{status_of};
 ghost use Rattle.lnfs_service.specs.Handed.{dealings};
-ghost use Rattle.lnfs_service.specs.Serves.{IsIdleBefore, Offers};
+ghost use Rattle.lnfs_service.specs.Serves.{IsIdleBefore, Offers, Serves};
 
-use crate::service::serve;
-use lnfs_commands::{Service, rules_of};
+use crate::service::{NewVault, serve};
+use lnfs_commands::{Service, Team, rules_of};
 use lnfs_format::Codecs;
-use lnfs_gss3::KeyedDigest;
+use lnfs_gss3::{KeyedDigest, Mechanism};
 use lnfs_outside::{Clock, Net};
+use lnfs_policy::Policy;
 use lnfs_stage::{Outside, Stop, close, tell};
+use lnfs_vault::Vault;
 use std::alloc::Global;
 use std::sync::Wait;
 use std::thread::Threads;
+
+/// Serves the links of a team in a new server, with the operations of the table alone, whose callers sign by a mechanism.
+fn serve_new<
+    M: Mechanism + Send + Sync + Drop,
+    O: Outside,
+    N: Net,
+    C: Clock + Sync,
+    R: Threads + Wait + Sync,
+>(
+    rt: &R,
+    alloc: Global,
+    codecs: &Codecs,
+    mechanism: M,
+    policy: Policy,
+    team: &Team,
+    outside: &mut O,
+    net: &mut N,
+    clock: &C,
+) -> Result<(), Stop>
+where
+    N::L: Send,
+    ensures serves { Serves no_extra (C.may clock.now) M.signing policy [] team.now.links.items
+        result (O.seen outside.old) (O.seen outside.new) (N.faults net.old) (N.faults net.new)
+        (dealings (N.dealt net.old) (N.dealt net.new) (N.backs net.old) (N.backs net.new)) }
+    ensures idle { IsIdleBefore (status_of result) net.old net.new }
+{
+    let vault = Vault::new(alloc, policy, codecs, mechanism)?;
+    let new = NewVault { vault };
+    serve(rt, alloc, codecs, new, team, outside, net, clock)
+}
 
 /// Serves the links of a team under the policy of a name, all but the ending's line. The net is asked for
 /// nothing before the policy is taken.
@@ -35,16 +69,10 @@ where
     ensures idle { IsIdleBefore (status_of result) net.old net.new }
 {
     let policy = rules_of(alloc, codecs, service.policy, outside)?;
-    serve(
-        rt,
-        alloc,
-        codecs,
-        KeyedDigest,
-        policy,
-        &service.team,
-        outside,
-        net,
-        clock,
+    let team = &service.team;
+    let mechanism = KeyedDigest;
+    serve_new(
+        rt, alloc, codecs, mechanism, policy, team, outside, net, clock,
     )
 }
 

@@ -1,7 +1,6 @@
 //! Serving links, and telling what that came to.
 ghost use Rattle.std.specs.Fmt.{decimal};
 ghost use Rattle.std.specs.Prelude.{◌≡◌, ◌∷◌, ◌++◌, [], All, IfErr, IfOk, OnOk, IsTrue, Some, codes, length, map, string_bytes};
-ghost use Rattle.lnfs_operations.specs.Extra.{no_extra};
 ghost use Rattle.lnfs_types.specs.Moments.{Fits};
 ghost use Rattle.lnfs_traffic.specs.Texts.{recording_text};
 ghost use Rattle.lnfs_workers.specs.Lines.{lines_in, lines_of};
@@ -18,15 +17,14 @@ ghost use Rattle.lnfs_service.specs.Session.{FoundMemory, ending_name, link_line
 
 use crate::links::{hang_up, links_of};
 use lnfs_commands::Team;
-use lnfs_engine::NoExtra;
+use lnfs_engine::ReadExtra;
 use lnfs_format::Codecs;
 use lnfs_gss3::Mechanism;
 use lnfs_outside::{Clock, Net};
-use lnfs_policy::Policy;
 use lnfs_stage::{Outside, Stop};
 use lnfs_step::purge;
 use lnfs_types::Event;
-use lnfs_vault::{AuditLine, Vault, write_line};
+use lnfs_vault::{AuditLine, VaultOf, write_line};
 use lnfs_workers::{Ended, Ending, LinkEnd, OpenGate, serve_all};
 use std::alloc::{AllocError, Global};
 use std::sync::Wait;
@@ -121,20 +119,20 @@ fn tell_journal<O: Outside>(
 }
 
 /// Tells what a service came to, and hands back its links before their lines are written.
-fn tell_session<M: Mechanism + Drop, O: Outside, N: Net>(
+fn tell_session<M: Mechanism + Drop, X: ReadExtra, O: Outside, N: Net>(
     alloc: Global,
-    vault: &Vault<M>,
+    vault: &VaultOf<M, X>,
     lines: &[AuditLine],
     ends: Vec<LinkEnd<N::L>>,
     outside: &mut O,
     net: &mut N,
 ) -> Result<(), Stop>
     requires fits { All Fits vault.now.journal }
-    requires lines { lines_in lines.now ≡ lines_of no_extra M.signing vault.now.policy
+    requires lines { lines_in lines.now ≡ lines_of X.extra M.signing vault.now.policy
         vault.now.journal }
     requires owes { Owes (length ends.items) (N.dealt net.old) (N.backs net.old) }
     ensures does { Does result (O.seen outside.old) (O.seen outside.new)
-        (served M.signing vault.now.policy (Some (record { journal = vault.now.journal; ends = map (told_end (telling N.L.left N.L.taken N.L.read_faults N.L.write_faults)) ends.items }))) }
+        (served X.extra M.signing vault.now.policy [] (Some (record { journal = vault.now.journal; ends = map (told_end (telling N.L.left N.L.taken N.L.read_faults N.L.write_faults)) ends.items }))) }
     ensures untold { IfErr result IsUntold }
     ensures memory { OnOk result (All FoundMemory ends.items) }
     ensures dealt { N.dealt net.new ≡ N.dealt net.old }
@@ -153,18 +151,18 @@ fn tell_session<M: Mechanism + Drop, O: Outside, N: Net>(
 }
 
 /// The same of a service that has ended.
-fn tell<M: Mechanism + Drop, O: Outside, N: Net>(
+fn tell<M: Mechanism + Drop, X: ReadExtra, O: Outside, N: Net>(
     alloc: Global,
-    ended: Ended<M, NoExtra, N::L>,
+    ended: Ended<M, X, N::L>,
     outside: &mut O,
     net: &mut N,
 ) -> Result<(), Stop>
     requires fits { All Fits ended.vault.journal }
-    requires lines { lines_in ended.lines.items ≡ lines_of no_extra M.signing ended.vault.policy
+    requires lines { lines_in ended.lines.items ≡ lines_of X.extra M.signing ended.vault.policy
         ended.vault.journal }
     requires owes { Owes (length ended.ends.items) (N.dealt net.old) (N.backs net.old) }
     ensures does { Does result (O.seen outside.old) (O.seen outside.new)
-        (served M.signing ended.vault.policy (Some (record { journal = ended.vault.journal; ends = map (told_end (telling N.L.left N.L.taken N.L.read_faults N.L.write_faults)) ended.ends.items }))) }
+        (served X.extra M.signing ended.vault.policy [] (Some (record { journal = ended.vault.journal; ends = map (told_end (telling N.L.left N.L.taken N.L.read_faults N.L.write_faults)) ended.ends.items }))) }
     ensures untold { IfErr result IsUntold }
     ensures memory { OnOk result (All FoundMemory ended.ends.items) }
     ensures dealt { N.dealt net.new ≡ N.dealt net.old }
@@ -177,10 +175,18 @@ fn tell<M: Mechanism + Drop, O: Outside, N: Net>(
     tell_session(alloc, &vault, &lines, ends, outside, net)
 }
 
-/// Serves a link of each class of the team by its workers, in a new server whose callers sign by a
-/// mechanism. Then it tells the journal and its lines, and how each link ended.
+/// A vault that was given no event, as the workers begin with.
+#[derive(Drop)]
+pub struct NewVault<M: Mechanism + Drop, X: ReadExtra> {
+    pub vault: VaultOf<M, X>,
+    pub ghost first: { vault.journal ≡ [] },
+}
+
+/// Serves a link of each class of the team by its workers, over one vault. Then it tells the journal and its lines, and how
+/// each link ended.
 pub fn serve<
     M: Mechanism + Send + Sync + Drop,
+    X: ReadExtra + Send,
     O: Outside,
     N: Net,
     C: Clock + Sync,
@@ -189,24 +195,24 @@ pub fn serve<
     rt: &R,
     alloc: Global,
     codecs: &Codecs,
-    mechanism: M,
-    policy: Policy,
+    new: NewVault<M, X>,
     team: &Team,
     outside: &mut O,
     net: &mut N,
     clock: &C,
 ) -> Result<(), Stop>
 where
+    X::Reader: Sync,
     N::L: Send,
-    ensures serves { Serves (C.may clock.now) M.signing policy team.now.links.items result
-        (O.seen outside.old) (O.seen outside.new) (N.faults net.old) (N.faults net.new)
+    ensures serves { Serves X.extra (C.may clock.now) M.signing new.vault.policy new.vault.journal
+        team.now.links.items result (O.seen outside.old) (O.seen outside.new) (N.faults net.old) (N.faults net.new)
         (dealings (N.dealt net.old) (N.dealt net.new) (N.backs net.old) (N.backs net.new)) }
     ensures idle { IsIdleBefore (status_of result) net.old net.new }
 {
     // each reply is the one that its requester would get with what it doesn't dominate purged
-    policy.law_preorder();
-    purge::<NoExtra, M>();
-    let vault = Vault::new(alloc, policy, codecs, mechanism)?;
+    let NewVault { vault } = new;
+    vault.policy().law_preorder();
+    purge::<X, M>();
     let links = links_of(alloc, net, &team.links)?;
     let workers = team.workers;
     let ended = serve_all(rt, alloc, codecs, vault, clock, &OpenGate, links, workers)?;

@@ -18,6 +18,7 @@ use lnfs_test_support::records::read_row;
 use lnfs_test_support::rows::rows_of;
 use lnfs_test_support::runs::{Ran, gives};
 use lnfs_test_support::site::{POLICY, file};
+use lnfs_vault::Vault;
 use std::alloc::{AllocError, Global};
 use std::process::Abort;
 
@@ -153,7 +154,8 @@ fn replay_under(
         out: MemSink::new(alloc, &[])?,
         audit: MemSink::new(alloc, &[])?,
     };
-    let ended = replay(alloc, &codecs, TestMechanism, policy, &mut outside);
+    let mut vault = Vault::new(alloc, policy, &codecs, TestMechanism)?;
+    let ended = replay(alloc, &codecs, &mut vault, &mut outside);
     let World {
         files: _,
         out,

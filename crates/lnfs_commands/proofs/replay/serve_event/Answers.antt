@@ -16,6 +16,6 @@ returns-in_err-put_text-clause-does g c =
 
 pub returns-clause-does : goal.returns-clause-does
 returns-clause-does g c =
-    let line = audit_is_line _ _ _ _ _ c.in_ok-served.ensures.line in
+    let line = audit_is_line _ _ _ _ _ _ c.in_ok-served.ensures.line in
     write_then _ (put_as (c.deref.ensures.value ∙ c.frame-bytes.ensures ∙ ap framed c.in_ok-served.ensures.answer) c.in_ok-put_text.ensures.does)
     (line_as (c.deref-2.ensures.value ∙ c.in_ok-line.ensures ∙ ap (λ l. unwrap_or l []) line) c.put_line.ensures.does)

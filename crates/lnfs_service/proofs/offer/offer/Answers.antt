@@ -10,4 +10,4 @@ pub returns-in_err-policy-clause-idle : goal.returns-in_err-policy-clause-idle
 returns-in_err-policy-clause-idle g c = idle_same _ _
 
 pub returns-clause-offers : goal.returns-clause-offers
-returns-clause-offers g c = offers_served _ _ _ _ c.in_ok-policy.ensures c.serve.ensures.serves
+returns-clause-offers g c = offers_served _ _ _ _ c.in_ok-policy.ensures c.serve_new.ensures.serves
