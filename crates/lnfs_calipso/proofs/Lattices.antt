@@ -1,35 +1,101 @@
 -- The labels of levels.
-use Rattle.std.proofs.Common.{◌≡◌, ℕ, ◌+◌, ◌<◌, Bool, true, false, List, length, get_or, take, sym, ap, ◌∙◌, subst, arith, inl, inr, slice_index_or, length-take, ltb, Some, None}
+use Rattle.std.proofs.Common.{◌≡◌, ℕ, ◌+◌, ◌<◌, ◌==◌, ◌&&◌, Bool, true, false, List, length, get_or, take, refl, sym, ap, ◌∙◌, subst, arith, inl, inr, slice_index_or, length-take, ltb, Some, None, All}
 use Rattle.std.specs.List.{list_any, position_or_len}
 use borrow.Author.Count.{below_more}
 use Rattle.std.proofs.lemmas.List.Folds.{Any-from_list_any, list_any_at}
 use Rattle.std.proofs.lemmas.List.Sums.{fails_before_first}
 use Rattle.std.proofs.lemmas.List.Quantifiers.{position-Some}
-use Rattle.std.proofs.lemmas.Bool.{cases_lt, cases_order, both_ways, cond-true, lt-ltb}
-use Rattle.std.proofs.lemmas.List.{get_or_default, get_or_past, get_or-take}
-use Rattle.lnfs_calipso.specs.Label.{Label, dominates, label_at, lowest, dom_of, IsPreorderWithBottom}
-use Rattle.lnfs_calipso.specs.Levels.{AreLevels, StandsEarlier, Apart, AllAbove, IsPlaceOf, IsNowhere}
+use Rattle.std.proofs.lemmas.Bool.{cases_eq, cases_lt, cases_order, both_ways, cond-true, lt-ltb, ltb-true, or_cases, or_left, or_right, and_parts, and_from, eqb-true, eq-eqb}
+use Rattle.std.proofs.lemmas.List.{get_or_default, get_or-take}
+use Rattle.lnfs_calipso.specs.Label.{Label, IsLabel, dominates, label_at, lowest, dom_of, IsPreorderWithBottom, IsAntisymmetric, IsOfLabels}
+use Rattle.lnfs_calipso.specs.Levels.{StandsEarlier, Apart, AllAbove, IsPlaceOf, IsNowhere}
 use Rattle.lnfs_calipso.specs.Same.{same_label, level_of}
-use Rattle.lnfs_calipso.specs.Equality.{same_label-true, same_label-refl}
-use Rattle.lnfs_calipso.proofs.Orders.{dominates-reflexive, dominates-transitive}
+use Rattle.lnfs_calipso.specs.Equality.{agree, same_label-true, same_label-refl}
+use Rattle.lnfs_calipso.proofs.Orders.{dominates-reflexive, dominates-transitive, dominates-antisymmetric}
 
--- every label of the list dominates the first, and past its end the first stands for all
-all_dominate : (labels : List Label) → AreLevels labels → (a : ℕ) → dominates (label_at labels a) (label_at labels 0) ≡ true
-all_dominate labels are a =
-    elim (cases_lt a (length labels)) [
-      | inl l ↦ are.first.above a l
-      | inr l ↦ past (label_at labels a) (label_at labels 0) (get_or_past labels a (slice_index_or labels 0 lowest) l ∙ get_or_default labels 0 lowest (slice_index_or labels 0 lowest) are.some)
-    ]
-  where
-    past : (a b : Label) → a ≡ b → dominates a b ≡ true
-    past a b e = subst (λ (x : Label). dominates a x ≡ true) e (dominates-reflexive a)
+-- of labels apart no two are equal
+pub one_place : (labels : List Label) → Apart labels (length labels) → (i j : ℕ) → i < length labels → j < length labels → label_at labels i ≡ label_at labels j → i ≡ j
+one_place labels apart i j li lj same =
+    elim (cases_order i j) [ inl e ↦ e | inr o ↦ elim o [ inl l ↦ absurd (apart i j l lj same) | inr g ↦ absurd (apart j i g li (sym same)) ] ]
 
-pub preorder_of : (labels : List Label) → AreLevels labels → IsPreorderWithBottom (dom_of labels)
-preorder_of labels are = record {
-  reflexive = λ a. dominates-reflexive (label_at labels a);
-  transitive = λ a b c. dominates-transitive (label_at labels a) (label_at labels b) (label_at labels c);
-  bottom = all_dominate labels are;
-}
+module _ (labels : List Label) where
+  of_two : (a b : ℕ) → (b ≡ 0 → ⊥) → dom_of labels a b ≡ true → (0 < a) × (dominates (label_at labels a) (label_at labels b) ≡ true)
+  of_two a b some h =
+      elim (or_cases (b == 0) (ltb 0 a && dominates (label_at labels a) (label_at labels b)) h) [
+        | inl zero ↦ absurd (some (eqb-true b 0 zero))
+        | inr both ↦
+            (let parts = and_parts (ltb 0 a) (dominates (label_at labels a) (label_at labels b)) both in
+            (ltb-true 0 a parts.0, parts.1))
+      ]
+
+  two_of : (a b : ℕ) → 0 < a → dominates (label_at labels a) (label_at labels b) ≡ true → dom_of labels a b ≡ true
+  two_of a b pos h = or_right (b == 0) (ltb 0 a && dominates (label_at labels a) (label_at labels b)) (and_from (ltb 0 a) (dominates (label_at labels a) (label_at labels b)) (lt-ltb 0 a pos) h)
+
+  bottom_of : (a b : ℕ) → b ≡ 0 → dom_of labels a b ≡ true
+  bottom_of a b e = or_left (b == 0) (ltb 0 a && dominates (label_at labels a) (label_at labels b)) (eq-eqb b 0 e)
+
+  reflexive_of : (a : ℕ) → dom_of labels a a ≡ true
+  reflexive_of a = elim (cases_eq a 0) [ inl none ↦ bottom_of a a none | inr some ↦ two_of a a (omega arith) (dominates-reflexive (label_at labels a)) ]
+
+  transitive_of : (a b c : ℕ) → dom_of labels a b ≡ true → dom_of labels b c ≡ true → dom_of labels a c ≡ true
+  transitive_of a b c h k =
+      elim (cases_eq c 0) [
+        | inl none ↦ bottom_of a c none
+        | inr some ↦
+            (let lower = of_two b c some k in
+            let some' : b ≡ 0 → ⊥ = λ e. positive b lower.0 e in
+            let upper = of_two a b some' h in
+            two_of a c upper.0 (dominates-transitive (label_at labels a) (label_at labels b) (label_at labels c) upper.1 lower.1))
+      ]
+    where
+      positive : (n : ℕ) → 0 < n → n ≡ 0 → ⊥
+      positive n l e = omega arith
+
+  pub preorder_of : IsPreorderWithBottom (dom_of labels)
+  preorder_of = record { reflexive = reflexive_of; transitive = transitive_of; bottom = λ a. bottom_of a 0 refl }
+
+  -- levels that dominate one another are one
+  pub antisymmetric_of : Apart labels (length labels) → All IsLabel labels → IsAntisymmetric labels (dom_of labels)
+  antisymmetric_of apart are a b al bl h k =
+      elim (cases_eq a 0) [
+        | inl zero_a ↦ elim (cases_eq b 0) [ inl zero_b ↦ zero_a ∙ sym zero_b | inr some_b ↦ (let up = of_two a b some_b h in absurd (positive a up.0 zero_a)) ]
+        | inr some_a ↦
+            (let down = of_two b a some_a k in
+            let up = of_two a b (positive b down.0) h in
+            one_place labels apart a b al bl
+            (dominates-antisymmetric (label_at labels a) (label_at labels b) (is_label a al) (is_label b bl) up.1 down.1))
+      ]
+    where
+      positive : (n : ℕ) → 0 < n → n ≡ 0 → ⊥
+      positive n l e = omega arith
+
+      is_label : (i : ℕ) → i < length labels → IsLabel (label_at labels i)
+      is_label i l = are i (slice_index_or labels 0 lowest) l
+
+  -- where each label dominates the first, the levels are as their labels
+  pub of_labels : Apart labels (length labels) → All IsLabel labels → AllAbove labels (length labels) → IsOfLabels labels (dom_of labels)
+  of_labels apart are above a b al bl = agree (dom_of labels a b) (dominates (label_at labels a) (label_at labels b)) down up
+    where
+      down : dom_of labels a b ≡ true → dominates (label_at labels a) (label_at labels b) ≡ true
+      down h =
+          elim (cases_eq b 0) [
+            | inl none ↦ ap (λ (n : ℕ). dominates (label_at labels a) (label_at labels n)) none ∙ above a al
+            | inr some ↦ (of_two a b some h).1
+          ]
+
+      up : dominates (label_at labels a) (label_at labels b) ≡ true → dom_of labels a b ≡ true
+      up h =
+          elim (cases_eq b 0) [
+            | inl none ↦ bottom_of a b none
+            | inr some ↦
+                elim (cases_eq a 0) [
+                  | inr first ↦ two_of a b (omega arith) h
+                  | inl zero_a ↦
+                      (let low : dominates (label_at labels 0) (label_at labels b) ≡ true = ap (λ (n : ℕ). dominates (label_at labels n) (label_at labels b)) (sym zero_a) ∙ h in
+                      let d = slice_index_or labels 0 lowest in
+                      absurd (apart 0 b (omega arith) bl (dominates-antisymmetric (label_at labels 0) (label_at labels b) (are 0 d (omega arith)) (are b d bl) low (above b bl))))
+                ]
+          ]
 
 -- the label at a place, whatever stands for what is past the end
 pub at : (labels : List Label) (i : ℕ) (x : Label) → i < length labels → x ≡ get_or labels i x → x ≡ label_at labels i
@@ -64,11 +130,6 @@ apart_more labels n apart more i j ij jn same =
 
 pub above_more : (labels : List Label) (n : ℕ) → AllAbove labels n → dominates (label_at labels n) (label_at labels 0) ≡ true → AllAbove labels (n + 1)
 above_more labels n above more = below_more (λ i. dominates (label_at labels i) (label_at labels 0) ≡ true) n above more
-
--- of labels apart no two are equal
-pub one_place : (labels : List Label) → Apart labels (length labels) → (i j : ℕ) → i < length labels → j < length labels → label_at labels i ≡ label_at labels j → i ≡ j
-one_place labels apart i j li lj same =
-    elim (cases_order i j) [ inl e ↦ e | inr o ↦ elim o [ inl l ↦ absurd (apart i j l lj same) | inr g ↦ absurd (apart j i g li (sym same)) ] ]
 
 -- the place of an equal label
 pub place_found : (labels : List Label) (label : Label) (i : ℕ) → level_of labels label ≡ Some i → IsPlaceOf labels label i

@@ -1,5 +1,7 @@
+pub mod Among
+pub mod Binary
 pub mod Bodies
-pub mod BodyLaws
+pub mod BodyWords
 pub mod Covers
 pub mod Lattices
 pub mod Marks

@@ -1,9 +1,9 @@
 -- Sensitivity labels and their dominance (RFC 5570).
-use Rattle.std.specs.Prelude.{◌≡◌, ◌==◌, ◌&&◌, ◌||◌, ◌<◌, ◌^◌, ℕ, Bool, true, List, [], filter, nat_le}
+use Rattle.std.specs.Prelude.{◌≡◌, ◌==◌, ◌&&◌, ◌||◌, ◌<◌, ◌^◌, ℕ, Bool, true, List, [], length, filter, nat_le, nat_lt}
 use Rattle.std.specs.List.{list_any, list_all, range_with_len, slice_index_or}
 use Rattle.lnfs_calipso.specs.declared.bitmap.TheConstants.{COMPARTMENTS}
 
--- A label: the DOI under which it is read, the sensitivity, and the compartments, from 0 to 255, in
+-- A label: the DOI under which it is read, the sensitivity, and the compartments, from 0 to 1,919, in
 -- rising order.
 pub record Label : Type 0 where
   pub doi : ℕ
@@ -30,7 +30,7 @@ abbrev pub with_comp : Label → ℕ → Label
 with_comp label comp = record label { comps = compartments (λ c. has_comp label.comps c || comp == c) }
 
 -- What every label has: a DOI of 32 bits, a sensitivity of 8, and as its compartments those numbers
--- from 0 to 255 that are among them, in rising order and each once.
+-- from 0 to 1,919 that are among them, in rising order and each once.
 pub record IsLabel (label : Label) : Type 0 where
   pub doi : label.doi < 2 ^ 32
   pub sens : label.sens < 2 ^ 8
@@ -48,12 +48,22 @@ lowest = record { doi = 0; sens = 0; comps = [] }
 abbrev pub label_at : List Label → ℕ → Label
 label_at labels level = slice_index_or labels level (slice_index_or labels 0 lowest)
 
--- dominance of levels
+-- Dominance of levels: each dominates level 0, which dominates itself alone; of two others the labels decide.
 abbrev pub dom_of : List Label → ℕ → ℕ → Bool
-dom_of labels a b = dominates (label_at labels a) (label_at labels b)
+dom_of labels a b = b == 0 || (nat_lt 0 a && dominates (label_at labels a) (label_at labels b))
 
 -- Dominance of levels is a preorder, with level 0 below all of them.
 pub record IsPreorderWithBottom (dom : ℕ → ℕ → Bool) : Type 0 where
   pub reflexive : (a : ℕ) → dom a a ≡ true
   pub transitive : (a b c : ℕ) → dom a b ≡ true → dom b c ≡ true → dom a c ≡ true
   pub bottom : (a : ℕ) → dom a 0 ≡ true
+
+-- No two of the levels that a list has dominate one another.
+abbrev pub IsAntisymmetric : List Label → (ℕ → ℕ → Bool) → Type 0
+IsAntisymmetric labels dom =
+    (a b : ℕ) → a < length labels → b < length labels → dom a b ≡ true → dom b a ≡ true → a ≡ b
+
+-- Of the levels that a list has, those dominate that have labels which do (RFC 5570 section 2.4.2).
+abbrev pub IsOfLabels : List Label → (ℕ → ℕ → Bool) → Type 0
+IsOfLabels labels dom =
+    (a b : ℕ) → a < length labels → b < length labels → dom a b ≡ dominates (label_at labels a) (label_at labels b)

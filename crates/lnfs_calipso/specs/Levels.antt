@@ -11,12 +11,10 @@ Apart labels n = (i j : ℕ) → i < j → j < n → label_at labels i ≡ label
 abbrev pub AllAbove : List Label → ℕ → Type 0
 AllAbove labels n = (i : ℕ) → i < n → dominates (label_at labels i) (label_at labels 0) ≡ true
 
--- The first of a site's levels, as far as they are told: at most 32 labels, of which no two are equal and each dominates
--- the first.
+-- The first of a site's levels, as far as they are told: at most 32 labels, of which no two are equal.
 pub record AreFirstLevels (labels : List Label) : Type 0 where
   pub few : length labels ≤ MAX_LEVELS
   pub apart : Apart labels (length labels)
-  pub above : AllAbove labels (length labels)
 
 -- The levels of a site, of which there is at least one.
 pub record AreLevels (labels : List Label) : Type 0 where

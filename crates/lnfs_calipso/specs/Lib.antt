@@ -1,9 +1,8 @@
 pub mod Bitmap
-pub mod Bits
 pub mod Body
 pub mod Equality
 pub mod Label
 pub mod Levels
-pub mod Members
+pub mod Making
 pub mod Refused
 pub mod Same

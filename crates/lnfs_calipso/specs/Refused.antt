@@ -25,10 +25,24 @@ pub record HasNoBottom (labels : List Label) (i : ℕ) : Type 0 where
   pub apart : Apart labels (length labels)
   pub below : MatchBool (length labels == 0) (i ≡ 0) (IsBelow labels i)
 
--- the labels are those of levels, or the first of the three tests that fails says why not
+-- the labels are those of levels, and each dominates the first
+pub record AreTold (labels levels : List Label) : Type 0 where
+  pub same : levels ≡ labels
+  pub levels_are : AreLevels labels
+  pub above : AllAbove labels (length labels)
+
+-- each label dominates the first, or the first of the three tests that fails says why not
 abbrev pub Levels : List Label → Result (List Label) LatticeError → Type 0
-Levels labels (Ok levels) = (levels ≡ labels) × AreLevels labels
+Levels labels (Ok levels) = AreTold labels levels
 Levels labels (Err TooMany) = MAX_LEVELS < length labels
 Levels labels (Err (Twice i)) = IsTwice labels i
 Levels labels (Err (NoBottom i)) = HasNoBottom labels i
 Levels labels (Err Memory) = Unit {0}
+
+-- the first is decreed to be below all: no label stands earlier, or the first of the three tests that fails says why not
+abbrev pub Decreed : List Label → Result (List Label) LatticeError → Type 0
+Decreed labels (Ok levels) = (levels ≡ labels) × AreLevels labels
+Decreed labels (Err TooMany) = MAX_LEVELS < length labels
+Decreed labels (Err (Twice i)) = IsTwice labels i
+Decreed labels (Err (NoBottom i)) = (i ≡ 0) × (length labels ≡ 0)
+Decreed labels (Err Memory) = Unit {0}

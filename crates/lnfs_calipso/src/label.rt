@@ -1,99 +1,112 @@
-ghost use Rattle.std.specs.Prelude.{◌≡◌, [], ◌<◌, ◌≤◌, IfOk, OnOk, IfErr, All, Any};
-ghost use Rattle.lnfs_calipso.specs.Label.{has_comp, labelled, with_comp, dominates, IsLabel};
+ghost use Rattle.std.specs.Prelude.{◌≡◌, [], ◌<◌, ◌≤◌, OnErr, OnOk, All, Any};
+ghost use Rattle.lnfs_calipso.specs.Label.{has_comp, with_comp, dominates, IsLabel};
 ghost use Rattle.lnfs_calipso.specs.Bitmap.{members, IsBitmap};
+ghost use Rattle.lnfs_calipso.specs.Making.{IsMade};
 
-use crate::bitmap::{BITMAP_BYTES, COMPARTMENTS, bitmap_of, covers, has, insert, same};
-use std::alloc::Global;
+use crate::bitmap::{COMPARTMENTS, covers, has, insert, same};
+use std::alloc::{AllocError, Global};
 use std::marker::Model;
 use thiserror::Error;
 
 /// A sensitivity label (RFC 5570 section 2): a domain of interpretation, a sensitivity and a set of
-/// compartments from 0 to 255.
-#[derive(Clone, Copy, Debug)]
+/// compartments from 0 to 1,919. It takes memory up to the word of its highest compartment.
+#[derive(Debug, Drop)]
 pub struct Label {
     doi: u32,
     sens: u8,
-    bits: [u8; BITMAP_BYTES],
+    words: Vec<u32>,
 }
 
 impl Model for Label {
     ghost use Rattle.lnfs_calipso.specs.Label.{Label as LabelValue};
-    ghost use Rattle.lnfs_calipso.specs.Bitmap.{members, bitmap_of, IsBitmap};
-    ghost use Rattle.lnfs_calipso.specs.Bits.{bitmap_of-members};
+    ghost use Rattle.lnfs_calipso.specs.Bitmap.{members, IsBitmap};
 
     ghost Value = { LabelValue };
 
-    ghost view = { λ l. record { doi = l.doi; sens = l.sens; comps = members l.bits } };
+    ghost view = { λ l. record { doi = l.doi; sens = l.sens; comps = members l.words.items } };
 
-    ghost invariant = { λ l. IsBitmap l.bits };
-
-    ghost inverse = { λ l. record { doi = l.doi; sens = l.sens; bits = bitmap_of l.comps } };
-
-    ghost inverse_ok = { λ l h i. record { doi = l.doi; sens = l.sens; bits = bitmap_of-members l.bits h i } };
+    ghost invariant = { λ l. IsBitmap l.words.items };
 }
 
 /// Why there is no label.
 #[derive(Clone, Copy, Debug, PartialEq, Eq, Error)]
 pub enum LabelError {
-    /// A compartment is above 255.
-    #[error("a compartment is above 255")]
+    /// A compartment is above 1,919.
+    #[error("a compartment is above 1919")]
     BadCompartment,
     /// There is no memory.
     #[error("out of memory")]
     Memory,
 }
 
+impl From<AllocError> for LabelError {
+    ghost use Rattle.lnfs_calipso.specs.declared.label.LabelError.TheVariants.{Memory};
+
+    ghost from_gives = { λ _ e. e ≡ Memory };
+
+    fn from(_error: AllocError) -> LabelError {
+        LabelError::Memory
+    }
+}
+
 impl Label {
-    /// The label of the given compartments, in any order. Takes no memory.
+    /// The label of the given compartments, in any order.
     ///
     /// # Errors
     ///
-    /// `BadCompartment` where a compartment is above 255.
-    pub fn new(_alloc: Global, doi: u32, sens: u8, comps: &[u16]) -> Result<Label, LabelError>
-        ensures ok { IfOk result (λ label. label ≡ labelled doi sens comps.now) }
-        ensures below { OnOk result (All (λ c. c < COMPARTMENTS) comps.now) }
-        ensures above { IfErr result (λ e. (e ≡ LabelError.BadCompartment)
-            × Any (λ c. COMPARTMENTS ≤ c) comps.now) }
+    /// `BadCompartment` where a compartment is above 1,919. `Memory` where there is no memory.
+    pub fn new(alloc: Global, doi: u32, sens: u8, comps: &[u16]) -> Result<Label, LabelError>
+        ensures { IsMade doi sens comps.now result }
     {
-        match bitmap_of(comps) {
-            Some(bits) => Ok(Label { doi, sens, bits }),
-            None => Err(LabelError::BadCompartment),
+        let mut label = Label::bare(alloc, doi, sens);
+        for comp in comps {
+            if *comp >= COMPARTMENTS {
+                return Err(LabelError::BadCompartment);
+            }
+            label.insert(*comp)?;
         }
+        Ok(label)
     }
 
-    /// The label without compartments.
-    pub fn bare(doi: u32, sens: u8) -> Label
+    /// The label without compartments. Takes no memory.
+    pub fn bare(alloc: Global, doi: u32, sens: u8) -> Label
         ensures { result ≡ record { doi = doi; sens = sens; comps = [] } }
     {
         Label {
             doi,
             sens,
-            bits: [0; BITMAP_BYTES],
+            words: Vec::new(alloc),
         }
     }
 
     /// Adds a compartment.
-    pub fn insert(&mut self, comp: u16)
+    ///
+    /// # Errors
+    ///
+    /// `AllocError` where there is no memory. Then nothing has changed.
+    pub fn insert(&mut self, comp: u16) -> Result<(), AllocError>
         requires { comp < COMPARTMENTS }
-        ensures { self.new ≡ with_comp self.old comp }
+        ensures ok { OnOk result (self.new ≡ with_comp self.old comp) }
+        ensures err { OnErr result (self.new ≡ self.old) }
     {
-        insert(&mut self.bits, comp);
+        insert(&mut self.words, comp)?;
+        Ok(())
     }
 
-    /// The label of a bitmap of compartments.
-    pub(crate) fn from_bits(doi: u32, sens: u8, bits: [u8; BITMAP_BYTES]) -> Label
-        requires { IsBitmap bits }
-        ensures { result ≡ record { doi = doi; sens = sens; comps = members bits } }
+    /// The label of a bitmap of compartments. Takes no memory.
+    pub(crate) fn of_words(doi: u32, sens: u8, words: Vec<u32>) -> Label
+        requires { IsBitmap words.items }
+        ensures { result ≡ record { doi = doi; sens = sens; comps = members words.items } }
     {
-        Label { doi, sens, bits }
+        Label { doi, sens, words }
     }
 
     /// The bitmap of the compartments.
-    pub(crate) fn bits(&self) -> [u8; BITMAP_BYTES]
-        ensures members { members result ≡ self.now.comps }
-        ensures bytes { IsBitmap result }
+    pub(crate) fn words(&self) -> &[u32]
+        ensures members { members result.now ≡ self.now.comps }
+        ensures bitmap { IsBitmap result.now }
     {
-        self.bits
+        &self.words
     }
 
     /// The domain of interpretation.
@@ -110,18 +123,18 @@ impl Label {
         self.sens
     }
 
-    /// Whether a compartment is in the label; a number above 255 never is.
+    /// Whether a compartment is in the label; a number above 1,919 never is.
     pub fn has(&self, comp: u16) -> bool
         ensures { result ≡ has_comp self.now.comps comp }
     {
-        has(&self.bits, comp)
+        has(&self.words, comp)
     }
 
     /// Whether the label dominates another (RFC 5570 section 2.4.2).
     pub fn dominates(&self, other: &Label) -> bool
         ensures { result ≡ dominates self.now other.now }
     {
-        self.doi == other.doi && other.sens <= self.sens && covers(&self.bits, &other.bits)
+        self.doi == other.doi && other.sens <= self.sens && covers(&self.words, &other.words)
     }
 
     /// What holds of each label.
@@ -130,7 +143,20 @@ impl Label {
     {
         let _doi = self.doi;
         let _sens = self.sens;
-        let _bits = &self.bits;
+        let _words = &self.words;
+    }
+}
+
+impl Clone for Label {
+    ghost is_clone = { λ label copy. copy ≡ label };
+
+    fn clone(&self) -> Result<Label, AllocError> {
+        let words = self.words.clone()?;
+        Ok(Label {
+            doi: self.doi,
+            sens: self.sens,
+            words,
+        })
     }
 }
 
@@ -144,7 +170,7 @@ impl PartialEq for Label {
     ghost laws = { partial_equiv_from_equiv same_label-equivalence };
 
     fn eq(&self, other: &Label) -> bool {
-        self.doi == other.doi && self.sens == other.sens && same(&self.bits, &other.bits)
+        self.doi == other.doi && self.sens == other.sens && same(&self.words, &other.words)
     }
 }
 

@@ -1,8 +1,8 @@
-ghost use Rattle.std.specs.Prelude.{◌≡◌, ℕ, ◌<◌, ◌≤◌, nat_lt, length, IfSome, IfNone, MatchOption};
-ghost use Rattle.lnfs_calipso.specs.Label.{label_at, dom_of, IsPreorderWithBottom};
+ghost use Rattle.std.specs.Prelude.{◌≡◌, ◌<◌, ◌≤◌, nat_lt, length, All, IfSome, IfNone, MatchOption};
+ghost use Rattle.lnfs_calipso.specs.Label.{label_at, dom_of, IsLabel, IsPreorderWithBottom, IsAntisymmetric, IsOfLabels};
 ghost use Rattle.lnfs_calipso.specs.Levels.{AreLevels, Apart, AllAbove, IsPlaceOf, IsNowhere};
 ghost use Rattle.lnfs_calipso.specs.Same.{level_of};
-ghost use Rattle.lnfs_calipso.specs.Refused.{Levels, IsTwice, IsBelow};
+ghost use Rattle.lnfs_calipso.specs.Refused.{Levels, Decreed, IsTwice, IsBelow};
 ghost use Rattle.std.specs.Option.{option_map};
 
 use crate::Level;
@@ -14,7 +14,8 @@ use thiserror::Error;
 /// The largest number of levels of a site.
 pub const MAX_LEVELS: usize = 32;
 
-/// The labels of a site's levels, of which the first is dominated by all.
+/// The labels of a site's levels, of which the first is that of level 0. Each level dominates level 0, which dominates
+/// itself alone; of two others the labels decide.
 #[derive(Debug, Drop)]
 pub struct Lattice {
     labels: Vec<Label>,
@@ -95,7 +96,7 @@ fn place_of(labels: &[Label], label: &Label) -> Option<usize>
 }
 
 impl Lattice {
-    /// The levels of the given labels.
+    /// The levels of the given labels, each of which dominates the first.
     ///
     /// # Errors
     ///
@@ -105,19 +106,32 @@ impl Lattice {
     pub fn new(alloc: Global, labels: &[Label]) -> Result<Lattice, LatticeError>
         ensures { Levels labels.now result }
     {
+        let lattice = Lattice::decreed(alloc, labels)?;
+        match first_not_above(labels, lattice.label(Level(0))) {
+            Some(index) => Err(LatticeError::NoBottom { index }),
+            None => Ok(lattice),
+        }
+    }
+
+    /// The levels of the given labels, of which the first is below all others, whatever it is.
+    ///
+    /// # Errors
+    ///
+    /// In this order: `TooMany` where there are more than 32 labels, `Twice` at the first label that
+    /// stands earlier too, `NoBottom` at 0 where there is no label. `Memory` where there is no memory.
+    pub fn decreed(alloc: Global, labels: &[Label]) -> Result<Lattice, LatticeError>
+        ensures { Decreed labels.now result }
+    {
         if labels.len() > MAX_LEVELS {
             return Err(LatticeError::TooMany);
         }
         if let Some(index) = first_twice(labels) {
             return Err(LatticeError::Twice { index });
         }
-        let Some(bottom) = labels.first() else {
+        if labels.is_empty() {
             return Err(LatticeError::NoBottom { index: 0 });
-        };
-        if let Some(index) = first_not_above(labels, bottom) {
-            return Err(LatticeError::NoBottom { index });
         }
-        let labels = Vec::from_slice(alloc, labels)?;
+        let labels = labels.to_vec(alloc)?;
         Ok(Lattice { labels })
     }
 
@@ -169,7 +183,7 @@ impl Lattice {
         requires b { b.0 < length self.now }
         ensures { result ≡ dom_of self.now a.0 b.0 }
     {
-        self.label(a).dominates(self.label(b))
+        b.0 == 0 || (a.0 > 0 && self.label(a).dominates(self.label(b)))
     }
 
     /// What holds of the labels of levels.
@@ -182,6 +196,15 @@ impl Lattice {
     /// Dominance of levels is a preorder, with level 0 below all of them.
     pub fn law_preorder(&self)
         ensures { IsPreorderWithBottom (dom_of self.now) }
+    {
+        let _labels = &self.labels;
+    }
+
+    /// Dominance of levels is an order. Where each label dominates the first, it is that of the labels.
+    pub fn law_order(&self)
+        ensures antisymmetric { All IsLabel self.now → IsAntisymmetric self.now (dom_of self.now) }
+        ensures labels { All IsLabel self.now → AllAbove self.now (length self.now)
+            → IsOfLabels self.now (dom_of self.now) }
     {
         let _labels = &self.labels;
     }

@@ -5,6 +5,7 @@ use Rattle.std.specs.declared.option.Option.TheVariants.{Some, None}
 use Rattle.hex.specs.Hex.{encode_lower}
 use Rattle.lnfs_policy.specs.Policy.{Policy}
 use Rattle.lnfs_policy.specs.PolicyText.{Refused, policy_of}
+use Rattle.lnfs_policy.specs.Migrated.{in_version_2}
 use Rattle.lnfs_map.specs.Translated.{translated}
 use Rattle.lnfs_map.specs.declared.table.MapError.{MapError}
 use Rattle.lnfs_map.specs.declared.table.MapError.TheVariants as error
@@ -23,7 +24,7 @@ use Rattle.lnfs_stage.specs.Due.{Due, written, ends, given}
 use Rattle.lnfs_stage.specs.Contents.{Contents, first, others}
 use Rattle.lnfs_commands.specs.Events.{audit_with, writes_after}
 use Rattle.lnfs_commands.specs.Summary.{summary}
-use Rattle.lnfs_commands.specs.Words.{Task, check, replay, translate, generate, Form, help, version, under, help_text, version_text}
+use Rattle.lnfs_commands.specs.Words.{Task, check, migrate, replay, translate, generate, Form, help, version, under, help_text, version_text}
 
 -- a text on standard output
 abbrev pub shown : List ℕ → Due
@@ -68,12 +69,14 @@ generation_due X m policy before seed count = shown (summary X m policy before (
 
 abbrev pub files_under : Task → List (List ℕ)
 files_under check = []
+files_under migrate = []
 files_under (replay traffic) = traffic ∷ []
 files_under (generate seed count) = []
 files_under (translate source target bytes) = []
 
 abbrev pub due_under : Policy → Task → Contents → Due
 due_under policy check files = shown policy.text
+due_under policy migrate files = shown (in_version_2 policy.text)
 due_under policy (replay traffic) files = given (first files) traffic (replayed no_extra keyed_digest policy [])
 due_under policy (generate seed count) files = generation_due no_extra keyed_digest policy [] seed count
 due_under policy (translate source target bytes) files = spelled (translated policy.formats policy.labels source target bytes)

@@ -14,12 +14,14 @@ use Rattle.lnfs_commands.specs.declared.command.Asked.TheVariants.{Alone, Serve}
 use Rattle.lnfs_commands.specs.declared.command.Command.{Command}
 use Rattle.lnfs_commands.specs.declared.command.Command.TheVariants.{Help, Version, Under}
 use Rattle.lnfs_commands.specs.declared.command.Task as code
-use Rattle.lnfs_commands.specs.declared.command.Task.TheVariants.{Check, Replay, Translate, Generate}
+use Rattle.lnfs_commands.specs.declared.command.Task.TheVariants.{Check, Migrate, Replay, Translate, Generate}
 
 -- what is asked under a policy
 pub data Task : Type 0 where
   -- its canonical text
   check : Task
+  -- its text in version 2
+  migrate : Task
   -- the replay of the recording of a name
   replay : (traffic : List ℕ) → Task
   -- what spells in the second format the label that the bytes spell in the first
@@ -105,7 +107,7 @@ service policy None workers = None
 -- the form that the words are, if they are one
 abbrev pub form_of : List (List ℕ) → Option Asked
 form_of (a ∷ []) = cond (bytes_eq a (codes "--help")) (Some (alone help)) (cond (bytes_eq a (codes "--version")) (Some (alone version)) None)
-form_of (a ∷ b ∷ []) = cond (bytes_eq a (codes "check")) (Some (alone (under b check))) None
+form_of (a ∷ b ∷ []) = cond (bytes_eq a (codes "check")) (Some (alone (under b check))) (cond (bytes_eq a (codes "migrate")) (Some (alone (under b migrate))) None)
 form_of (a ∷ b ∷ c ∷ []) = cond (bytes_eq a (codes "replay")) (Some (alone (under b (replay c)))) None
 form_of (a ∷ b ∷ c ∷ d ∷ []) = cond (bytes_eq a (codes "generate")) (generation b (seed_in c) (count_in d)) (cond (bytes_eq a (codes "serve")) (service b (classes_in c) (workers_in d)) None)
 form_of (a ∷ b ∷ c ∷ d ∷ e ∷ f ∷ g ∷ []) = cond (bytes_eq a (codes "translate")) (translation b (pair_in c d) (pair_in f g) (bytes_in e)) None
@@ -114,6 +116,7 @@ form_of words = None
 -- the task that the code's value stands for
 abbrev pub task_of : code.Task → Task
 task_of Check = check
+task_of Migrate = migrate
 task_of (Replay traffic) = replay traffic.now
 task_of (Translate source target bytes) = translate source target bytes.items
 task_of (Generate seed count) = generate seed count
@@ -138,6 +141,7 @@ version_text = codes "lnfs 0.1.0\n"
 
 abbrev pub help_text : List ℕ
 help_text = codes "usage: lnfs check POLICY\n"
+    ++ codes "usage: lnfs migrate POLICY\n"
     ++ codes "usage: lnfs translate POLICY LFS PI HEX LFS PI\n"
     ++ codes "usage: lnfs replay POLICY TRAFFIC\n"
     ++ codes "usage: lnfs generate POLICY SEED N\n"
@@ -146,6 +150,9 @@ help_text = codes "usage: lnfs check POLICY\n"
     ++ codes "usage: lnfs --version\n"
     ++ codes "\n"
     ++ codes "check shows the lines of POLICY, without comments and empty lines.\n"
+    ++ codes "\n"
+    ++ codes "migrate shows these lines with 'lnfs-policy 2' in the place of the first. They say the\n"
+    ++ codes "same in version 2.\n"
     ++ codes "\n"
     ++ codes "translate shows in hex, with a newline, the bytes that spell a label in the second\n"
     ++ codes "format, by its number LFS and its policy identifier PI, where the bytes HEX spell\n"

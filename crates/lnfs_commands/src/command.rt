@@ -6,6 +6,7 @@ use lnfs_map::Pair;
 #[derive(Debug, Drop)]
 pub enum Task<'a> {
     Check,
+    Migrate,
     Replay {
         traffic: &'a str,
     },

@@ -9,6 +9,7 @@ ghost use Rattle.lnfs_format.specs.declared.formats.FormatEntry.{FormatEntry};
 ghost use Rattle.lnfs_format.specs.declared.formats.Pair.{Pair};
 ghost use Rattle.lnfs_types.specs.declared.event.Event.{Event};
 ghost use Rattle.lnfs_policy.specs.Policy.{Policy};
+ghost use Rattle.lnfs_policy.specs.Migrated.{in_version_2};
 ghost use Rattle.lnfs_policy.specs.PolicyText.{policy_of};
 ghost use Rattle.lnfs_stage.specs.Writes.{on_out, on_audit};
 ghost use Rattle.lnfs_commands.specs.Events.{writes_after, frames_after, lines_after};
@@ -23,6 +24,15 @@ pub fn streams()
         Option (List ℕ)) (journal events : List Event) →
         on_audit (writes_after reply line journal events) ≡ lines_after line journal events }
 {}
+
+/// The text that `migrate` shows spells a policy of version 2 that says the same.
+pub fn migration()
+    ensures { (text : List ℕ) (p : Policy) → policy_of text ≡ Ok p
+        → policy_of (in_version_2 p.text)
+        ≡ Ok (record p { text = in_version_2 p.text; version = 2 }) }
+{
+    lnfs_policy::laws::migration();
+}
 
 /// Under a policy a translation keeps the level, and so dominance in both directions. What is told of it isn't
 /// want of memory.

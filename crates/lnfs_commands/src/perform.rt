@@ -13,7 +13,7 @@ use crate::command::{Command, Task};
 use crate::replay::replay;
 use crate::rules::rules_of;
 use crate::summary::sum_up;
-use crate::texts::{check, translate};
+use crate::texts::{check, migrate, translate};
 use crate::words::{help, version};
 use lnfs_format::Codecs;
 use lnfs_gss3::KeyedDigest;
@@ -69,6 +69,7 @@ fn perform<O: Outside>(
 {
     match task {
         Task::Check => check(alloc, &policy, outside),
+        Task::Migrate => migrate(alloc, &policy, outside),
         Task::Replay { traffic } => replay_file(alloc, codecs, policy, traffic, outside),
         Task::Translate {
             source,

@@ -2,6 +2,7 @@
 ghost use Rattle.std.specs.Prelude.{◌≡◌, ◌++◌, ◌∷◌, []};
 ghost use Rattle.hex.specs.Hex.{encode_lower};
 ghost use Rattle.lnfs_map.specs.Translated.{translated};
+ghost use Rattle.lnfs_policy.specs.Migrated.{in_version_2};
 ghost use Rattle.lnfs_stage.specs.Does.{Does};
 ghost use Rattle.lnfs_commands.specs.Commands.{shown, spelled, stop_of};
 
@@ -16,6 +17,15 @@ pub fn check<O: Outside>(alloc: Global, policy: &Policy, outside: &mut O) -> Res
     ensures { Does result (O.seen outside.old) (O.seen outside.new) (shown policy.now.text) }
 {
     let text = write_policy(alloc, policy)?;
+    outside.put_text(&text)
+}
+
+/// Shows the text of a policy in version 2.
+pub fn migrate<O: Outside>(alloc: Global, policy: &Policy, outside: &mut O) -> Result<(), Stop>
+    ensures { Does result (O.seen outside.old) (O.seen outside.new)
+        (shown (in_version_2 policy.now.text)) }
+{
+    let text = lnfs_policy::migrate(alloc, policy)?;
     outside.put_text(&text)
 }
 

@@ -25,6 +25,7 @@ const MOST_WORKERS: u64 = 16;
 const VERSION: &str = "lnfs 0.1.0\n";
 
 const HELP: &str = "usage: lnfs check POLICY\n\
+usage: lnfs migrate POLICY\n\
 usage: lnfs translate POLICY LFS PI HEX LFS PI\n\
 usage: lnfs replay POLICY TRAFFIC\n\
 usage: lnfs generate POLICY SEED N\n\
@@ -33,6 +34,9 @@ usage: lnfs --help\n\
 usage: lnfs --version\n\
 \n\
 check shows the lines of POLICY, without comments and empty lines.\n\
+\n\
+migrate shows these lines with 'lnfs-policy 2' in the place of the first. They say the\n\
+same in version 2.\n\
 \n\
 translate shows in hex, with a newline, the bytes that spell a label in the second\n\
 format, by its number LFS and its policy identifier PI, where the bytes HEX spell\n\
@@ -78,6 +82,10 @@ pub fn command_of<'a>(alloc: Global, words: &'a [String]) -> Result<Option<Asked
         [word, policy] if word.as_str() == "check" => Ok(Some(Asked::Alone(Command::Under {
             policy: policy.as_str(),
             task: Task::Check,
+        }))),
+        [word, policy] if word.as_str() == "migrate" => Ok(Some(Asked::Alone(Command::Under {
+            policy: policy.as_str(),
+            task: Task::Migrate,
         }))),
         [word, policy, traffic] if word.as_str() == "replay" => Ok(Some(Asked::Alone(
             Command::Under {

@@ -1,5 +1,7 @@
+pub mod CompLaws
 pub mod Digits
 pub mod KindLaws
+pub mod LongLaws
 pub mod RangeLemmas
 pub mod ReadLemmas
 pub mod RunLemmas

@@ -3,7 +3,7 @@ use Rattle.std.proofs.Common.{◌≡◌, ℕ, ◌+◌, ◌<◌, ◌≤◌, ◌&&
 use Rattle.std.proofs.lemmas.Bool.{false≢true, lt-ltb}
 use Rattle.std.proofs.lemmas.Bool.Decides.{nat_tests}
 use Rattle.lnfs_calipso.specs.Label.{Label, IsLabel, has_comp, compartments, with_comp}
-use Rattle.lnfs_calipso.specs.Members.{has_comp-compartments}
+use Rattle.lnfs_calipso.proofs.Among.{has_comp-compartments}
 use Rattle.lnfs_calipso.proofs.Members.{compartments-agree, no_compartments}
 use Rattle.lnfs_calipso.specs.Equality.{same_parts}
 use Rattle.lnfs_format.specs.Reading.{with_range}
@@ -34,7 +34,7 @@ range_more label low n l =
     let p = λ (c : ℕ). has_comp label.comps c || (leb low c && ltb c n) in
     same_parts (with_comp (between label low n) n) (between label low (n + 1)) refl refl
     (compartments-agree (λ c. has_comp (compartments p) c || eqb n c) (λ c. has_comp label.comps c || (leb low c && ltb c (n + 1))) (λ c u.
-    ap (λ b. b || eqb n c) (has_comp-compartments p c ∙ true_and (ltb c 256) (p c) (lt-ltb c 256 u)) ∙ one_between (has_comp label.comps c) low n c l))
+    ap (λ b. b || eqb n c) (has_comp-compartments p c ∙ true_and (ltb c 1920) (p c) (lt-ltb c 1920 u)) ∙ one_between (has_comp label.comps c) low n c l))
 
 all_between : (h : Bool) (low high n c : ℕ) → high + 1 ≤ n → n ≤ max low (high + 1) → (h || (leb low c && ltb c n)) ≡ (h || (leb low c && leb c high))
 all_between true low high n c l u = refl
@@ -50,5 +50,5 @@ pub some_comp : (comps : List ℕ) (c : ℕ) → has_comp comps c ≡ true → (
 some_comp [] c h = absurd (false≢true h)
 some_comp (d ∷ others) c h = (others, d, refl)
 
-pub no_comp : (comps : List ℕ) → comps ≡ compartments (has_comp comps) → ((c : ℕ) → c < 256 → has_comp comps c ≡ false) → comps ≡ []
+pub no_comp : (comps : List ℕ) → comps ≡ compartments (has_comp comps) → ((c : ℕ) → c < 1920 → has_comp comps c ≡ false) → comps ≡ []
 no_comp comps is h = is ∙ compartments-agree (has_comp comps) (λ _. false) h ∙ no_compartments (λ _. false) (λ _. refl)

@@ -79,36 +79,36 @@ whole p a (suc m) n h e =
     ∙ joined a (a + 1 + m) (runs p (a + 1 + m + 1) n)
     ∙ ap (λ (k : ℕ). record { first = a; last = k } ∷ runs p (k + 1) n) (omega arith)
 
--- from a number that isn't above 256 up to the next compartment
-pub skip_to : (comps : List ℕ) (from c : ℕ) → from ≤ c → c ≤ 256 → ((k : ℕ) → from ≤ k → k < c → has_comp comps k ≡ false) → runs_from comps from ≡ runs_from comps c
+-- from a number that isn't above 1920 up to the next compartment
+pub skip_to : (comps : List ℕ) (from c : ℕ) → from ≤ c → c ≤ 1920 → ((k : ℕ) → from ≤ k → k < c → has_comp comps k ≡ false) → runs_from comps from ≡ runs_from comps c
 unfolding runs_from runs
 skip_to comps from c l u h =
     let p = has_comp comps in
     ap (λ (n : ℕ). runs_of (numbers_from p from n)) (split from c l u)
-    ∙ skipped p from (c - from) (256 - c) (λ k a b. h k a (omega arith))
-    ∙ ap (λ (k : ℕ). runs_of (numbers_from p k (256 - c))) (omega arith)
+    ∙ skipped p from (c - from) (1920 - c) (λ k a b. h k a (omega arith))
+    ∙ ap (λ (k : ℕ). runs_of (numbers_from p k (1920 - c))) (omega arith)
   where
-    split : (from c : ℕ) → from ≤ c → c ≤ 256 → 256 - from ≡ (c - from) + (256 - c)
+    split : (from c : ℕ) → from ≤ c → c ≤ 1920 → 1920 - from ≡ (c - from) + (1920 - c)
     split from c l u = omega arith
 
-ends : (comps : List ℕ) → runs_from comps 256 ≡ []
+ends : (comps : List ℕ) → runs_from comps 1920 ≡ []
 unfolding runs_from numbers_from
 ends comps = refl
 
-pub no_runs : (comps : List ℕ) (from : ℕ) → from ≤ 256 → ((k : ℕ) → from ≤ k → k < 256 → has_comp comps k ≡ false) → runs_from comps from ≡ []
-no_runs comps from l h = skip_to comps from 256 l (omega arith) h ∙ ends comps
+pub no_runs : (comps : List ℕ) (from : ℕ) → from ≤ 1920 → ((k : ℕ) → from ≤ k → k < 1920 → has_comp comps k ≡ false) → runs_from comps from ≡ []
+no_runs comps from l h = skip_to comps from 1920 l (omega arith) h ∙ ends comps
 
-pub run_from : (comps : List ℕ) (first last : ℕ) → first ≤ last → last < 256 → ((k : ℕ) → first ≤ k → k ≤ last → has_comp comps k ≡ true) → (last + 1 < 256 → has_comp comps (last + 1) ≡ false)
+pub run_from : (comps : List ℕ) (first last : ℕ) → first ≤ last → last < 1920 → ((k : ℕ) → first ≤ k → k ≤ last → has_comp comps k ≡ true) → (last + 1 < 1920 → has_comp comps (last + 1) ≡ false)
     → runs_from comps first ≡ record { first = first; last = last } ∷ runs_from comps (last + 1)
 unfolding runs_from runs
 run_from comps first last l u h e =
     let p = has_comp comps in
     let same : first + (last - first) ≡ last = omega arith in
     ap (λ (n : ℕ). runs_of (numbers_from p first n)) (split first last l u)
-    ∙ whole p first (last - first) (256 - (last + 1)) (λ k a b. h k a (omega arith)) (λ pos. ap (λ (k : ℕ). p (k + 1)) same ∙ e (omega arith))
-    ∙ ap (λ (k : ℕ). record { first = first; last = k } ∷ runs_of (numbers_from p (k + 1) (256 - (last + 1)))) same
+    ∙ whole p first (last - first) (1920 - (last + 1)) (λ k a b. h k a (omega arith)) (λ pos. ap (λ (k : ℕ). p (k + 1)) same ∙ e (omega arith))
+    ∙ ap (λ (k : ℕ). record { first = first; last = k } ∷ runs_of (numbers_from p (k + 1) (1920 - (last + 1)))) same
   where
-    split : (first last : ℕ) → first ≤ last → last < 256 → 256 - first ≡ suc ((last - first) + (256 - (last + 1)))
+    split : (first last : ℕ) → first ≤ last → last < 1920 → 1920 - first ≡ suc ((last - first) + (1920 - (last + 1)))
     split first last l u = omega arith
 
 numbers_below-from : (n : ℕ) (p : ℕ → Bool) → numbers_below n p ≡ numbers_from p 0 n
@@ -118,7 +118,7 @@ numbers_below-from n p = refl
 -- all runs of a label
 pub all_runs : (comps : List ℕ) → comps ≡ compartments (has_comp comps) → runs_of comps ≡ runs_from comps 0
 unfolding runs_from
-all_runs comps is = ap runs_of (is ∙ numbers_below-from 256 (has_comp comps))
+all_runs comps is = ap runs_of (is ∙ numbers_below-from 1920 (has_comp comps))
 
 pub none_written : (comps text : List ℕ) → comps ≡ compartments (has_comp comps) → runs_from comps 0 ≡ [] → text ≡ text ++ comps_text comps
 none_written comps text is none = sym (append-nil text) ∙ ap (λ (rs : List Run). text ++ runs_text rs) (sym (all_runs comps is ∙ none))

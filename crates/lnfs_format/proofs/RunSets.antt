@@ -3,7 +3,7 @@ use Rattle.std.proofs.Common.{◌≡◌, ℕ, ◌+◌, ◌<◌, ◌≤◌, ◌&&
 use Rattle.std.proofs.lemmas.Bool.{cases_Bool, cond-true, cond-false, eqb-true, eq-eqb, lt-ltb, or_left, or_right}
 use Rattle.std.proofs.lemmas.Bool.Decides.{nat_tests}
 use Rattle.lnfs_calipso.specs.Label.{Label, IsLabel, has_comp, compartments}
-use Rattle.lnfs_calipso.specs.Members.{has_comp-compartments}
+use Rattle.lnfs_calipso.proofs.Among.{has_comp-compartments}
 use Rattle.lnfs_calipso.proofs.Members.{has_comp-below, compartments-agree, no_compartments}
 use Rattle.lnfs_calipso.specs.Equality.{same_parts}
 use Rattle.lnfs_format.specs.Text.{Run, join, runs_of}
@@ -41,7 +41,7 @@ in_runs-join a (run ∷ runs) order c =
           ap (λ (rs : List Run). in_runs rs c) (cond-false (eqb run.first (a + 1)) longer more apart) ∙ ap (λ b. b || in_runs (run ∷ runs) c) (alone a c)
     ]
 
-ordered-join : (a : ℕ) (runs : List Run) → a < 256 → Ordered runs → Ordered (join a runs)
+ordered-join : (a : ℕ) (runs : List Run) → a < 1920 → Ordered runs → Ordered (join a runs)
 unfolding Ordered
 ordered-join a [] l order = (omega arith, l, tt)
 ordered-join a (run ∷ runs) l order =
@@ -56,17 +56,17 @@ ordered-join a (run ∷ runs) l order =
     below : (a first last : ℕ) → first ≡ a + 1 → first ≤ last → a ≤ last
     below a first last e l = omega arith
 
-pub ordered-runs_of : (comps : List ℕ) → ((c : ℕ) → has_comp comps c ≡ true → c < 256) → Ordered (runs_of comps)
+pub ordered-runs_of : (comps : List ℕ) → ((c : ℕ) → has_comp comps c ≡ true → c < 1920) → Ordered (runs_of comps)
 unfolding Ordered
 ordered-runs_of [] h = tt
 ordered-runs_of (c ∷ comps) h =
     ordered-join c (runs_of comps) (h c (or_left (eqb c c) (has_comp comps c) (eq-eqb c c refl))) (ordered-runs_of comps (λ d i. h d (or_right (eqb c d) (has_comp comps d) i)))
 
 -- the runs of a list have its numbers
-pub in_runs-runs_of : (comps : List ℕ) → ((c : ℕ) → has_comp comps c ≡ true → c < 256) → (c : ℕ) → in_runs (runs_of comps) c ≡ has_comp comps c
+pub in_runs-runs_of : (comps : List ℕ) → ((c : ℕ) → has_comp comps c ≡ true → c < 1920) → (c : ℕ) → in_runs (runs_of comps) c ≡ has_comp comps c
 in_runs-runs_of [] h c = refl
 in_runs-runs_of (d ∷ comps) h c =
-    let h' : (c : ℕ) → has_comp comps c ≡ true → c < 256 = λ e i. h e (or_right (eqb d e) (has_comp comps e) i) in
+    let h' : (c : ℕ) → has_comp comps c ≡ true → c < 1920 = λ e i. h e (or_right (eqb d e) (has_comp comps e) i) in
     in_runs-join d (runs_of comps) (ordered-runs_of comps h') c ∙ ap (λ b. eqb d c || b) (in_runs-runs_of comps h' c)
 
 or_false : (x : Bool) → (x || false) ≡ x
@@ -84,19 +84,19 @@ with_runs-is label (run ∷ runs) is =
     with_runs-is (with_range label run.first run.last) runs (again p)
     ∙ same_parts (record label { comps = compartments (λ c. has_comp (compartments p) c || in_runs runs c) }) (record label { comps = compartments (λ c. has_comp label.comps c || in_runs (run ∷ runs) c) }) refl refl
     (compartments-agree (λ c. has_comp (compartments p) c || in_runs runs c) (λ c. has_comp label.comps c || in_runs (run ∷ runs) c) (λ c l.
-    ap (λ b. b || in_runs runs c) (has_comp-compartments p c ∙ true_and (ltb c 256) (p c) (lt-ltb c 256 l))
+    ap (λ b. b || in_runs runs c) (has_comp-compartments p c ∙ true_and (ltb c 1920) (p c) (lt-ltb c 1920 l))
     ∙ or_assoc (has_comp label.comps c) (leb run.first c && leb c run.last) (in_runs runs c)))
   where
     again : (p : ℕ → Bool) → compartments p ≡ compartments (has_comp (compartments p))
-    again p = compartments-agree p (has_comp (compartments p)) (λ c l. sym (has_comp-compartments p c ∙ true_and (ltb c 256) (p c) (lt-ltb c 256 l)))
+    again p = compartments-agree p (has_comp (compartments p)) (λ c l. sym (has_comp-compartments p c ∙ true_and (ltb c 1920) (p c) (lt-ltb c 1920 l)))
 
 -- the label that has all runs of some compartments
 pub all_runs_of : (label : Label) → IsLabel label → with_runs (record label { comps = [] }) (runs_of label.comps) ≡ label
 all_runs_of label is =
-    let below : (c : ℕ) → has_comp label.comps c ≡ true → c < 256 = λ c h. has_comp-below (has_comp label.comps) c (ap (λ (xs : List ℕ). has_comp xs c) (sym is.comps) ∙ h) in
+    let below : (c : ℕ) → has_comp label.comps c ≡ true → c < 1920 = λ c h. has_comp-below (has_comp label.comps) c (ap (λ (xs : List ℕ). has_comp xs c) (sym is.comps) ∙ h) in
     with_runs-is (record label { comps = [] }) (runs_of label.comps) (sym (no_compartments (λ _. false) (λ _. refl)))
     ∙ same_parts (record label { comps = compartments (λ c. in_runs (runs_of label.comps) c) }) label refl refl
     (compartments-agree (in_runs (runs_of label.comps)) (has_comp label.comps) (λ c l. in_runs-runs_of label.comps below c) ∙ sym is.comps)
 
-pub comps-below : (label : Label) → IsLabel label → (c : ℕ) → has_comp label.comps c ≡ true → c < 256
+pub comps-below : (label : Label) → IsLabel label → (c : ℕ) → has_comp label.comps c ≡ true → c < 1920
 comps-below label is c h = has_comp-below (has_comp label.comps) c (ap (λ (xs : List ℕ). has_comp xs c) (sym is.comps) ∙ h)

@@ -1,30 +1,30 @@
 -- The text of a label is read as that label.
-use Rattle.std.proofs.Common.{◌≡◌, ℕ, ◌+◌, ◌-◌, ◌*◌, ◌/◌, ◌%◌, ◌<◌, ◌≤◌, ◌&&◌, ◌||◌, Bool, true, false, eqb, leb, List, [], ◌∷◌, ◌++◌, Option, Some, None, refl, ap, ◌∙◌, subst, arith, inl, inr, append_assoc, unwrap_or}
+use Rattle.std.proofs.Common.{◌≡◌, ℕ, ◌+◌, ◌-◌, ◌*◌, ◌/◌, ◌%◌, ◌<◌, ◌≤◌, ◌&&◌, ◌||◌, Bool, true, false, eqb, leb, ltb, List, [], ◌∷◌, ◌++◌, Option, Some, None, refl, ap, ◌∙◌, subst, arith, inl, inr, append_assoc, unwrap_or}
 use Rattle.std.specs.Option.{option_and_then}
 use Rattle.std.specs.Fmt.{decimal}
 use Rattle.std.specs.List.{flat_map}
 use Rattle.std.proofs.lemmas.Bool.{cases_lt, cases_eq, cond-true, cond-false, le-leb, lt-ltb, eq-eqb, ne_eqb}
 use Rattle.std.proofs.lemmas.Bool.Decides.{nat_tests}
 use Rattle.lnfs_calipso.specs.Label.{Label, has_comp, compartments}
-use Rattle.lnfs_calipso.specs.Members.{has_comp-compartments}
+use Rattle.lnfs_calipso.proofs.Among.{has_comp-compartments}
 use Rattle.lnfs_calipso.proofs.Members.{compartments-agree}
 use Rattle.lnfs_calipso.specs.Equality.{same_parts}
 use Rattle.lnfs_format.specs.declared.reading.Reading.{Reading}
 use Rattle.lnfs_format.specs.Text.{Run, comp_text, run_text, next_text, runs_text}
 use Rattle.lnfs_format.specs.Reading.{with_range, bare, closed, step, read_bytes}
-use Rattle.lnfs_format.proofs.Digits.{one_digit, two_digits, three_digits}
+use Rattle.lnfs_format.proofs.Digits.{one_digit, two_digits, three_digits, four_digits}
 
 -- a byte is read
 pub one : (r s : Reading) (byte : ℕ) (rest : List ℕ) → step r byte ≡ Some s → read_bytes r (byte ∷ rest) ≡ read_bytes s rest
 one r s byte rest h = ap (option_and_then (λ t. read_bytes t rest)) h
 
-step_digit : (r : Reading) (d : ℕ) → d < 10 → 10 * r.number + d ≤ 255 → step r (48 + d) ≡ Some (record r { number = 10 * r.number + d })
+step_digit : (r : Reading) (d : ℕ) → d < 10 → 10 * r.number + d < 1920 → step r (48 + d) ≡ Some (record r { number = 10 * r.number + d })
 unfolding step
 step_digit r d l u =
     let value : 48 + d - 48 ≡ d = omega arith in
     let low : leb 48 (48 + d) ≡ true = le-leb 48 (48 + d) (omega arith) in
     let high : leb (48 + d) 57 ≡ true = le-leb (48 + d) 57 (omega arith) in
-    let fits : leb (10 * r.number + d) 255 ≡ true = le-leb (10 * r.number + d) 255 u in
+    let fits : ltb (10 * r.number + d) 1920 ≡ true = lt-ltb (10 * r.number + d) 1920 u in
     rw (low, high, value, fits)
 
 step_letter : (r : Reading) → step r 99 ≡ Some (record r { number = 0 })
@@ -35,9 +35,9 @@ pub step_first : (r : Reading) → step r 115 ≡ Some (record r { number = 0 })
 unfolding step
 step_first r = refl
 
-pub step_colon : (r : Reading) → step r 58 ≡ Some (record r { label = bare r.label.doi r.number; in_comps = true })
+pub step_colon : (r : Reading) → r.number < 256 → step r 58 ≡ Some (record r { label = bare r.label.doi r.number; in_comps = true })
 unfolding step
-step_colon r = refl
+step_colon r l = cond-true (ltb r.number 256) (Some (record r { label = bare r.label.doi r.number; in_comps = true })) None (lt-ltb r.number 256 l)
 
 step_comma : (r : Reading) → step r 44 ≡ Some (record r { label = closed r; from = None })
 unfolding step
@@ -50,12 +50,12 @@ step_dot r = refl
 unfoldable pub with_number : Reading → ℕ → Reading
 with_number r n = record r { number = n }
 
-digit : (r : Reading) (m d : ℕ) (rest : List ℕ) → d < 10 → 10 * m + d ≤ 255 → read_bytes (with_number r m) ((48 + d) ∷ rest) ≡ read_bytes (with_number r (10 * m + d)) rest
+digit : (r : Reading) (m d : ℕ) (rest : List ℕ) → d < 10 → 10 * m + d < 1920 → read_bytes (with_number r m) ((48 + d) ∷ rest) ≡ read_bytes (with_number r (10 * m + d)) rest
 unfolding with_number
 digit r m d rest l u = one (record r { number = m }) (record r { number = 10 * m + d }) (48 + d) rest (step_digit (record r { number = m }) d l u)
 
 -- a number is read
-pub number_read : (r : Reading) (n : ℕ) (rest : List ℕ) → n < 256 → read_bytes (with_number r 0) (decimal n ++ rest) ≡ read_bytes (with_number r n) rest
+pub number_read : (r : Reading) (n : ℕ) (rest : List ℕ) → n < 1920 → read_bytes (with_number r 0) (decimal n ++ rest) ≡ read_bytes (with_number r n) rest
 number_read r n rest l =
     let read = λ (text : List ℕ). read_bytes (with_number r 0) (text ++ rest) in
     elim (cases_lt n 10) [
@@ -66,17 +66,26 @@ number_read r n rest l =
             ∙ digit r 0 (n / 10) ((48 + n % 10) ∷ rest) (omega arith) (omega arith)
             ∙ digit r (10 * 0 + n / 10) (n % 10) rest (omega arith) (omega arith)
             ∙ ap (λ (m : ℕ). read_bytes (with_number r m) rest) (omega arith)
-        | inr hundred ↦
-            ap read (three_digits n hundred (omega arith))
-            ∙ digit r 0 (n / 100) ((48 + n / 10 % 10) ∷ (48 + n % 10) ∷ rest) (omega arith) (omega arith)
-            ∙ digit r (10 * 0 + n / 100) (n / 10 % 10) ((48 + n % 10) ∷ rest) (omega arith) (omega arith)
-            ∙ digit r (10 * (10 * 0 + n / 100) + n / 10 % 10) (n % 10) rest (omega arith) (omega arith)
-            ∙ ap (λ (m : ℕ). read_bytes (with_number r m) rest) (omega arith)
+        | inr hundred ↦ elim (cases_lt n 1000) [
+          | inl short ↦
+              ap read (three_digits n hundred short)
+              ∙ digit r 0 (n / 100) ((48 + n / 10 % 10) ∷ (48 + n % 10) ∷ rest) (omega arith) (omega arith)
+              ∙ digit r (10 * 0 + n / 100) (n / 10 % 10) ((48 + n % 10) ∷ rest) (omega arith) (omega arith)
+              ∙ digit r (10 * (10 * 0 + n / 100) + n / 10 % 10) (n % 10) rest (omega arith) (omega arith)
+              ∙ ap (λ (m : ℕ). read_bytes (with_number r m) rest) (omega arith)
+          | inr thousand ↦
+              ap read (four_digits n thousand (omega arith))
+              ∙ digit r 0 (n / 1000) ((48 + n / 100 % 10) ∷ (48 + n / 10 % 10) ∷ (48 + n % 10) ∷ rest) (omega arith) (omega arith)
+              ∙ digit r (10 * 0 + n / 1000) (n / 100 % 10) ((48 + n / 10 % 10) ∷ (48 + n % 10) ∷ rest) (omega arith) (omega arith)
+              ∙ digit r (10 * (10 * 0 + n / 1000) + n / 100 % 10) (n / 10 % 10) ((48 + n % 10) ∷ rest) (omega arith) (omega arith)
+              ∙ digit r (10 * (10 * (10 * 0 + n / 1000) + n / 100 % 10) + n / 10 % 10) (n % 10) rest (omega arith) (omega arith)
+              ∙ ap (λ (m : ℕ). read_bytes (with_number r m) rest) (omega arith)
+        ]
       ]
     ]
 
 -- a compartment is read
-comp_read : (r : Reading) (n : ℕ) (rest : List ℕ) → n < 256 → read_bytes r (comp_text n ++ rest) ≡ read_bytes (record r { number = n }) rest
+comp_read : (r : Reading) (n : ℕ) (rest : List ℕ) → n < 1920 → read_bytes r (comp_text n ++ rest) ≡ read_bytes (record r { number = n }) rest
 unfolding with_number
 comp_read r n rest l = one r (record r { number = 0 }) 99 (decimal n ++ rest) (step_letter r) ∙ number_read r n rest l
 
@@ -91,7 +100,7 @@ two_ranges label a b e =
     let p = λ (c : ℕ). has_comp label.comps c || (leb a c && leb c a) in
     same_parts (with_range (with_range label a a) b b) (with_range label a b) refl refl
     (compartments-agree (λ c. has_comp (compartments p) c || (leb b c && leb c b)) (λ c. has_comp label.comps c || (leb a c && leb c b)) (λ c l.
-    ap (λ x. x || (leb b c && leb c b)) (has_comp-compartments p c ∙ ap (λ x. x && p c) (lt-ltb c 256 l)) ∙ both (has_comp label.comps c) a b c e))
+    ap (λ x. x || (leb b c && leb c b)) (has_comp-compartments p c ∙ ap (λ x. x && p c) (lt-ltb c 1920 l)) ∙ both (has_comp label.comps c) a b c e))
   where
     both : (h : Bool) (a b c : ℕ) → a + 1 ≡ b → ((h || (leb a c && leb c a)) || (leb b c && leb c b)) ≡ (h || (leb a c && leb c b))
     both true a b c e = refl
@@ -104,7 +113,7 @@ record Ran (r : Reading) (run : Run) : Type 0 where
   label : closed after ≡ with_range r.label run.first run.last
   reads : (rest : List ℕ) → read_bytes r (run_text run ++ rest) ≡ read_bytes after rest
 
-single : (r : Reading) (n : ℕ) → Between r → n < 256 → Ran r (record { first = n; last = n })
+single : (r : Reading) (n : ℕ) → Between r → n < 1920 → Ran r (record { first = n; last = n })
 unfolding run_text
 single r n is l = record {
   after = record r { number = n };
@@ -114,7 +123,7 @@ single r n is l = record {
       ap (λ (text : List ℕ). read_bytes r (text ++ rest)) (cond-true (eqb n n) (comp_text n) _ (eq-eqb n n refl)) ∙ comp_read r n rest l;
 }
 
-pair_of : (r : Reading) (a b : ℕ) → Between r → a + 1 ≡ b → b < 256 → Ran r (record { first = a; last = b })
+pair_of : (r : Reading) (a b : ℕ) → Between r → a + 1 ≡ b → b < 1920 → Ran r (record { first = a; last = b })
 unfolding run_text
 pair_of r a b is e l =
     let first = record r { number = a } in
@@ -131,7 +140,7 @@ pair_of r a b is e l =
           ∙ comp_read closing b rest l;
     }
 
-range_of : (r : Reading) (a b : ℕ) → Between r → a + 1 < b → b < 256 → Ran r (record { first = a; last = b })
+range_of : (r : Reading) (a b : ℕ) → Between r → a + 1 < b → b < 1920 → Ran r (record { first = a; last = b })
 unfolding run_text
 range_of r a b is e l =
     let first = record r { number = a } in
@@ -148,7 +157,7 @@ range_of r a b is e l =
           ∙ comp_read opened b rest l;
     }
 
-run_read : (r : Reading) (run : Run) → Between r → run.first ≤ run.last → run.last < 256 → Ran r run
+run_read : (r : Reading) (run : Run) → Between r → run.first ≤ run.last → run.last < 1920 → Ran r run
 run_read r run is order below =
     elim (cases_eq run.first run.last) [
       | inl same ↦ same_run r run same (single r run.first is (omega arith))
@@ -161,10 +170,10 @@ run_read r run is order below =
     same_run : (r : Reading) (run : Run) → run.first ≡ run.last → Ran r (record { first = run.first; last = run.first }) → Ran r run
     same_run r run e h = subst (λ (n : ℕ). Ran r (record { first = run.first; last = n })) e h
 
--- runs are in order, and none is above 255
+-- runs are in order, and none is above 1,919
 unfoldable pub Ordered : List Run → Type 0
 Ordered [] = Unit {0}
-Ordered (run ∷ runs) = (run.first ≤ run.last) × (run.last < 256) × Ordered runs
+Ordered (run ∷ runs) = (run.first ≤ run.last) × (run.last < 1920) × Ordered runs
 
 -- a label with the compartments of runs
 unfoldable pub with_runs : Label → List Run → Label

@@ -8,14 +8,16 @@ use Rattle.std.specs.Str.{bytes_eq}
 use Rattle.lnfs_calipso.specs.Same.{same_label}
 use Rattle.lnfs_calipso.specs.Body.{body_of, label_of_body}
 use Rattle.lnfs_format.specs.Reading.{reads_text, writes_text}
+use Rattle.lnfs_format.specs.Long.{reads_long, writes_long}
 use Rattle.lnfs_format.specs.declared.kind.NameRow.{NameRow}
 use Rattle.lnfs_format.specs.declared.kind.Kind.{Kind}
-use Rattle.lnfs_format.specs.declared.kind.Kind.TheVariants.{Calipso, Text, Name}
+use Rattle.lnfs_format.specs.declared.kind.Kind.TheVariants.{Calipso, Text, Name, Long}
 
 abbrev pub number_of : Kind → ℕ
 number_of Calipso = 0
 number_of (Text doi) = 1
 number_of (Name rows) = 2
+number_of Long = 3
 
 -- the label of the first row with these bytes
 abbrev pub reads_name : List NameRow → List ℕ → Option Label
@@ -32,12 +34,14 @@ unfoldable pub reads : Kind → List ℕ → Option Label
 reads Calipso bytes = label_of_body bytes
 reads (Text doi) bytes = reads_text doi bytes
 reads (Name rows) bytes = reads_name rows bytes
+reads Long bytes = reads_long bytes
 
 -- the bytes that spell a label
 unfoldable pub writes : Kind → Label → Option (List ℕ)
 writes Calipso label = Some (body_of label)
 writes (Text doi) label = writes_text doi label
 writes (Name rows) label = writes_name rows label
+writes Long label = writes_long label
 
 -- an answer of a codec of this number: what the kind reads, or want of memory
 abbrev pub ReadsAs : {E : Type 0} → ℕ → Kind → List ℕ → Result (Option Label) E → Type 0

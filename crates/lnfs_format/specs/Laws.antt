@@ -5,7 +5,7 @@ use Rattle.lnfs_format.specs.Text.{comps_text}
 use Rattle.lnfs_format.specs.Kinds.{reads_name, writes_name, reads, writes}
 use Rattle.lnfs_format.specs.declared.kind.NameRow.{NameRow}
 use Rattle.lnfs_format.specs.declared.kind.Kind.{Kind}
-use Rattle.lnfs_format.specs.declared.kind.Kind.TheVariants.{Calipso, Text, Name}
+use Rattle.lnfs_format.specs.declared.kind.Kind.TheVariants.{Calipso, Text, Name, Long}
 
 -- no two rows have one label or the same bytes
 abbrev pub IsTable : List NameRow → Type 0
@@ -17,6 +17,7 @@ abbrev pub IsFormat : Kind → Type 0
 IsFormat Calipso = Unit {0}
 IsFormat (Text doi) = doi < 2 ^ 32
 IsFormat (Name rows) = IsTable rows
+IsFormat Long = Unit {0}
 
 -- each is a byte
 abbrev pub AreBytes : List ℕ → Type 0

@@ -4,6 +4,7 @@ pub mod Kinds
 pub mod Laws
 pub mod LevelRead
 pub mod LevelWritten
+pub mod Long
 pub mod Reading
 pub mod Runs
 pub mod Site

@@ -56,26 +56,29 @@ impl Codec {
     }
 }
 
-/// The codecs of the three kinds.
+/// The codecs of the four kinds.
 #[derive(Drop)]
 pub struct Codecs {
     calipso: Codec,
     text: Codec,
     name: Codec,
-    ghost numbers: { (calipso.kind ≡ 0) × (text.kind ≡ 1) × (name.kind ≡ 2) },
+    long: Codec,
+    ghost numbers: { (calipso.kind ≡ 0) × (text.kind ≡ 1) × (name.kind ≡ 2) × (long.kind ≡ 3) },
 }
 
 impl Codecs {
-    /// The codecs of the kinds 0, 1 and 2, in this order.
-    pub fn new(calipso: Codec, text: Codec, name: Codec) -> Codecs
+    /// The codecs of the kinds 0, 1, 2 and 3, in this order.
+    pub fn new(calipso: Codec, text: Codec, name: Codec, long: Codec) -> Codecs
         requires calipso { calipso.kind ≡ 0 }
         requires text { text.kind ≡ 1 }
         requires name { name.kind ≡ 2 }
+        requires long { long.kind ≡ 3 }
     {
         Codecs {
             calipso,
             text,
             name,
+            long,
         }
     }
 
@@ -86,6 +89,7 @@ impl Codecs {
             Kind::Calipso => &self.calipso,
             Kind::Text { doi: _ } => &self.text,
             Kind::Name { rows: _ } => &self.name,
+            Kind::Long => &self.long,
         }
     }
 

@@ -20,10 +20,12 @@ pub enum Kind {
     Text { doi: u32 },
     /// A table of names.
     Name { rows: Items<NameRow> },
+    /// A text with the DOI.
+    Long,
 }
 
 impl Kind {
-    /// The number of the kind: 0 for bodies, 1 for texts, 2 for names.
+    /// The number of the kind: 0 for bodies, 1 for texts, 2 for names, 3 for long texts.
     pub fn number(&self) -> u32
         ensures { result ≡ number_of self.now }
     {
@@ -31,6 +33,7 @@ impl Kind {
             Kind::Calipso => 0,
             Kind::Text { doi: _ } => 1,
             Kind::Name { rows: _ } => 2,
+            Kind::Long => 3,
         }
     }
 }

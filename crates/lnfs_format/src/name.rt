@@ -8,17 +8,21 @@ use crate::kind::NameRow;
 use lnfs_calipso::Label;
 use std::alloc::{AllocError, Global};
 
-/// The label of the first row with these bytes. Takes no memory.
+/// The label of the first row with these bytes.
+///
+/// # Errors
+///
+/// `AllocError` where there is no memory.
 pub fn read_name(
     _alloc: Global,
     rows: &[NameRow],
     bytes: &[u8],
 ) -> Result<Option<Label>, AllocError>
-    ensures { result ≡ Ok (reads_name rows.now bytes.now) }
+    ensures { IfOk result (λ label. label ≡ reads_name rows.now bytes.now) }
 {
     for row in rows {
         if row.bytes.as_slice() == bytes {
-            return Ok(Some(row.label));
+            return Ok(Some(row.label.clone()?));
         }
     }
     Ok(None)

@@ -5,6 +5,7 @@ ghost use Rattle.std.specs.Option.{option_map};
 ghost use Rattle.lnfs_format.specs.Kinds.{reads, writes};
 
 use crate::kind::Kind;
+use crate::long::{read_long, write_long};
 use crate::name::{read_name, write_name};
 use crate::text::{read_text, write_text};
 use lnfs_calipso::{Label, read_label, write_label};
@@ -23,6 +24,7 @@ pub fn read_kind(alloc: Global, kind: &Kind, bytes: &[u8]) -> Result<Option<Labe
         Kind::Calipso => read_label(alloc, bytes),
         Kind::Text { doi } => read_text(alloc, *doi, bytes),
         Kind::Name { rows } => read_name(alloc, rows.as_slice(), bytes),
+        Kind::Long => read_long(alloc, bytes),
     }
 }
 
@@ -42,5 +44,6 @@ pub fn write_kind(alloc: Global, kind: &Kind, label: &Label) -> Result<Option<Ve
         }
         Kind::Text { doi } => write_text(alloc, *doi, label),
         Kind::Name { rows } => write_name(alloc, rows.as_slice(), label),
+        Kind::Long => write_long(alloc, label),
     }
 }

@@ -6,6 +6,7 @@ ghost use Rattle.std.specs.Fmt.{decimal};
 ghost use Rattle.lnfs_format.specs.Text.{comp_text, separator, run_text, comps_text};
 ghost use Rattle.lnfs_format.specs.Runs.{HasRun, HasOriginFrom, IsRun, as_run};
 
+use itoa::Buffer;
 use lnfs_calipso::{COMPARTMENTS, Label};
 use std::alloc::AllocError;
 
@@ -17,25 +18,18 @@ struct Run {
 }
 
 /// Appends a number in decimal, without leading zeros.
-#[tactic(auto, using(crate::proofs::Digits::one_digit, crate::proofs::Digits::two_digits, crate::proofs::Digits::three_digits))]
-pub fn put_decimal(text: &mut Vec<u8>, n: u8) -> Result<(), AllocError>
+pub fn put_decimal(text: &mut Vec<u8>, n: u32) -> Result<(), AllocError>
     ensures { OnOk result (text.new.items ≡ text.old.items ++ decimal n) }
 {
-    if n < 10 {
-        return text.extend_from_slice(&[b'0' + n]);
-    }
-    if n < 100 {
-        return text.extend_from_slice(&[b'0' + n / 10, b'0' + n % 10]);
-    }
-    text.extend_from_slice(&[b'0' + n / 100, b'0' + n / 10 % 10, b'0' + n % 10])
+    let mut buffer = Buffer::new();
+    text.extend_from_slice(buffer.format(n).as_bytes())
 }
 
 fn put_comp(text: &mut Vec<u8>, comp: u16) -> Result<(), AllocError>
-    requires { comp < COMPARTMENTS }
     ensures { OnOk result (text.new.items ≡ text.old.items ++ comp_text comp) }
 {
     text.push(b'c')?;
-    put_decimal(text, comp as u8)
+    put_decimal(text, u32::from(comp))
 }
 
 fn separator(run: Run) -> u8

@@ -3,12 +3,23 @@
 ghost use Rattle.std.specs.Prelude.{◌≡◌, ◌++◌, IfOk, OnOk};
 ghost use Rattle.std.specs.Option.{option_map};
 ghost use Rattle.lnfs_format.specs.Text.{comps_text, marked_text, text_of};
-ghost use Rattle.lnfs_format.specs.Reading.{reads_text, reads_comps, writes_text};
+ghost use Rattle.lnfs_format.specs.Reading.{short, reads_text, reads_comps, writes_text};
 
+use crate::formats::MAX_SPELLING;
 use crate::reading::Reading;
 use crate::runs::{has_comps, put_comps, put_decimal};
 use lnfs_calipso::Label;
 use std::alloc::{AllocError, Global};
+
+/// A text, if it isn't too long for a spelling.
+pub fn if_short(text: Vec<u8>) -> Option<Vec<u8>>
+    ensures { option_map (λ v. v.items) result ≡ short text.items }
+{
+    if text.len() > MAX_SPELLING {
+        return None;
+    }
+    Some(text)
+}
 
 fn put_marked(text: &mut Vec<u8>, label: &Label) -> Result<(), AllocError>
     ensures { OnOk result (text.new.items ≡ text.old.items ++ marked_text label.now.comps) }
@@ -26,12 +37,12 @@ fn spell(alloc: Global, label: &Label) -> Result<Vec<u8>, AllocError>
 {
     let mut text = Vec::new(alloc);
     text.push(b's')?;
-    put_decimal(&mut text, label.sens())?;
+    put_decimal(&mut text, u32::from(label.sens()))?;
     put_marked(&mut text, label)?;
     Ok(text)
 }
 
-/// The text of a label under a DOI, if that is the label's.
+/// The text of a label under a DOI, if that is the label's and the text has at most 1,024 bytes.
 ///
 /// # Errors
 ///
@@ -44,7 +55,7 @@ pub fn write_text(alloc: Global, doi: u32, label: &Label) -> Result<Option<Vec<u
         return Ok(None);
     }
     let text = spell(alloc, label)?;
-    Ok(Some(text))
+    Ok(if_short(text))
 }
 
 /// The label under a DOI whose text the bytes are, if they are one.
@@ -56,7 +67,10 @@ pub fn write_text(alloc: Global, doi: u32, label: &Label) -> Result<Option<Vec<u
 pub fn read_text(alloc: Global, doi: u32, bytes: &[u8]) -> Result<Option<Label>, AllocError>
     ensures { IfOk result (λ label. label ≡ reads_text doi bytes.now) }
 {
-    let Some(label) = Reading::start(doi).read(bytes) else {
+    if bytes.len() > MAX_SPELLING {
+        return Ok(None);
+    }
+    let Some(label) = Reading::start(alloc, doi).read(alloc, bytes)? else {
         return Ok(None);
     };
     let text = spell(alloc, &label)?;
@@ -94,7 +108,7 @@ pub fn read_comps(
 ) -> Result<Option<Label>, AllocError>
     ensures { IfOk result (λ label. label ≡ reads_comps doi sens bytes.now) }
 {
-    let Some(label) = Reading::start_comps(doi, sens).read(bytes) else {
+    let Some(label) = Reading::start_comps(alloc, doi, sens).read(alloc, bytes)? else {
         return Ok(None);
     };
     if label.sens() != sens {

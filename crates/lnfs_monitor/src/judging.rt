@@ -21,11 +21,15 @@ fn held(lattice: &Lattice, level: Level) -> Level
     }
 }
 
-/// Whether a level dominates another. A number that is no level of the lattice counts as level 0.
+/// Whether a level dominates another. A number that is no level of the lattice has the label of level 0.
 pub fn dominates(lattice: &Lattice, a: Level, b: Level) -> bool
     ensures { result ≡ dom_of lattice.now a.0 b.0 }
 {
-    lattice.dom(held(lattice, a), held(lattice, b))
+    if b.0 == 0 || a.0 == 0 {
+        return b.0 == 0;
+    }
+    let low = lattice.label(held(lattice, b));
+    lattice.label(held(lattice, a)).dominates(low)
 }
 
 /// Whether a subject is at each of some labels.

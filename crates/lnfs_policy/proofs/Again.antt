@@ -13,14 +13,14 @@ use Rattle.lnfs_policy.proofs.Outcomes.{ended, not_ok}
 
 -- ---- no part has a separator
 
-abbrev is_clean : List ℕ → Bool
+abbrev pub is_clean : List ℕ → Bool
 is_clean part = list_all (λ b. not (b == newline)) part
 
 clean_longer : (b : ℕ) (parts : List (List ℕ)) → (b == newline) ≡ false → list_all is_clean parts ≡ true → list_all is_clean (longer b parts) ≡ true
 clean_longer b [] f e = rw f refl
 clean_longer b (part ∷ parts) f e = rw f e
 
-clean_split : (text : List ℕ) → list_all is_clean (split newline text) ≡ true
+pub clean_split : (text : List ℕ) → list_all is_clean (split newline text) ≡ true
 clean_split [] = refl
 clean_split (b ∷ text) =
     elim (cases_Bool (b == newline)) [
@@ -29,7 +29,7 @@ clean_split (b ∷ text) =
     ]
 
 -- a clean part, and what stands behind its newline
-split_clean : (part rest : List ℕ) → is_clean part ≡ true → split newline (part ++ newline ∷ rest) ≡ part ∷ split newline rest
+pub split_clean : (part rest : List ℕ) → is_clean part ≡ true → split newline (part ++ newline ∷ rest) ≡ part ∷ split newline rest
 split_clean [] rest e = refl
 split_clean (b ∷ part) rest e =
     elim (cases_Bool (b == newline)) [
@@ -81,7 +81,7 @@ ends_so n m ls lines e =
     ]
 
 -- a line without its newline is refused
-not_ended : (ls lines : List Line) (text : List ℕ) (n : ℕ) (next : List Line → Result (List Line) Refused) → told_at n (lines_after ls false text) next ≡ ended Refused lines → ⊥
+pub not_ended : (ls lines : List Line) (text : List ℕ) (n : ℕ) (next : List Line → Result (List Line) Refused) → told_at n (lines_after ls false text) next ≡ ended Refused lines → ⊥
 not_ended ls lines text n next e =
     elim (cases_Bool (is_skipped text)) [
       | inl t ↦ not_ok _ lines (rw t at e)

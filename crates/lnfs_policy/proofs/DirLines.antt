@@ -1,5 +1,5 @@
 -- Each directory line of a policy keeps its rules after the lines before it, by the labels of the whole policy.
-use Rattle.std.proofs.Common.{◌≡◌, ◌<◌, ◌+◌, ℕ, true, false, not, List, [], ◌∷◌, ◌++◌, length, nat_lt, refl, sym, ap, subst, ◌∙◌, append_assoc, append-nil, inl, inr, arith}
+use Rattle.std.proofs.Common.{◌≡◌, ◌<◌, ◌+◌, ℕ, true, false, not, ◌==◌, ◌&&◌, ◌||◌, List, [], ◌∷◌, ◌++◌, length, nat_lt, refl, sym, ap, subst, ◌∙◌, append_assoc, append-nil, inl, inr, arith}
 use Rattle.std.specs.Prelude.{Ok, Option, Some, None, option_map, find}
 use Rattle.std.specs.List.{AllByRecursion, list_any}
 use Rattle.std.specs.Str.{bytes_eq}
@@ -59,7 +59,7 @@ known_push labels (d ∷ dirs) dir all here = (all.0, known_push labels dirs dir
 module _ (labels : List Label) (label : Label) where
   -- dominance of the levels that were known stays
   dominance_kept : (a b : ℕ) → a < length labels → b < length labels → dom_of (labels ++ label ∷ []) a b ≡ dom_of labels a b
-  dominance_kept a b la lb = λ i. dominates (label_kept labels label a la i) (label_kept labels label b lb i)
+  dominance_kept a b la lb = λ i. b == 0 || (nat_lt 0 a && dominates (label_kept labels label a la i) (label_kept labels label b lb i))
 
   above_found : (level : ℕ) (path : List ℕ) (dirs : List DirLine) → level < length labels → AreKnown labels dirs
       → is_above labels level (option_map (λ d. d.level.0) (find (λ d. bytes_eq d.path path) dirs)) ≡ true

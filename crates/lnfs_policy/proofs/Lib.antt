@@ -1,7 +1,9 @@
 pub mod Again
 pub mod DirLines
+pub mod FirstVersion
 pub mod Full
 pub mod Kept
+pub mod Migrating
 pub mod Names
 pub mod Outcomes
 pub mod Parents

@@ -7,8 +7,8 @@ use Rattle.lnfs_calipso.specs.Label.{Label}
 use Rattle.lnfs_words.specs.Words.{is_empty, newline, words, is_ascii, is_worded, split}
 use Rattle.lnfs_words.specs.Hex.{lower_hex_of, lower_hex_sized}
 use Rattle.lnfs_policy.specs.Line.{◌>>=◌, demand, Line, version_line, mode_line, level_line, format_line, name_line, parent_line, guest_line, quota_line, dir_line, line_of, rank, in_order, cause_of}
-use Rattle.lnfs_policy.specs.Rows.{label_of, spelling_of, labels_of, rows_of, names_of, parents_of, quotas_of, dirs_of}
-use Rattle.lnfs_policy.specs.Fits.{fits, level_fits, format_fits, name_fits, parent_fits, guest_fits, quota_fits, dir_fits, is_taken}
+use Rattle.lnfs_policy.specs.Rows.{label_of, spelling_of, version_of, labels_of, rows_of, names_of, parents_of, quotas_of, dirs_of}
+use Rattle.lnfs_policy.specs.Fits.{fits, level_fits, kind_fits, format_fits, name_fits, parent_fits, guest_fits, quota_fits, dir_fits, is_taken}
 use Rattle.lnfs_policy.specs.Policy.{policy_in, by_number, with_parent}
 use Rattle.lnfs_policy.specs.PolicyText.{version_in_place, said_after, lines_after, is_skipped, is_complete, told_at, is_end, lines_from, kept, policy_from, policy_of}
 use Rattle.lnfs_policy.specs.Reading.{Read, nothing, add, noted, stands, judge, judge_line, finish, read_from}
@@ -64,7 +64,7 @@ module _ (k : List ℕ) (ls : List Line) (text : List ℕ) where
   level_added place doi sens comps e None h = rw h refl
   level_added place doi sens comps e (Some label) h =
       let line = level_line place doi sens comps in
-      rw h (tested (level_fits (labels_of ls) place (Some label)) because.Level (record (tables k ls) { labels = labels_of ls ++ label ∷ [] }) line
+      rw h (tested (level_fits (version_of ls) (labels_of ls) place (Some label)) because.Level (record (tables k ls) { labels = labels_of ls ++ label ∷ [] }) line
       ((λ i. record (settled line) { labels = and_some (labels_of ls) (sym h i) }) ∙ settle line e))
 
   format_added : (lfs pi : ℕ) (word : List ℕ) → in_order ls (format_line lfs pi word) ≡ true
@@ -73,7 +73,7 @@ module _ (k : List ℕ) (ls : List Line) (text : List ℕ) where
   format_added lfs pi word e (Some s) h =
       let line = format_line lfs pi word in
       let row : FormatRow = record { pair = record { lfs = lfs; pi = pi }; spelling = s } in
-      rw h (tested (format_fits (rows_of ls) lfs pi) because.Format (record (tables k ls) { rows = rows_of ls ++ row ∷ [] }) line
+      rw h (tested (kind_fits (version_of ls) (Some s) && format_fits (rows_of ls) lfs pi) because.Format (record (tables k ls) { rows = rows_of ls ++ row ∷ [] }) line
       ((λ i. record (settled line) { rows = and_some (rows_of ls) (option_map (λ s. record { pair = record { lfs = lfs; pi = pi }; spelling = s }) (sym h i)) }) ∙ settle line e))
 
   name_added : (lfs pi level : ℕ) (hex : List ℕ) → in_order ls (name_line lfs pi level hex) ≡ true
@@ -96,7 +96,7 @@ module _ (k : List ℕ) (ls : List Line) (text : List ℕ) where
       ((λ i. record (settled line) { parents = and_parent (by_number (parents_of ls)) (option_map (λ secret. record { number = number; secret = secret; clearance = record { 0 = level } }) (sym h i)) }) ∙ settle line e))
 
   added : (line : Line) → in_order ls line ≡ true → IsAdded line
-  added version_line e = ap went (settle version_line e)
+  added (version_line version) e = ap went (settle (version_line version) e)
   added (mode_line mode) e = mode_added mode e
   added (level_line place doi sens comps) e = level_added place doi sens comps e (label_of doi sens comps) refl
   added (format_line lfs pi word) e = format_added lfs pi word e (spelling_of word) refl

@@ -5,10 +5,11 @@ use Rattle.std.specs.List.{list_any, filter_map, range_with_len}
 use Rattle.std.proofs.lemmas.Bool.{cases_Bool, and_parts, ltb-true, leb-true, not-true}
 use Rattle.std.proofs.lemmas.List.{length_push}
 use Rattle.std.proofs.lemmas.List.Elements.{All-push, All-nil, All-head, All-tail}
-use Rattle.lnfs_calipso.specs.Levels.{AreFirstLevels}
+use Rattle.lnfs_calipso.specs.Levels.{Apart, AreFirstLevels}
 use Rattle.lnfs_calipso.specs.Label.{Label, IsLabel, IsPreorderWithBottom, has_comp, compartments, numbers_below, dom_of}
 use Rattle.lnfs_calipso.proofs.Lattices.{preorder_of}
 use Rattle.lnfs_format.specs.Reading.{bare, reads_comps}
+use Rattle.lnfs_format.specs.Long.{label_with}
 use Rattle.lnfs_format.specs.Laws.{IsFormat, IsComps}
 use Rattle.lnfs_format.specs.Entries.{is_pair, pair_of}
 use Rattle.lnfs_format.specs.Site.{AreFormats}
@@ -17,8 +18,8 @@ use Rattle.lnfs_format.specs.declared.formats.FormatEntry.{FormatEntry}
 use Rattle.std.specs.Str.{bytes_eq}
 use Rattle.lnfs_words.specs.Hex.{lower_hex_of}
 use Rattle.lnfs_policy.specs.Line.{Line, level_line, format_line, name_line, line_of}
-use Rattle.lnfs_policy.specs.Rows.{label_of, label_in, spelling_of, format_in, name_in, labels_of, rows_of, names_of, kind_of, entry_in, entries_of, formats_of}
-use Rattle.lnfs_policy.specs.Fits.{fits, is_next, level_fits, name_fits, clashes, is_known, is_table}
+use Rattle.lnfs_policy.specs.Rows.{label_of, label_in, spelling_of, format_in, name_in, version_of, labels_of, rows_of, names_of, kind_of, entry_in, entries_of, formats_of}
+use Rattle.lnfs_policy.specs.Fits.{fits, is_next, is_narrow, in_version, level_fits, name_fits, clashes, is_known, is_table}
 use Rattle.lnfs_policy.specs.Policy.{Policy, dominance}
 use Rattle.lnfs_policy.specs.PolicyText.{policy_of}
 use Rattle.lnfs_policy.specs.declared.rows.Spelling.{Spelling}
@@ -26,9 +27,11 @@ use Rattle.lnfs_policy.specs.declared.rows.Spelling.TheVariants as spelling
 use Rattle.lnfs_policy.specs.declared.rows.FormatRow.{FormatRow}
 use Rattle.lnfs_policy.specs.declared.rows.LevelName.{LevelName}
 use Rattle.lnfs_words.proofs.Decimals.{same_some}
+use Rattle.lnfs_policy.specs.Spelled.{HasNumbers}
 use Rattle.lnfs_policy.proofs.Kept.{lines_of}
 use Rattle.lnfs_policy.proofs.Names.{Distinct, distinct_push, table}
 use Rattle.lnfs_policy.proofs.Sound.{next_sound}
+use Rattle.lnfs_policy.proofs.Spelled.{line_says}
 use Rattle.lnfs_policy.proofs.Tables.{and_some, one_more}
 
 -- the numbers of a line that its label or its format have
@@ -36,6 +39,14 @@ abbrev pub HasBounds : Line → Type 0
 HasBounds (level_line place doi sens comps) = doi < 2 ^ 32
 HasBounds (format_line lfs pi word) = pi < 2 ^ 32
 HasBounds line = Unit {0}
+
+bounds : (line : Line) → HasNumbers line → HasBounds line
+bounds (level_line place doi sens comps) n = n.1
+bounds (format_line lfs pi kind) n = n.1
+bounds line n = tt
+
+pub bounded : (words : List (List ℕ)) (line : Line) → line_of words ≡ Ok line → HasBounds line
+bounded words line e = bounds line (line_says words line e).0
 
 -- ---- labels
 
@@ -45,7 +56,7 @@ none_of (suc n) a = none_of n (a + 1)
 
 no_comps : compartments (has_comp []) ≡ []
 unfolding numbers_below
-no_comps = none_of 256 0
+no_comps = none_of 1920 0
 
 bare_is : (doi sens : ℕ) → doi < 2 ^ 32 → sens ≤ 255 → IsLabel (bare doi sens)
 bare_is doi sens d s = record { doi = d; sens = omega arith; comps = sym no_comps }
@@ -58,7 +69,7 @@ abbrev IsReader : Type 0
 IsReader = (doi sens : ℕ) → doi < 2 ^ 32 → sens < 256 → (bytes : List ℕ) (label : Label) → reads_comps doi sens bytes ≡ Some label → IsComps doi sens label bytes
 
 label_is : IsReader → (doi sens : ℕ) (comps : List ℕ) (label : Label) → doi < 2 ^ 32 → label_of doi sens comps ≡ Some label → IsLabel label
-unfolding label_of
+unfolding label_of label_with
 label_is reader doi sens comps label d e =
     elim (cases_Bool (nat_le sens 255)) [
       | inr f ↦ absurd (no_some label None refl (rw f at e))
@@ -83,7 +94,7 @@ record IsGood (ls : List Line) : Type 0 where
 
 nothing_yet : IsGood []
 nothing_yet = record {
-  sound = record { few = omega arith; apart = λ i j ij lj e. absurd (omega arith); above = λ i li. absurd (omega arith) };
+  sound = record { few = omega arith; apart = λ i j ij lj e. absurd (omega arith) };
   labels = All-nil IsLabel;
   rows = All-nil (λ (row : FormatRow). row.pair.pi < 2 ^ 32);
   names = tt;
@@ -98,8 +109,8 @@ grown P f ls line (Some a) e all new = subst (λ (xs : List _). All P xs) (sym (
 -- what a line gives, where it gives it
 next_of : (ls : List Line) (line : Line) (a : Label) → fits ls line ≡ true → label_in line ≡ Some a → is_next (labels_of ls) a ≡ true
 next_of ls (level_line place doi sens comps) a f e =
-    let g : level_fits (labels_of ls) place (Some a) ≡ true = rw e at f in
-    (and_parts (place == length (labels_of ls)) (is_next (labels_of ls) a) g).1
+    let g : level_fits (version_of ls) (labels_of ls) place (Some a) ≡ true = rw e at f in
+    (and_parts (place == length (labels_of ls)) (is_next (labels_of ls) a) (and_parts (place == length (labels_of ls) && is_next (labels_of ls) a) (in_version (version_of ls) (is_narrow (labels_of ls) a)) g).0).1
 next_of ls line a f e = absurd (no_some a None refl e)
 
 sound_more : (ls : List Line) (line : Line) (o : Option Label) → label_in line ≡ o → AreFirstLevels (labels_of ls) → ((a : Label) → o ≡ Some a → is_next (labels_of ls) a ≡ true) → AreFirstLevels (labels_of (ls ++ line ∷ []))
@@ -180,6 +191,7 @@ format_is : (labels : List Label) (names : List LevelName) (row : FormatRow) →
 format_is labels names row sound small d k spelling.Calipso = tt
 format_is labels names row sound small d k spelling.Text = small
 format_is labels names row sound small d k spelling.Name = table labels sound.apart row.pair.lfs row.pair.pi names d k
+format_is labels names row sound small d k spelling.Long = tt
 
 found_is : (labels : List Label) (names : List LevelName) (lfs pi : ℕ) (entry : FormatEntry) → AreFirstLevels labels → Distinct names → All (λ name. name.level.0 < length labels) names
     → (rows : List FormatRow) → All (λ row. row.pair.pi < 2 ^ 32) rows → find (λ entry. is_pair lfs pi (pair_of entry)) (map (entry_in labels names) rows) ≡ Some entry → IsFormat entry.kind
@@ -203,11 +215,10 @@ site reader bounded text p e =
 
 -- ---- dominance
 
-preordered_of : (labels : List Label) → AreFirstLevels labels → IsPreorderWithBottom (dom_of labels)
-preordered_of [] are = record { reflexive = λ a. refl; transitive = λ a b c ab bc. refl; bottom = λ a. refl }
-preordered_of (label ∷ labels) are = preorder_of (label ∷ labels) (record { some = omega arith; first = are })
+pub preordered : (p : Policy) → IsPreorderWithBottom (dominance p)
+preordered p = preorder_of p.labels
 
-pub preordered : (text : List ℕ) (p : Policy) → policy_of text ≡ Ok p → IsPreorderWithBottom (dominance p)
-preordered text p e =
+pub apart_in : (text : List ℕ) (p : Policy) → policy_of text ≡ Ok p → Apart p.labels (length p.labels)
+apart_in text p e =
     let lines = lines_of (λ ls. AreFirstLevels (labels_of ls)) (λ ls ws line s w t. sound_more ls line (label_in line) refl s (λ a e. next_of ls line a t e)) text p nothing_yet.sound e in
-    subst (λ (x : Policy). IsPreorderWithBottom (dominance x)) lines.2 (preordered_of (labels_of lines.0) lines.1)
+    subst (λ (x : Policy). Apart x.labels (length x.labels)) lines.2 lines.1.apart

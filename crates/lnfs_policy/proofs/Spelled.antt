@@ -2,6 +2,7 @@
 use Rattle.std.proofs.Common.{◌≡◌, ◌^◌, ◌-◌, ℕ, Bool, true, false, cond, List, [], ◌∷◌, refl, sym, ap, ◌∙◌, subst, inl, inr, arith}
 use Rattle.std.specs.Prelude.{Result, Ok, Err, Option, Some, None, IfSome, codes}
 use Rattle.std.specs.Fmt.{decimal}
+use Rattle.std.proofs.lemmas.Fmt.{decimal_digit}
 use Rattle.std.proofs.lemmas.Slice.Eq.{bytes_eq-Decides}
 use Rattle.std.proofs.lemmas.Bool.{cases_Bool}
 use Rattle.std.specs.Str.{bytes_eq}
@@ -90,9 +91,15 @@ Says words line = HasNumbers line × (words ≡ spelled line)
 
 version_says : (words : List (List ℕ)) (l : Line) → says_version words ≡ Ok l → Says (codes "lnfs-policy" ∷ words) l
 version_says (one ∷ []) l e =
-    let s = chosen (bytes_eq one (codes "1")) (Ok version_line) because.Words l e in
-    let o : one ≡ codes "1" = name_is one (codes "1") s.0 in
-    subst (Says (codes "lnfs-policy" ∷ one ∷ [])) (same_ok version_line l s.1) (tt, cc o)
+    elim (cases_Bool (bytes_eq one (codes "1"))) [
+      | inl t ↦
+          let o : one ≡ codes "1" = name_is one (codes "1") t in
+          subst (Says (codes "lnfs-policy" ∷ one ∷ [])) (same_ok (version_line 1) l (rw t at e)) (inl refl, ap (λ (w : List ℕ). codes "lnfs-policy" ∷ w ∷ []) (o ∙ sym (decimal_digit 1 (omega arith))))
+      | inr f ↦
+          let s = chosen (bytes_eq one (codes "2")) (Ok (version_line 2)) because.Words l (rw f at e) in
+          let o : one ≡ codes "2" = name_is one (codes "2") s.0 in
+          subst (Says (codes "lnfs-policy" ∷ one ∷ [])) (same_ok (version_line 2) l s.1) (inr refl, ap (λ (w : List ℕ). codes "lnfs-policy" ∷ w ∷ []) (o ∙ sym (decimal_digit 2 (omega arith))))
+    ]
 version_says words l e = cc
 
 mode_says : (words : List (List ℕ)) (l : Line) → says_mode words ≡ Ok l → Says (codes "mode" ∷ words) l
@@ -205,7 +212,14 @@ line_says (name ∷ words) l e =
 
 line_said : (l : Line) → HasNumbers l → line_of (spelled l) ≡ Ok l
 unfolding line_of
-line_said version_line h = refl
+line_said (version_line version) h =
+    elim h [
+      | inl one ↦ subst IsSaid (sym one) (ap (λ (w : List ℕ). line_of (codes "lnfs-policy" ∷ w ∷ [])) (decimal_digit 1 (omega arith)))
+      | inr two ↦ subst IsSaid (sym two) (ap (λ (w : List ℕ). line_of (codes "lnfs-policy" ∷ w ∷ [])) (decimal_digit 2 (omega arith)))
+    ]
+  where
+    IsSaid : ℕ → Type 0
+    IsSaid version = line_of (spelled (version_line version)) ≡ Ok (version_line version)
 line_said (mode_line Enforcing) h = refl
 line_said (mode_line Limited) h = refl
 line_said (level_line place doi sens comps) h = rw (short_decimal place h.0, short_decimal doi h.1, short_decimal sens h.2) refl

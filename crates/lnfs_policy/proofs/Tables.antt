@@ -10,7 +10,7 @@ use Rattle.std.proofs.lemmas.List.Sums.{fold-append}
 use Rattle.std.proofs.lemmas.List.Elements.{filter_map-append}
 use Rattle.lnfs_words.specs.Words.{is_empty}
 use Rattle.lnfs_policy.specs.Line.{Line, version_line, mode_line, level_line, format_line, name_line, parent_line, guest_line, quota_line, dir_line, rank, is_mode, in_order}
-use Rattle.lnfs_policy.specs.Rows.{mode_in, label_in, format_in, name_in, parent_in, guest_in, quota_in, dir_in, mode_of, labels_of, rows_of, names_of, parents_of, guests_of, quotas_of, dirs_of}
+use Rattle.lnfs_policy.specs.Rows.{version_in, mode_in, label_in, format_in, name_in, parent_in, guest_in, quota_in, dir_in, first_of, version_of, mode_of, labels_of, rows_of, names_of, parents_of, guests_of, quotas_of, dirs_of}
 use Rattle.lnfs_policy.specs.Policy.{with_parent, by_number}
 use Rattle.lnfs_policy.specs.Reading.{Read, stands}
 use Rattle.lnfs_policy.specs.declared.mode.Mode.{Mode}
@@ -27,6 +27,7 @@ tables text lines = record {
   begun = not (is_empty lines);
   stage = stage_of lines;
   text = text;
+  version = version_of lines;
   mode = mode_of lines;
   labels = labels_of lines;
   rows = rows_of lines;
@@ -43,9 +44,9 @@ abbrev pub and_some : {A : Type 0} → List A → Option A → List A
 and_some xs None = xs
 and_some xs (Some x) = xs ++ x ∷ []
 
-abbrev pub later : Option Mode → Option Mode → Option Mode
-later mode None = mode
-later mode (Some m) = option_or mode (Some m)
+abbrev pub later : {A : Type 0} → Option A → Option A → Option A
+later first None = first
+later first (Some x) = option_or first (Some x)
 
 abbrev pub and_parent : List (ℕ × Parent) → Option Parent → List (ℕ × Parent)
 and_parent entries None = entries
@@ -56,6 +57,7 @@ grown text r line = record {
   begun = true;
   stage = max r.stage (rank line);
   text = text;
+  version = later r.version (version_in line);
   mode = later r.mode (mode_in line);
   labels = and_some r.labels (label_in line);
   rows = and_some r.rows (format_in line);
@@ -80,15 +82,15 @@ more_parents lines line = ap by_number (one_more parent_in lines line) ∙ last 
     last ps None = refl
     last ps (Some p) = fold-append with_parent [] ps (p ∷ [])
 
-more_mode : (lines : List Line) (line : Line) → mode_of (lines ++ line ∷ []) ≡ later (mode_of lines) (mode_in line)
-more_mode [] line = first (mode_in line)
+more_first : {A : Type 0} (f : Line → Option A) (lines : List Line) (line : Line) → first_of f (lines ++ line ∷ []) ≡ later (first_of f lines) (f line)
+more_first f [] line = first (f line)
   where
-    first : (o : Option Mode) → option_or o None ≡ later None o
+    first : {A : Type 0} (o : Option A) → option_or o None ≡ later None o
     first None = refl
     first (Some m) = refl
-more_mode (l ∷ lines) line = ap (option_or (mode_in l)) (more_mode lines line) ∙ nested (mode_in l) (mode_of lines) (mode_in line)
+more_first f (l ∷ lines) line = ap (option_or (f l)) (more_first f lines line) ∙ nested (f l) (first_of f lines) (f line)
   where
-    nested : (a b c : Option Mode) → option_or a (later b c) ≡ later (option_or a b) c
+    nested : {A : Type 0} (a b c : Option A) → option_or a (later b c) ≡ later (option_or a b) c
     nested None b None = refl
     nested None b (Some m) = refl
     nested (Some a) b None = refl
@@ -108,7 +110,8 @@ more text lines line before = λ i. record {
   begun = begun_now lines line i;
   stage = more_stage lines line i;
   text = text;
-  mode = more_mode lines line i;
+  version = more_first version_in lines line i;
+  mode = more_first mode_in lines line i;
   labels = one_more label_in lines line i;
   rows = one_more format_in lines line i;
   names = one_more name_in lines line i;
@@ -126,7 +129,7 @@ has_begun (line ∷ lines) = refl
 
 pub has_mode : (lines : List Line) → is_some (mode_of lines) ≡ list_any is_mode lines
 has_mode [] = refl
-has_mode (version_line ∷ lines) = has_mode lines
+has_mode (version_line version ∷ lines) = has_mode lines
 has_mode (mode_line mode ∷ lines) = refl
 has_mode (level_line place doi sens comps ∷ lines) = has_mode lines
 has_mode (format_line lfs pi word ∷ lines) = has_mode lines

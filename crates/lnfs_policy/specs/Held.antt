@@ -6,6 +6,7 @@ use Rattle.lnfs_policy.specs.declared.policy.Policy.TheInside.{Inside}
 abbrev pub held : Inside → Policy
 held p = record {
   text = p.text.items;
+  version = p.version;
   mode = p.mode;
   labels = p.lattice;
   formats = p.formats;

@@ -1,4 +1,6 @@
+pub mod FirstVersion
 pub mod Line
+pub mod Migrated
 pub mod Spelled
 pub mod Rows
 pub mod Fits

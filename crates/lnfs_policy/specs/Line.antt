@@ -10,7 +10,7 @@ use Rattle.lnfs_policy.specs.declared.cause.Cause.{Cause}
 use Rattle.lnfs_policy.specs.declared.cause.Cause.TheVariants as because
 
 pub data Line : Type 0 where
-  version_line : Line
+  version_line : (version : ℕ) → Line
   mode_line : Mode → Line
   level_line : (place doi sens : ℕ) (comps : List ℕ) → Line
   format_line : (lfs pi : ℕ) (kind : List ℕ) → Line
@@ -65,7 +65,9 @@ of_four (Some p) says = says p.0 p.1 p.2 p.3
 of_four None says = Err because.Words
 
 abbrev pub says_version : List (List ℕ) → Result Line Cause
-says_version words = of_one (one_of words) (λ one. if bytes_eq one (codes "1") then Ok version_line else Err because.Words)
+says_version words = of_one (one_of words) (λ version.
+    if bytes_eq version (codes "1") then Ok (version_line 1)
+    else (if bytes_eq version (codes "2") then Ok (version_line 2) else Err because.Words))
 
 abbrev pub says_mode : List (List ℕ) → Result Line Cause
 says_mode words = of_one (one_of words) (λ mode.
@@ -138,7 +140,7 @@ line_of (name ∷ others) =
 -- ---- the order of the kinds
 
 abbrev pub rank : Line → ℕ
-rank version_line = 0
+rank (version_line version) = 0
 rank (mode_line mode) = 1
 rank (level_line place doi sens comps) = 2
 rank (format_line lfs pi kind) = 3
@@ -158,7 +160,7 @@ in_order before line =
 
 -- the cause where a line's own rules don't hold
 abbrev pub cause_of : Line → Cause
-cause_of version_line = because.Version
+cause_of (version_line version) = because.Version
 cause_of (mode_line mode) = because.Words
 cause_of (level_line place doi sens comps) = because.Level
 cause_of (format_line lfs pi kind) = because.Format

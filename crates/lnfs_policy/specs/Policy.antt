@@ -8,7 +8,7 @@ use Rattle.std.specs.Option.{unwrap_or}
 use Rattle.lnfs_calipso.specs.Label.{Label, dom_of}
 use Rattle.lnfs_format.specs.declared.formats.FormatEntry.{FormatEntry}
 use Rattle.lnfs_policy.specs.Line.{Line}
-use Rattle.lnfs_policy.specs.Rows.{mode_of, labels_of, formats_of, parents_of, guests_of, quotas_of, dirs_of}
+use Rattle.lnfs_policy.specs.Rows.{version_of, mode_of, labels_of, formats_of, parents_of, guests_of, quotas_of, dirs_of}
 use Rattle.lnfs_policy.specs.declared.mode.Mode.{Mode}
 use Rattle.lnfs_policy.specs.declared.mode.Mode.TheVariants.{Enforcing}
 use Rattle.lnfs_policy.specs.declared.rows.Parent.{Parent}
@@ -19,10 +19,11 @@ use Rattle.lnfs_policy.specs.declared.rows.DirLine.{DirLine}
 use Rattle.lnfs_policy.specs.declared.cause.Cause.{Cause}
 use Rattle.lnfs_policy.specs.declared.cause.Cause.TheVariants as because
 
--- The canonical text; the labels, in the order of the levels; and what the lines of the other kinds give, in the
+-- The canonical text; the version; the labels, in the order of the levels; and what the lines of the other kinds give, in the
 -- order of the lines, the parents by their numbers.
 pub record Policy : Type 0 where
   pub text : List ℕ
+  pub version : ℕ
   pub mode : Mode
   pub labels : List Label
   pub formats : List FormatEntry
@@ -41,6 +42,7 @@ by_number parents = fold with_parent [] parents
 abbrev pub policy_in : List ℕ → List Line → Policy
 policy_in text lines = record {
   text = text;
+  version = unwrap_or (version_of lines) 1;
   mode = unwrap_or (mode_of lines) Enforcing;
   labels = labels_of lines;
   formats = formats_of lines;

@@ -1,7 +1,7 @@
 -- The text of a policy. It spells a policy where each of its lines keeps the rules after the lines before it, and
 -- none is missing. Any other text is refused with the first line that breaks a rule, and the first rule that it
 -- breaks.
-use Rattle.std.specs.Prelude.{◌≡◌, ◌==◌, ◌&&◌, ◌+◌, ℕ, Bool, true, false, not, if◌then◌else◌, List, [], ◌∷◌, ◌++◌, Option, Some, None, is_some, filter, slice_get, Result, Ok, Err, codes}
+use Rattle.std.specs.Prelude.{◌≡◌, ◌==◌, ◌&&◌, ◌||◌, ◌+◌, ℕ, Bool, true, false, not, if◌then◌else◌, List, [], ◌∷◌, ◌++◌, Option, Some, None, is_some, filter, slice_get, Result, Ok, Err, codes}
 use Rattle.std.specs.List.{list_any, list_all, flat_map}
 use Rattle.lnfs_calipso.specs.Label.{Label}
 use Rattle.lnfs_format.specs.Kinds.{writes}
@@ -17,10 +17,14 @@ use Rattle.lnfs_policy.specs.declared.cause.Cause.TheVariants as because
 use Rattle.lnfs_policy.specs.declared.cause.PolicyError.{PolicyError}
 use Rattle.lnfs_policy.specs.declared.cause.PolicyError.TheVariants as error
 
--- the version line is the first line, and no other
+-- a version line
+abbrev pub is_version : List ℕ → Bool
+is_version text = bytes_eq text (codes "lnfs-policy 1") || bytes_eq text (codes "lnfs-policy 2")
+
+-- the first line is a version line, and no other is
 abbrev pub version_in_place : (first : Bool) → List ℕ → Bool
-version_in_place true text = bytes_eq text (codes "lnfs-policy 1")
-version_in_place false text = not (bytes_eq text (codes "lnfs-policy 1"))
+version_in_place true text = is_version text
+version_in_place false text = not (is_version text)
 
 -- what a line says after those before it, or the first rule that it breaks
 abbrev pub said_after : List Line → (ended : Bool) → List ℕ → Result Line Cause

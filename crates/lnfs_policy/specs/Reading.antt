@@ -1,6 +1,6 @@
 -- What stands while the lines are read: the tables of the reader. What is read with them is what the text spells.
 use Rattle.std.specs.Prelude.{◌≡◌, ◌&&◌, ◌+◌, ℕ, Bool, true, false, not, if◌then◌else◌, nat_le, List, [], ◌∷◌, ◌++◌, Option, Some, None, is_some, Result, Ok, Err}
-use Rattle.std.specs.Option.{unwrap_or}
+use Rattle.std.specs.Option.{unwrap_or, option_or}
 use Rattle.std.specs.Ordering.{nat_cmp}
 use Rattle.std.specs.BTreeMap.{is_at}
 use Rattle.std.specs.Map.{lookup}
@@ -9,7 +9,7 @@ use Rattle.lnfs_words.specs.Words.{is_empty, newline, words, is_ascii, is_worded
 use Rattle.lnfs_words.specs.Hex.{lower_hex_of, lower_hex_sized}
 use Rattle.lnfs_policy.specs.Line.{◌>>=◌, demand, Line, version_line, mode_line, level_line, format_line, name_line, parent_line, guest_line, quota_line, dir_line, line_of, rank, is_mode}
 use Rattle.lnfs_policy.specs.Rows.{label_of, spelling_of, entries_of}
-use Rattle.lnfs_policy.specs.Fits.{level_fits, format_fits, name_fits, parent_fits, guest_fits, quota_fits, dir_fits}
+use Rattle.lnfs_policy.specs.Fits.{level_fits, kind_fits, format_fits, name_fits, parent_fits, guest_fits, quota_fits, dir_fits}
 use Rattle.lnfs_policy.specs.Policy.{Policy, with_parent}
 use Rattle.lnfs_policy.specs.PolicyText.{version_in_place, is_skipped, spells_all, Refused, told_at, is_end}
 use Rattle.lnfs_format.specs.declared.formats.FormatEntry.{FormatEntry}
@@ -35,6 +35,7 @@ pub record Read : Type 0 where
   -- the rank of the last line
   pub stage : ℕ
   pub text : List ℕ
+  pub version : Option ℕ
   pub mode : Option Mode
   pub labels : List Label
   pub rows : List FormatRow
@@ -45,9 +46,13 @@ pub record Read : Type 0 where
   pub dirs : List DirLine
 
 abbrev pub nothing : Read
-nothing = record { begun = false; stage = 0; text = []; mode = None; labels = []; rows = []; names = []; parents = []; guests = []; quotas = []; dirs = [] }
+nothing = record { begun = false; stage = 0; text = []; version = None; mode = None; labels = []; rows = []; names = []; parents = []; guests = []; quotas = []; dirs = [] }
 
 -- ---- one more line, where it fits
+
+-- the first version line counts
+abbrev pub add_version : Read → ℕ → Result Read Cause
+add_version read version = Ok (record read { version = option_or read.version (Some version) })
 
 abbrev pub add_mode : Read → Mode → Result Read Cause
 add_mode read mode = Ok (record read { mode = Some mode })
@@ -55,13 +60,13 @@ add_mode read mode = Ok (record read { mode = Some mode })
 abbrev pub add_label : Read → (place : ℕ) → Option Label → Result Read Cause
 add_label read place None = Err because.Level
 add_label read place (Some label) = do
-  _ ← demand (level_fits read.labels place (Some label)) because.Level
+  _ ← demand (level_fits read.version read.labels place (Some label)) because.Level
   Ok (record read { labels = read.labels ++ label ∷ [] })
 
 abbrev pub add_format : Read → (lfs pi : ℕ) → Option Spelling → Result Read Cause
 add_format read lfs pi None = Err because.Format
 add_format read lfs pi (Some spelling) = do
-  _ ← demand (format_fits read.rows lfs pi) because.Format
+  _ ← demand (kind_fits read.version (Some spelling) && format_fits read.rows lfs pi) because.Format
   Ok (record read { rows = read.rows ++ record { pair = record { lfs = lfs; pi = pi }; spelling = spelling } ∷ [] })
 
 abbrev pub add_name : Read → (lfs pi level : ℕ) → Option (List ℕ) → Result Read Cause
@@ -95,7 +100,7 @@ add_dir read path level = do
   Ok (record read { dirs = read.dirs ++ record { path = path; level = record { 0 = level } } ∷ [] })
 
 abbrev pub add : Read → Line → Result Read Cause
-add read version_line = Ok read
+add read (version_line version) = add_version read version
 add read (mode_line mode) = add_mode read mode
 add read (level_line place doi sens comps) = add_label read place (label_of doi sens comps)
 add read (format_line lfs pi word) = add_format read lfs pi (spelling_of word)
@@ -138,6 +143,7 @@ is_full read = read.begun && is_some read.mode && not (is_empty read.labels) && 
 abbrev pub finished : Read → Policy
 finished read = record {
   text = read.text;
+  version = unwrap_or read.version 1;
   mode = unwrap_or read.mode Enforcing;
   labels = read.labels;
   formats = entries_in read;

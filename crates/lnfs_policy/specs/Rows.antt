@@ -5,14 +5,14 @@ use Rattle.std.specs.List.{filter_map}
 use Rattle.std.specs.Option.{option_or}
 use Rattle.lnfs_calipso.specs.Label.{Label, label_at}
 use Rattle.lnfs_format.specs.Entries.{is_pair}
-use Rattle.lnfs_format.specs.Reading.{bare, reads_comps}
+use Rattle.lnfs_format.specs.Long.{label_with}
 use Rattle.lnfs_format.specs.declared.kind.Kind.{Kind}
 use Rattle.lnfs_format.specs.declared.kind.Kind.TheVariants as kind
 use Rattle.lnfs_format.specs.declared.kind.NameRow.{NameRow}
 use Rattle.lnfs_format.specs.declared.formats.FormatEntry.{FormatEntry}
 use Rattle.std.specs.Str.{bytes_eq}
 use Rattle.lnfs_words.specs.Hex.{lower_hex_of, lower_hex_sized}
-use Rattle.lnfs_policy.specs.Line.{Line, mode_line, level_line, format_line, name_line, parent_line, guest_line, quota_line, dir_line}
+use Rattle.lnfs_policy.specs.Line.{Line, version_line, mode_line, level_line, format_line, name_line, parent_line, guest_line, quota_line, dir_line}
 use Rattle.lnfs_policy.specs.declared.mode.Mode.{Mode}
 use Rattle.lnfs_policy.specs.declared.rows.Spelling.{Spelling}
 use Rattle.lnfs_policy.specs.declared.rows.Spelling.TheVariants as spelling
@@ -29,10 +29,13 @@ abbrev pub mode_in : Line → Option Mode
 mode_in (mode_line mode) = Some mode
 mode_in line = None
 
+abbrev pub version_in : Line → Option ℕ
+version_in (version_line version) = Some version
+version_in line = None
+
 -- `-` is no compartment, and other words are compartments as their maximal runs
 unfoldable pub label_of : (doi sens : ℕ) (comps : List ℕ) → Option Label
-label_of doi sens comps =
-    if nat_le sens 255 then (if bytes_eq comps (codes "-") then Some (bare doi sens) else reads_comps doi sens comps) else None
+label_of doi sens comps = if nat_le sens 255 then label_with doi sens comps else None
 
 abbrev pub label_in : Line → Option Label
 label_in (level_line place doi sens comps) = label_of doi sens comps
@@ -42,7 +45,8 @@ abbrev pub spelling_of : List ℕ → Option Spelling
 spelling_of word =
     if bytes_eq word (codes "calipso") then Some spelling.Calipso
     else (if bytes_eq word (codes "text") then Some spelling.Text
-    else (if bytes_eq word (codes "name") then Some spelling.Name else None))
+    else (if bytes_eq word (codes "name") then Some spelling.Name
+    else (if bytes_eq word (codes "long") then Some spelling.Long else None)))
 
 abbrev pub format_in : Line → Option FormatRow
 format_in (format_line lfs pi word) = option_map (λ s. record { pair = record { lfs = lfs; pi = pi }; spelling = s }) (spelling_of word)
@@ -70,10 +74,16 @@ dir_in line = None
 
 -- ---- what all lines give
 
--- the mode of the first mode line
+-- what the first line gives that gives it
+abbrev pub first_of : {A : Type 0} → (Line → Option A) → List Line → Option A
+first_of f [] = None
+first_of f (line ∷ lines) = option_or (f line) (first_of f lines)
+
+abbrev pub version_of : List Line → Option ℕ
+version_of = first_of version_in
+
 abbrev pub mode_of : List Line → Option Mode
-mode_of [] = None
-mode_of (line ∷ lines) = option_or (mode_in line) (mode_of lines)
+mode_of = first_of mode_in
 
 abbrev pub labels_of : List Line → List Label
 labels_of = filter_map label_in
@@ -106,6 +116,7 @@ abbrev pub kind_of : List Label → List LevelName → FormatRow → Spelling �
 kind_of labels names row spelling.Calipso = kind.Calipso
 kind_of labels names row spelling.Text = kind.Text row.pair.pi
 kind_of labels names row spelling.Name = kind.Name (filter_map (name_row labels row.pair.lfs row.pair.pi) names)
+kind_of labels names row spelling.Long = kind.Long
 
 abbrev pub entry_in : List Label → List LevelName → FormatRow → FormatEntry
 entry_in labels names row = record { lfs = row.pair.lfs; pi = row.pair.pi; kind = kind_of labels names row row.spelling }

@@ -6,7 +6,7 @@ use Rattle.lnfs_policy.specs.declared.line.Line.TheVariants as line
 use Rattle.lnfs_policy.specs.declared.cause.Cause.{Cause}
 
 abbrev pub seen : Line → said.Line
-seen line.Version = said.version_line
+seen (line.Version version) = said.version_line version
 seen (line.Mode mode) = said.mode_line mode
 seen (line.Level place doi sens comps) = said.level_line place doi sens comps.now
 seen (line.Format pair kind) = said.format_line pair.lfs pair.pi kind.now

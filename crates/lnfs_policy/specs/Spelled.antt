@@ -1,5 +1,5 @@
 -- The one spelling of a line of the policy file.
-use Rattle.std.specs.Prelude.{◌<◌, ◌+◌, ◌^◌, ℕ, List, [], ◌∷◌, Option, Some, None, IfSome, codes}
+use Rattle.std.specs.Prelude.{◌≡◌, ◌⊎◌, ◌<◌, ◌+◌, ◌^◌, ℕ, List, [], ◌∷◌, Option, Some, None, IfSome, codes}
 use Rattle.std.specs.Fmt.{decimal}
 use Rattle.lnfs_policy.specs.Line.{Line, version_line, mode_line, level_line, format_line, name_line, parent_line, guest_line, quota_line, dir_line}
 use Rattle.lnfs_policy.specs.declared.mode.Mode.TheVariants.{Enforcing, Limited}
@@ -11,7 +11,7 @@ uid_word (Some uid) = decimal uid
 
 -- the words of a line
 abbrev pub spelled : Line → List (List ℕ)
-spelled version_line = codes "lnfs-policy" ∷ codes "1" ∷ []
+spelled (version_line version) = codes "lnfs-policy" ∷ decimal version ∷ []
 spelled (mode_line Enforcing) = codes "mode" ∷ codes "enforcing" ∷ []
 spelled (mode_line Limited) = codes "mode" ∷ codes "limited" ∷ []
 spelled (level_line place doi sens comps) = codes "level" ∷ decimal place ∷ decimal doi ∷ decimal sens ∷ comps ∷ []
@@ -32,7 +32,7 @@ FitsQuota n = n < 2 ^ 62 + 1
 
 -- each number of a line fits
 abbrev pub HasNumbers : Line → Type 0
-HasNumbers version_line = Unit {0}
+HasNumbers (version_line version) = (version ≡ 1) ⊎ (version ≡ 2)
 HasNumbers (mode_line mode) = Unit {0}
 HasNumbers (level_line place doi sens comps) = Fits32 place × Fits32 doi × Fits32 sens
 HasNumbers (format_line lfs pi kind) = Fits32 lfs × Fits32 pi

@@ -1,22 +1,25 @@
 //! The rules of the lines after those before them, one function for each kind.
 
-ghost use Rattle.std.specs.Prelude.{◌≡◌, ◌==◌, ◌&&◌, ◌<◌, Some, length, find, IfOk};
-ghost use Rattle.std.specs.List.{list_any, slice_index_or};
+ghost use Rattle.std.specs.Prelude.{◌≡◌, ◌==◌, ◌&&◌, ◌<◌, nat_lt, false, Some, length, find, IfOk};
+ghost use Rattle.std.specs.List.{list_any, list_all, slice_index_or};
 ghost use Rattle.std.specs.Option.{option_copied};
 ghost use Rattle.std.specs.Str.{bytes_eq};
 ghost use Rattle.lnfs_calipso.specs.Label.{label_at};
 ghost use Rattle.lnfs_format.specs.Entries.{is_pair};
 ghost use Rattle.lnfs_policy.specs.Rows.{label_of, spelling_of};
-ghost use Rattle.lnfs_policy.specs.Fits.{is_known, is_next, is_table, format_fits, clashes, name_fits, guest_fits, quota_fits, level_at, is_above, dir_fits};
+ghost use Rattle.lnfs_policy.specs.Fits.{is_known, is_next, is_narrow, in_version, level_fits, is_table, is_old, kind_fits, format_fits, clashes, name_fits, guest_fits, quota_fits, level_at, is_above, dir_fits};
 
 use crate::rows::{DirLine, FormatRow, LevelName, Quota, Spelling};
-use lnfs_calipso::{Label, MAX_LEVELS};
-use lnfs_format::{MAX_FORMATS, MAX_SPELLING, Pair, read_comps};
+use lnfs_calipso::{COMPARTMENTS, Label, MAX_LEVELS};
+use lnfs_format::{MAX_FORMATS, MAX_SPELLING, Pair, read_label_with};
 use lnfs_words::{is_path, parent_of, spells};
 use std::alloc::{AllocError, Global};
 
 /// The highest class of a guest, and so of a link.
 pub const MAX_CLASS: u32 = 7;
+
+/// The number of compartments of version 1, from 0 to 255.
+const FIRST_COMPARTMENTS: u16 = 256;
 
 /// The most directories of a policy.
 const MAX_DIRS: usize = 256;
@@ -45,10 +48,7 @@ pub fn label_of(
     if sens > 255 {
         return Ok(None);
     }
-    if spells(comps, "-") {
-        return Ok(Some(Label::bare(doi, sens as u8)));
-    }
-    read_comps(alloc, doi, sens as u8, comps)
+    read_label_with(alloc, doi, sens as u8, comps)
 }
 
 fn first_or<'a>(labels: &'a [Label], label: &'a Label) -> &'a Label
@@ -57,12 +57,71 @@ fn first_or<'a>(labels: &'a [Label], label: &'a Label) -> &'a Label
     labels.first().unwrap_or(label)
 }
 
-/// Whether a label may come next: there is room, it is new, and it dominates the first.
+/// Whether a label may come next: there is room, and it is new.
 #[tactic(auto, unfolding(crate::specs::Fits::is_next))]
 pub fn is_next(labels: &[Label], label: &Label) -> bool
     ensures { result ≡ is_next labels.now label.now }
 {
-    labels.len() < MAX_LEVELS && label.dominates(first_or(labels, label)) && !labels.contains(label)
+    labels.len() < MAX_LEVELS && !labels.contains(label)
+}
+
+/// Whether each compartment of a label is below a number.
+fn is_below(label: &Label, bound: u16) -> bool
+    ensures { result ≡ list_all (λ c. nat_lt c bound) label.now.comps }
+{
+    label.law_label();
+    for comp in bound..COMPARTMENTS {
+        if label.has(comp) {
+            return false;
+        }
+    }
+    true
+}
+
+/// Whether version 1 takes a label: it dominates the first, and has no compartment above 255.
+#[tactic(auto, unfolding(crate::specs::Fits::is_narrow))]
+fn is_narrow(labels: &[Label], label: &Label) -> bool
+    ensures { result ≡ is_narrow labels.now label.now }
+{
+    label.dominates(first_or(labels, label)) && is_below(label, FIRST_COMPARTMENTS)
+}
+
+/// Whether a label may come next in a version.
+pub fn level_fits(version: Option<u32>, labels: &[Label], place: u32, label: &Label) -> bool
+    ensures { result ≡ level_fits version labels.now place (Some label.now) }
+{
+    place as usize == labels.len()
+        && is_next(labels, label)
+        && (is_new(version) || is_narrow(labels, label))
+}
+
+/// Whether a version is later than the first.
+fn is_new(version: Option<u32>) -> bool
+    ensures { result ≡ in_version version false }
+{
+    match version {
+        Some(version) => version > 1,
+        None => false,
+    }
+}
+
+impl Spelling {
+    /// Whether version 1 has the kind.
+    fn is_old(&self) -> bool
+        ensures { result ≡ is_old self.now }
+    {
+        match self {
+            Spelling::Calipso | Spelling::Text | Spelling::Name => true,
+            Spelling::Long => false,
+        }
+    }
+}
+
+/// Whether a version has a kind of format.
+pub fn kind_fits(version: Option<u32>, spelling: Spelling) -> bool
+    ensures { result ≡ kind_fits version (Some spelling) }
+{
+    is_new(version) || spelling.is_old()
 }
 
 /// The kind of format that a word names.
@@ -75,6 +134,8 @@ pub fn spelling_of(word: &[u8]) -> Option<Spelling>
         Some(Spelling::Text)
     } else if spells(word, "name") {
         Some(Spelling::Name)
+    } else if spells(word, "long") {
+        Some(Spelling::Long)
     } else {
         None
     }
@@ -98,7 +159,7 @@ impl Spelling {
         ensures { result ≡ is_table self.now }
     {
         match self {
-            Spelling::Calipso | Spelling::Text => false,
+            Spelling::Calipso | Spelling::Text | Spelling::Long => false,
             Spelling::Name => true,
         }
     }
@@ -206,7 +267,8 @@ fn is_above(labels: &[Label], level: u32, parent: Option<u32>) -> bool
     ensures { result ≡ is_above labels.now level parent }
 {
     match parent {
-        Some(parent) => label_at(labels, level).dominates(label_at(labels, parent)),
+        Some(0) => true,
+        Some(parent) => level > 0 && label_at(labels, level).dominates(label_at(labels, parent)),
         None => false,
     }
 }

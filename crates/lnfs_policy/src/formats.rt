@@ -21,7 +21,7 @@ fn row_of(alloc: Global, labels: &[Label], name: &LevelName) -> Result<NameRow, 
         ≡ record { label = label_at labels.now name.now.level.0; bytes = name.now.bytes }) }
 {
     Ok(NameRow {
-        label: *label_at(labels, name.level.0),
+        label: label_at(labels, name.level.0).clone()?,
         bytes: Octets::from_slice(alloc, name.bytes.as_slice())?,
     })
 }
@@ -62,6 +62,7 @@ fn entry_of(
         Spelling::Name => Kind::Name {
             rows: Items::new(table_of(alloc, labels, names, row.pair)?),
         },
+        Spelling::Long => Kind::Long,
     };
     Ok(FormatEntry {
         lfs: row.pair.lfs,

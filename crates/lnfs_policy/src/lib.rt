@@ -17,5 +17,5 @@ pub use cause::{Cause, PolicyError};
 pub use fits::MAX_CLASS;
 pub use mode::Mode;
 pub use policy::Policy;
-pub use read::{read_policy, write_policy};
+pub use read::{migrate, read_policy, write_policy};
 pub use rows::{DirLine, Guest, Limit, Parent, Quota};

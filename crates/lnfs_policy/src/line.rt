@@ -16,7 +16,7 @@ const MAX_QUOTA: u64 = 1 << 62;
 /// What a line says: its kind, its numbers, and the words that are no numbers.
 #[derive(Clone, Copy)]
 pub enum Line<'a> {
-    Version,
+    Version(u32),
     Mode(Mode),
     Level {
         place: u32,
@@ -60,7 +60,7 @@ impl Line<'_> {
         ensures { result ≡ rank (seen self.now) }
     {
         match self {
-            Line::Version => 0,
+            Line::Version(_) => 0,
             Line::Mode(_) => 1,
             Line::Level { .. } => 2,
             Line::Format { .. } => 3,
@@ -135,7 +135,9 @@ fn version<'a>(words: Parts<'a>) -> Result<Line<'a>, Cause>
 {
     let one = words.one().ok_or(Cause::Words)?;
     if spells(one, "1") {
-        Ok(Line::Version)
+        Ok(Line::Version(1))
+    } else if spells(one, "2") {
+        Ok(Line::Version(2))
     } else {
         Err(Cause::Words)
     }

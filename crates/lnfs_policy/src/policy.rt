@@ -25,6 +25,7 @@ const DEFAULT_LIMIT: Limit = Limit {
 pub struct Policy {
     /// The canonical text.
     pub(crate) text: Vec<u8>,
+    pub(crate) version: u32,
     pub(crate) mode: Mode,
     pub(crate) lattice: Lattice,
     pub(crate) formats: Formats,
@@ -48,6 +49,13 @@ impl Model for Policy {
 }
 
 impl Policy {
+    /// The version of the file: 1 or 2.
+    pub fn version(&self) -> u32
+        ensures { result ≡ self.now.version }
+    {
+        self.version
+    }
+
     /// Who enforces the labels.
     pub fn mode(&self) -> Mode
         ensures { result ≡ self.now.mode }

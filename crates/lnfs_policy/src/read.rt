@@ -3,6 +3,7 @@
 ghost use Rattle.std.specs.Prelude.{◌≡◌, ◌&&◌, Ok, IfOk, IfErr};
 ghost use Rattle.lnfs_words.specs.Words.{is_empty};
 ghost use Rattle.lnfs_policy.specs.PolicyText.{policy_of, IsRefusal};
+ghost use Rattle.lnfs_policy.specs.Migrated.{IsMigrated};
 
 use crate::cause::PolicyError;
 use crate::policy::Policy;
@@ -10,6 +11,9 @@ use crate::reading::Reading;
 use lnfs_format::Codecs;
 use lnfs_words::Parts;
 use std::alloc::{AllocError, Global};
+
+/// The first line of version 2, which is as long as that of version 1.
+const VERSION_2: &[u8; 14] = b"lnfs-policy 2\n";
 
 /// Whether nothing stands behind the last newline.
 fn is_end(line: &[u8], last: bool) -> bool
@@ -60,4 +64,19 @@ pub fn write_policy(alloc: Global, policy: &Policy) -> Result<Vec<u8>, AllocErro
 {
     policy.law_policy();
     Vec::from_slice(alloc, &policy.text)
+}
+
+/// The text of a policy in version 2: its canonical text with another first line.
+///
+/// # Errors
+///
+/// `AllocError` where there is no memory.
+pub fn migrate(alloc: Global, policy: &Policy) -> Result<Vec<u8>, AllocError>
+    ensures { IfOk result (λ text. IsMigrated policy.now text.items) }
+{
+    policy.law_policy();
+    let mut text = Vec::with_capacity(alloc, policy.text.len())?;
+    text.extend_from_slice(VERSION_2)?;
+    text.extend_from_slice(&policy.text[VERSION_2.len()..])?;
+    Ok(text)
 }

@@ -4,13 +4,13 @@ ghost use Rattle.std.specs.Prelude.{◌≡◌, Ok, MatchResult};
 ghost use Rattle.lnfs_policy.specs.Seen.{seen};
 ghost use Rattle.lnfs_policy.specs.Rows.{label_of, spelling_of};
 ghost use Rattle.lnfs_words.specs.Hex.{lower_hex_of};
-ghost use Rattle.lnfs_policy.specs.PolicyText.{IsPolicy};
+ghost use Rattle.lnfs_policy.specs.PolicyText.{is_version, IsPolicy};
 ghost use Rattle.lnfs_policy.specs.Reading.{nothing, add, add_label, add_format, add_name, add_parent, add_guest, add_quota, add_dir, stands, judge, judge_line, finish, IsStop};
 
 use crate::cause::{Cause, Stop};
 use crate::fits::{
-    dir_fits, format_fits, guest_fits, is_known, is_next, label_of, name_fits, quota_fits,
-    spelling_of,
+    dir_fits, format_fits, guest_fits, is_known, kind_fits, label_of, level_fits, name_fits,
+    quota_fits, spelling_of,
 };
 use crate::formats::{entries_of, spells_all};
 use crate::guests::Guests;
@@ -26,6 +26,16 @@ use std::alloc::Global;
 use std::collections::BTreeMap;
 use std::marker::Model;
 
+/// The version of a text without a version line, of which there is none.
+const FIRST_VERSION: u32 = 1;
+
+/// Whether a line tells a version of the policy file.
+fn is_version(text: &[u8]) -> bool
+    ensures { result ≡ is_version text.now }
+{
+    spells(text, "lnfs-policy 1") || spells(text, "lnfs-policy 2")
+}
+
 /// What was read so far.
 #[derive(Drop)]
 pub struct Reading {
@@ -35,6 +45,7 @@ pub struct Reading {
     /// The rank of the last line.
     stage: u8,
     text: Vec<u8>,
+    version: Option<u32>,
     mode: Option<Mode>,
     labels: Vec<Label>,
     rows: Vec<FormatRow>,
@@ -55,6 +66,7 @@ impl Model for Reading {
       begun = r.begun;
       stage = r.stage;
       text = r.text.items;
+      version = r.version;
       mode = r.mode;
       labels = r.labels.items;
       rows = r.rows.items;
@@ -78,6 +90,7 @@ impl Reading {
             begun: false,
             stage: 0,
             text: Vec::new(alloc),
+            version: None,
             mode: None,
             labels: Vec::new(alloc),
             rows: Vec::new(alloc),
@@ -96,7 +109,7 @@ impl Reading {
         let Some(label) = label else {
             return Err(Stop::Broken(Cause::Level));
         };
-        if place as usize != self.labels.len() || !is_next(&self.labels, &label) {
+        if !level_fits(self.version, &self.labels, place, &label) {
             return Err(Stop::Broken(Cause::Level));
         }
         self.labels.push(label)?;
@@ -110,7 +123,7 @@ impl Reading {
         let Some(spelling) = spelling else {
             return Err(Stop::Broken(Cause::Format));
         };
-        if !format_fits(&self.rows, pair) {
+        if !kind_fits(self.version, spelling) || !format_fits(&self.rows, pair) {
             return Err(Stop::Broken(Cause::Format));
         }
         self.rows.push(FormatRow { pair, spelling })?;
@@ -204,7 +217,10 @@ impl Reading {
             (IsStop (add self.old (seen line.now))) }
     {
         match *line {
-            Line::Version => Ok(()),
+            Line::Version(version) => {
+                self.version = self.version.or(Some(version));
+                Ok(())
+            }
             Line::Mode(mode) => {
                 self.mode = Some(mode);
                 Ok(())
@@ -246,7 +262,7 @@ impl Reading {
         ensures { MatchResult result (λ _. judge_line self.old ended text.now ≡ Ok self.new)
             (IsStop (judge_line self.old ended text.now)) }
     {
-        if spells(text, "lnfs-policy 1") == self.begun {
+        if is_version(text) == self.begun {
             return Err(Stop::Broken(Cause::Version));
         }
         if !ended || !is_worded(text) {
@@ -290,6 +306,7 @@ impl Reading {
             begun,
             stage: _,
             text,
+            version,
             mode,
             labels,
             rows,
@@ -312,6 +329,7 @@ impl Reading {
         let guests = Guests::of(alloc, guests)?;
         Ok(Policy {
             text,
+            version: version.unwrap_or(FIRST_VERSION),
             mode,
             lattice: Lattice::of(labels),
             formats: Formats::of(entries),

@@ -10,6 +10,7 @@ pub enum Spelling {
     Calipso,
     Text,
     Name,
+    Long,
 }
 
 /// A format line.

@@ -69,6 +69,7 @@ where
     let calipso = Codec::new(0, Box::new(alloc, read)?, Box::new(alloc, write)?);
     let text = Codec::new(1, Box::new(alloc, read)?, Box::new(alloc, write)?);
     let name = Codec::new(2, Box::new(alloc, read)?, Box::new(alloc, write)?);
-    let codecs = Codecs::new(calipso, text, name);
+    let long = Codec::new(3, Box::new(alloc, read)?, Box::new(alloc, write)?);
+    let codecs = Codecs::new(calipso, text, name, long);
     Ok(run(rt, alloc, words, files, out, audit, net, clock, codecs))
 }

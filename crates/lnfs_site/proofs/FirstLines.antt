@@ -101,7 +101,7 @@ module _ (p : Policy) (lattice : IsPreorderWithBottom (dominance p)) where
 
 has_all : (text : List ℕ) (p : Policy) → policy_of text ≡ Ok p → HasAll (first_world p) (root_dir (first_label p 0) ∷ map (first_dir p) p.dirs)
 unfolding first_world
-has_all text p e = let lattice = preordered text p e in all_stand (dominance p) lattice (first_label p 0) (map (first_dir p) p.dirs) (all_fit p lattice [] p.dirs (dirs_fit text p e))
+has_all text p e = let lattice = preordered p in all_stand (dominance p) lattice (first_label p 0) (map (first_dir p) p.dirs) (all_fit p lattice [] p.dirs (dirs_fit text p e))
 
 all_mapped : {X Y : Type 0} (f : X → Y) (P : Y → Type 0) (Q : X → Type 0) → ((x : X) → P (f x) → Q x) → (xs : List X) → AllByRecursion P (map f xs) → AllByRecursion Q xs
 all_mapped f P Q each [] all = tt

@@ -15,6 +15,7 @@ line path level = record { path = path; level = record { 0 = level } }
 abbrev pub site : Policy
 site = record {
   text = [];
+  version = 1;
   mode = Enforcing;
   labels = label 0 [] ∷ label 1 (0 ∷ []) ∷ label 1 (1 ∷ []) ∷ label 3 (0 ∷ 1 ∷ 2 ∷ 5 ∷ []) ∷ [];
   formats = [];

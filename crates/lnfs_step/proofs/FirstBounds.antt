@@ -223,7 +223,7 @@ few_dirs p text e =
 
 module _ (p : Policy) (text : List ℕ) (is : policy_of text ≡ Ok p) where
   lattice : IsPreorderWithBottom (dominance p)
-  lattice = preordered text p is
+  lattice = preordered p
 
   line_level : (limited : Bool) (level : ℕ) → level < length p.labels → cond limited (cond limited 0 level == 0) (nat_lt (cond limited 0 level) (length p.labels)) ≡ true
   line_level true level below = refl

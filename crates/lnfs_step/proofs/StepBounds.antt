@@ -79,7 +79,7 @@ module _ (X : Extra) (owed : AreLawful X) (m : Signing) (p : Policy) (lattice : 
 
 module _ (X : Extra) (owed : AreLawful X) (m : Signing) (p : Policy) (text : List ℕ) (is : policy_of text ≡ Ok p) where
   lattice : IsPreorderWithBottom (dominance p)
-  lattice = preordered text p is
+  lattice = preordered p
 
   -- ---- contexts
 

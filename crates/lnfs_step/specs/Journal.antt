@@ -1,12 +1,12 @@
 -- Journals: the state after one, and the answer on one that is purged.
-use Rattle.std.specs.Prelude.{ℕ, ◌+◌, List, [], ◌∷◌, ◌++◌, length, Option, Some, None}
+use Rattle.std.specs.Prelude.{ℕ, List, [], ◌∷◌, ◌++◌, Option, Some, None}
 use Rattle.std.specs.Fmt.{decimal}
 use Rattle.lnfs_types.specs.declared.event.Event.{Event}
 use Rattle.lnfs_policy.specs.Policy.{Policy, dominance}
 use Rattle.lnfs_world.specs.Facts.{Facts}
 use Rattle.lnfs_world.specs.Both.{Both, both, both_seen}
 use Rattle.lnfs_operations.specs.Bounds.{IsSound}
-use Rattle.lnfs_operations.specs.Extra.{Extra, no_extra}
+use Rattle.lnfs_operations.specs.Extra.{Extra}
 use Rattle.lnfs_gss3.specs.Mechanism.{Signing}
 use Rattle.lnfs_step.specs.Purged.{purged_for}
 use Rattle.lnfs_site.specs.Site.{site_of, first_world}
@@ -53,13 +53,7 @@ line_with X m p journal event = (step_with X m p (state_after X m p journal) eve
 unfoldable pub answer_with : (X : Extra) → Signing → Policy → List Event → Event → Option (List ℕ)
 answer_with X m p journal event = reply_with X m p (purged_for m p journal event) event
 
--- ---- with the operations of the table alone
-
-abbrev pub line_at : Signing → Policy → List Event → Event → Option Line
-line_at = line_with no_extra
-
-abbrev pub answer : Signing → Policy → List Event → Event → Option (List ℕ)
-answer = answer_with no_extra
+-- ---- audit lines
 
 abbrev pub line_text : ℕ → Line → List ℕ
 line_text event line = decimal event ++ 32 ∷ decimal line.place ++ 32 ∷ decimal line.number ++ 32 ∷ line.gate ++ 32 ∷ decimal line.status ++ 10 ∷ []
@@ -67,7 +61,3 @@ line_text event line = decimal event ++ 32 ∷ decimal line.place ++ 32 ∷ deci
 abbrev pub text_of : ℕ → Option Line → Option (List ℕ)
 text_of event None = None
 text_of event (Some line) = Some (line_text event line)
-
--- the audit line of an event, with its place in the journal, from 1
-unfoldable pub audit_at : Signing → Policy → List Event → Event → Option (List ℕ)
-audit_at m p journal event = text_of (length journal + 1) (line_at m p journal event)

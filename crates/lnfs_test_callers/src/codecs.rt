@@ -1,4 +1,4 @@
-//! What reads and writes the labels of the three kinds of format. It makes stored closures, which a function outside tests
+//! What reads and writes the labels of the four kinds of format. It makes stored closures, which a function outside tests
 //! may not hand on, so each crate of tests that needs it has its own.
 ghost use Rattle.std.specs.Prelude.{◌≡◌, IfOk};
 ghost use Rattle.std.specs.Option.{option_map};
@@ -22,10 +22,11 @@ fn codec_of(alloc: Global, number: u32) -> Result<Codec, AllocError>
     Ok(Codec::new(number, read, Box::new(alloc, write)?))
 }
 
-/// The codecs of all three kinds.
+/// The codecs of all four kinds.
 pub fn codecs_of(alloc: Global) -> Result<Codecs, AllocError> {
     let calipso = codec_of(alloc, 0)?;
     let text = codec_of(alloc, 1)?;
     let name = codec_of(alloc, 2)?;
-    Ok(Codecs::new(calipso, text, name))
+    let long = codec_of(alloc, 3)?;
+    Ok(Codecs::new(calipso, text, name, long))
 }

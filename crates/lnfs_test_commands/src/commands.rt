@@ -47,6 +47,15 @@ check | 2 | | fault 2 usage
 check p p | 2 | | fault 2 usage
 replay limited no | 9 | | fault 9 no file no
 check limited | 0 | = limited
+check newer | 0 | = newer
+migrate p | 0 | = newer
+migrate newer | 0 | = newer
+migrate commented | 0 | = newer
+migrate level | 3 | | fault 3 policy line 4 cause Level
+migrate no | 9 | | fault 9 no file no
+migrate | 2 | | fault 2 usage
+migrate p p | 2 | | fault 2 usage
+check long | 0 | = long
 ";
 
 /// Labels that are translated, and labels without a translation.
@@ -62,6 +71,9 @@ translate p 102 1 7332 101 1 | 10 | | fault 10 untranslated BadLabel
 translate p 101 1 '' 102 1 | 10 | | fault 10 untranslated BadLabel
 translate no 101 1 00 102 1 | 9 | | fault 9 no file no
 translate level 101 1 00 102 1 | 3 | | fault 3 policy line 4 cause Level
+translate long 101 1 000000010103e4000000 105 0 | 0 | 312f332f63302e63322c6335
+translate long 105 0 312f332f63302e63322c6335 102 1 | 0 | 73333a63302e63322c6335
+translate long 105 0 322f332f63302e63322c6335 101 1 | 10 | | fault 10 untranslated BadLabel
 ";
 
 /// Generated events. The files `one` and `thousand` have what is due for the seed 7, and `twenty` for the seed 0: the digests were
@@ -142,11 +154,12 @@ replay p none ! open 3 | 0 |
 ";
 
 /// Policies that differ from `p` in a line: a name, a part of its text, and what stands there.
-const OTHERS: [(&str, &str, &str); 4] = [
+const OTHERS: [(&str, &str, &str); 5] = [
     ("commented", "level 0", "# a comment\n\n#\nlevel 0"),
     ("level", "level 1 1 1 c0", "level 1 2 1 c0"),
     ("guest", "guest 0 * 0", "guest 0 * 9"),
     ("limited", "mode enforcing", "mode limited"),
+    ("newer", "lnfs-policy 1", "lnfs-policy 2"),
 ];
 
 /// Recordings, by name.
@@ -171,6 +184,13 @@ fn policies(alloc: Global) -> Result<Vec<MemFile>, AllocError> {
         let text = POLICY.replace(alloc, from, to)?;
         files.push(file(alloc, name, text.as_bytes())?)?;
     }
+    let newer = POLICY.replace(alloc, "lnfs-policy 1", "lnfs-policy 2")?;
+    let long = newer.replace(
+        alloc,
+        "format 103 0 name\n",
+        "format 103 0 name\nformat 105 0 long\n",
+    )?;
+    files.push(file(alloc, "long", long.as_bytes())?)?;
     Ok(files)
 }
 
@@ -296,8 +316,8 @@ fn check(
 #[test]
 fn command_lines(rt: HostRuntime) -> Result<(), Flaw> {
     check(&rt, rt.alloc(), WORDS, 21)?;
-    check(&rt, rt.alloc(), CHECKS, 9)?;
-    check(&rt, rt.alloc(), LABELS, 11)?;
+    check(&rt, rt.alloc(), CHECKS, 18)?;
+    check(&rt, rt.alloc(), LABELS, 14)?;
     check(&rt, rt.alloc(), GENERATED, 14)?;
     check(&rt, rt.alloc(), SERVICES, 19)
 }

@@ -4,10 +4,10 @@ ghost use Rattle.std.specs.Option.{option_map};
 ghost use Rattle.lnfs_format.specs.Kinds.{reads, writes};
 
 use crate::codecs::codecs_of;
-use lnfs_calipso::{Label, Lattice, Level};
+use lnfs_calipso::{COMPARTMENTS, Label, Lattice, Level};
 use lnfs_format::{
     AddError, Codec, Codecs, FormatEntry, Formats, Kind, NameRow, Pair, ReadError, WriteError,
-    read_comps, read_text, write_comps, write_text,
+    read_comps, read_long, read_text, write_comps, write_long, write_text,
 };
 use lnfs_types::{Items, Octets};
 use std::alloc::{AllocError, Global};
@@ -24,6 +24,7 @@ const TEXTS: &[(&[u8], u8, &[u16])] = &[
     (b"s3:c0.c2,c5", 3, &[0, 1, 2, 5]),
     (b"s3:c0.c2,c5,c6", 3, &[0, 1, 2, 5, 6]),
     (b"s1:c255", 1, &[255]),
+    (b"s1:c256,c1919", 1, &[1_919, 256]),
     (b"s99:c99.c101,c254,c255", 99, &[255, 254, 101, 100, 99]),
 ];
 
@@ -42,7 +43,7 @@ const NO_TEXTS: &[&[u8]] = &[
     b"s3:0",
     b"s3:c",
     b"s3:c00",
-    b"s3:c256",
+    b"s3:c1920",
     b"s3:c0,",
     b"s3:c0,,c2",
     b"s3:,c0",
@@ -61,6 +62,35 @@ const NO_TEXTS: &[&[u8]] = &[
     b"s3:c0,s2",
     b"s3s3",
     b"s3:c0.c2,c5\n",
+];
+
+/// Long texts, each with the domain, the sensitivity and the compartments of its label.
+const LONG_TEXTS: &[(&[u8], u32, u8, &[u16])] = &[
+    (b"0/0/-", 0, 0, &[]),
+    (b"1/3/c0.c2,c5", 1, 3, &[0, 1, 2, 5]),
+    (b"4294967295/255/c1919", 4_294_967_295, 255, &[1_919]),
+];
+
+/// What is almost a long text.
+const NO_LONG_TEXTS: &[&[u8]] = &[
+    b"",
+    b"/",
+    b"1/3",
+    b"1/3/",
+    b"1//-",
+    b"/3/-",
+    b"01/3/-",
+    b"1/03/-",
+    b"1/256/-",
+    b"4294967296/3/-",
+    b"1/3/--",
+    b"1/3/-c0",
+    b"1/3/c0,-",
+    b"1/3/c1920",
+    b"1/3/c0/c1",
+    b"1/s3/c0",
+    b"1/3/c0,c1,c2",
+    b"1/3/c0 ",
 ];
 
 /// What is almost the runs of compartments.
@@ -88,6 +118,10 @@ const SPELLINGS: &[(u32, &[u8], Result<Level, ReadError>)] = &[
     (102, b"s3:c0,c1,c2", Err(ReadError::BadLabel)),
     (103, b"open", Ok(Level(0))),
     (103, b"shut", Err(ReadError::BadLabel)),
+    (105, b"1/3/c0.c2,c5", Ok(Level(1))),
+    (105, b"1/0/-", Ok(Level(0))),
+    (105, b"2/0/-", Err(ReadError::BadLabel)),
+    (105, b"1/0/", Err(ReadError::BadLabel)),
     (999, b"open", Err(ReadError::WrongLfs)),
 ];
 
@@ -98,11 +132,16 @@ const SPELLED: &[(u32, u32, &[u8])] = &[
     (102, 1, b"s3:c0.c2,c5"),
     (102, 0, b"s0"),
     (103, 0, b"open"),
+    (105, 1, b"1/3/c0.c2,c5"),
+    (105, 0, b"1/0/-"),
 ];
 
 /// Whether the bytes are read as a label.
 fn is_read(alloc: Global, bytes: &[u8], label: &Label) -> Result<bool, AllocError> {
-    Ok(read_text(alloc, 7, bytes)? == Some(*label))
+    match read_text(alloc, 7, bytes)? {
+        Some(read) => Ok(read == *label),
+        None => Ok(false),
+    }
 }
 
 /// Whether the bytes are what is written of a label, or nothing is where there are none.
@@ -150,7 +189,10 @@ fn expect_no_texts(rt: &impl Abort, alloc: Global) -> Result<(), AllocError> {
 fn expect_runs(rt: &impl Abort, alloc: Global) -> Result<(), Fail> {
     let label = Label::new(alloc, 1, 3, &[0, 1, 2, 5])?;
     assert!(rt; write_comps(alloc, &label)?.as_slice() == b"c0.c2,c5".as_slice());
-    assert!(rt; read_comps(alloc, 1, 3, b"c0.c2,c5")? == Some(label));
+    match read_comps(alloc, 1, 3, b"c0.c2,c5")? {
+        Some(read) => assert!(rt; read == label),
+        None => return Err(Fail::from("no runs")),
+    }
     Ok(())
 }
 
@@ -171,6 +213,59 @@ fn texts_are_read_and_written(rt: HostRuntime) -> Result<(), Fail> {
     Ok(())
 }
 
+/// Whether the bytes are read as a label, and written of it.
+fn is_long(alloc: Global, bytes: &[u8], label: &Label) -> Result<bool, AllocError> {
+    let Some(read) = read_long(alloc, bytes)? else {
+        return Ok(false);
+    };
+    match write_long(alloc, label)? {
+        Some(text) => Ok(read == *label && text.as_slice() == bytes),
+        None => Ok(false),
+    }
+}
+
+#[test]
+fn long_texts_are_read_and_written(rt: HostRuntime) -> Result<(), Fail> {
+    let alloc = rt.alloc();
+    for (bytes, doi, sens, comps) in LONG_TEXTS {
+        let label = Label::new(alloc, *doi, *sens, comps)?;
+        assert!(rt; is_long(alloc, bytes, &label)?, "{bytes:?}");
+    }
+    for bytes in NO_LONG_TEXTS {
+        assert!(rt; read_long(alloc, bytes)?.is_none(), "{bytes:?}");
+    }
+    Ok(())
+}
+
+/// A label of so many compartments, each beside one that it doesn't have.
+fn scattered(alloc: Global, count: u16) -> Result<Label, AllocError> {
+    let mut label = Label::bare(alloc, 1, 0);
+    for number in 0..count {
+        let comp = number.saturating_mul(2);
+        if comp < COMPARTMENTS {
+            label.insert(comp)?;
+        }
+    }
+    Ok(label)
+}
+
+/// The most compartments, each beside one that is absent, of a label that has a text.
+const TEXT_COUNT: u16 = 215;
+
+#[test]
+fn texts_of_1024_bytes_and_no_longer(rt: HostRuntime) -> Result<(), Fail> {
+    let alloc = rt.alloc();
+    let short = scattered(alloc, TEXT_COUNT)?;
+    let text = write_text(alloc, 1, &short)?.ok_or("no text")?;
+    assert!(rt; text.len() == 1022);
+    let read = read_text(alloc, 1, &text)?.ok_or("no label")?;
+    assert!(rt; read == short);
+    let long = scattered(alloc, TEXT_COUNT + 1)?;
+    assert!(rt; write_text(alloc, 1, &long)?.is_none());
+    assert!(rt; write_long(alloc, &long)?.is_none());
+    Ok(())
+}
+
 /// The names of one label.
 fn one_name(alloc: Global, label: Label) -> Result<Kind, AllocError> {
     let bytes = Octets::from_slice(alloc, b"open")?;
@@ -188,20 +283,22 @@ fn add(formats: &mut Formats, pair: Pair, kind: Kind) -> Result<(), Fail> {
     }
 }
 
-/// Formats of the three kinds, of which the last has a name for one label.
-pub fn three_formats(alloc: Global, named: Label, pairs: [Pair; 3]) -> Result<Formats, Fail> {
-    let [body, text, name] = pairs;
+/// Formats of the four kinds, of which one has a name for one label.
+pub fn four_formats(alloc: Global, named: Label, pairs: [Pair; 4]) -> Result<Formats, Fail> {
+    let [body, text, name, long] = pairs;
     let mut formats = Formats::new(alloc);
     add(&mut formats, body, Kind::Calipso)?;
     add(&mut formats, text, Kind::Text { doi: 1 })?;
     add(&mut formats, name, one_name(alloc, named)?)?;
+    add(&mut formats, long, Kind::Long)?;
     Ok(formats)
 }
 
-const PAIRS: [Pair; 3] = [
+const PAIRS: [Pair; 4] = [
     Pair { lfs: 101, pi: 1 },
     Pair { lfs: 102, pi: 1 },
     Pair { lfs: 103, pi: 1 },
+    Pair { lfs: 105, pi: 1 },
 ];
 
 /// The number of the first format.
@@ -226,7 +323,7 @@ fn expect_added(rt: &impl Abort, formats: &mut Formats) {
 fn formats_are_added(rt: HostRuntime) -> Result<(), Fail> {
     let none = Formats::new(rt.alloc());
     assert!(rt; first_number(&none).is_none());
-    let mut formats = three_formats(rt.alloc(), Label::bare(1, 0), PAIRS)?;
+    let mut formats = four_formats(rt.alloc(), Label::bare(rt.alloc(), 1, 0), PAIRS)?;
     expect_added(&rt, &mut formats);
     Ok(())
 }
@@ -305,9 +402,8 @@ fn expect_levels(rt: &impl Abort, codecs: &Codecs, lattice: &Lattice, formats: &
 fn levels_are_read_and_written(rt: HostRuntime) -> Result<(), Fail> {
     let alloc = rt.alloc();
     let codecs = codecs_of(alloc)?;
-    let bottom = Label::bare(1, 0);
-    let lattice = two_levels(alloc, bottom)?;
-    let formats = three_formats(alloc, bottom, PAIRS)?;
+    let lattice = two_levels(alloc, Label::bare(alloc, 1, 0))?;
+    let formats = four_formats(alloc, Label::bare(alloc, 1, 0), PAIRS)?;
     expect_levels(&rt, &codecs, &lattice, &formats);
     Ok(())
 }
@@ -330,14 +426,15 @@ fn failing_codecs(alloc: Global) -> Result<Codecs, AllocError> {
     let calipso = failing_codec(alloc, 0)?;
     let text = failing_codec(alloc, 1)?;
     let name = failing_codec(alloc, 2)?;
-    Ok(Codecs::new(calipso, text, name))
+    let long = failing_codec(alloc, 3)?;
+    Ok(Codecs::new(calipso, text, name, long))
 }
 
 fn expect_no_memory(rt: &impl Abort, codecs: &Codecs, lattice: &Lattice, formats: &Formats) {
     assert!(rt; lattice.holds(Level(0)));
     let bytes = b"\x00\x00\x00\x01\x00\x00";
     assert!(rt; formats.read(codecs, lattice, 101, 1, bytes) == Err(ReadError::Memory));
-    let [body, _, _] = PAIRS;
+    let [body, _, _, _] = PAIRS;
     let error = refusal(codecs, lattice, formats, body, Level(0));
     assert!(rt; error == Some(WriteError::Memory));
 }
@@ -346,9 +443,8 @@ fn expect_no_memory(rt: &impl Abort, codecs: &Codecs, lattice: &Lattice, formats
 fn the_stored_closures_are_called(rt: HostRuntime) -> Result<(), Fail> {
     let alloc = rt.alloc();
     let codecs = failing_codecs(alloc)?;
-    let bottom = Label::bare(1, 0);
-    let lattice = Lattice::new(alloc, &[bottom])?;
-    let formats = three_formats(alloc, bottom, PAIRS)?;
+    let lattice = Lattice::new(alloc, &[Label::bare(alloc, 1, 0)])?;
+    let formats = four_formats(alloc, Label::bare(alloc, 1, 0), PAIRS)?;
     expect_no_memory(&rt, &codecs, &lattice, &formats);
     Ok(())
 }

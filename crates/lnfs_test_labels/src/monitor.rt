@@ -124,7 +124,7 @@ fn expect_judged(rt: &impl Abort, lattice: &Lattice) {
 fn each_rule_allows_and_denies(rt: HostRuntime) -> Result<(), Fail> {
     let alloc = rt.alloc();
     let top = Label::new(alloc, 1, 3, &[0, 1, 2, 5])?;
-    let lattice = four_levels(alloc, Label::bare(1, 0), top)?;
+    let lattice = four_levels(alloc, Label::bare(alloc, 1, 0), top)?;
     expect_judged(&rt, &lattice);
     Ok(())
 }

@@ -10,6 +10,9 @@ type Rows = &'static [(&'static str, u64, Cause)];
 /// Four lines: the version, the mode and two levels.
 const LEVELS: &str = "lnfs-policy 1\nmode enforcing\nlevel 0 1 0 -\nlevel 1 1 1 c0\n";
 
+/// The same of version 2, with a level of another domain.
+const LEVELS_2: &str = "lnfs-policy 2\nmode enforcing\nlevel 0 1 0 -\nlevel 1 2 1 c0\n";
+
 /// And three formats.
 const FORMATS: &str = "format 101 1 calipso\nformat 102 1 text\nformat 103 0 name\n";
 
@@ -30,17 +33,20 @@ const FIRST_ROWS: Rows = &[
     ("# nothing\n\n", 3, Cause::Missing),
     ("# nothing", 1, Cause::Words),
     ("# é\nlnfs-policy 1\n", 1, Cause::Words),
-    ("lnfs-policy 2\n", 1, Cause::Version),
-    ("\n# two\nlnfs-policy 2\n", 3, Cause::Version),
+    ("lnfs-policy 3\n", 1, Cause::Version),
+    ("\n# three\nlnfs-policy 3\n", 3, Cause::Version),
+    ("\n# two\nlnfs-policy 2\n", 4, Cause::Missing),
     ("lnfs-policy  1\n", 1, Cause::Version),
     (" \nlnfs-policy 1\n", 1, Cause::Version),
-    ("lnfs-policy 2", 1, Cause::Version),
+    ("lnfs-policy 2", 1, Cause::Words),
     ("mode enforcing\n", 1, Cause::Version),
     ("lnfs-policy 1", 1, Cause::Words),
     ("lnfs-policy 1\n", 2, Cause::Missing),
     ("lnfs-policy 1\nlnfs-policy 1\n", 2, Cause::Version),
     ("lnfs-policy 1\n#\nlnfs-policy 1", 3, Cause::Version),
-    ("lnfs-policy 1\nlnfs-policy 2\n", 2, Cause::Words),
+    ("lnfs-policy 1\nlnfs-policy 2\n", 2, Cause::Version),
+    ("lnfs-policy 2\nlnfs-policy 1\n", 2, Cause::Version),
+    ("lnfs-policy 1\nlnfs-policy 3\n", 2, Cause::Words),
     (
         "lnfs-policy 1\nlevel 0 1 0 -\nformat 1 1 calipso\n",
         4,
@@ -106,6 +112,7 @@ const FORMAT_ROWS: Rows = &[
     ("format 101 -1 calipso\n", 5, Cause::Number),
     ("format 101 1 Calipso\n", 5, Cause::Format),
     ("format 101 1 names\n", 5, Cause::Format),
+    ("format 105 0 long\n", 5, Cause::Format),
     (
         "format 101 1 calipso\nformat 101 1 text\n",
         6,
@@ -123,6 +130,24 @@ const FORMAT_ROWS: Rows = &[
         7,
         Cause::Missing,
     ),
+];
+
+/// Behind two levels of version 2. The first three lines are those that version 1 refuses.
+const LEVEL_2_ROWS: Rows = &[
+    ("level 2 1 1 c256,c1919\n", 6, Cause::Missing),
+    ("level 2 3 1 c1\n", 6, Cause::Missing),
+    ("level 2 2 0 -\n", 6, Cause::Missing),
+    ("level 2 1 1 c1920\n", 5, Cause::Level),
+    ("level 2 1 256 -\n", 5, Cause::Level),
+    ("level 2 1 0 -\n", 5, Cause::Level),
+    ("level 2 2 1 c0\n", 5, Cause::Level),
+    ("level 3 1 1 c1\n", 5, Cause::Level),
+    ("format 105 0 Long\n", 5, Cause::Format),
+    ("format 105 0 long\nformat 105 0 text\n", 6, Cause::Format),
+    ("format 105 0 long\nlevel 2 1 1 c1\n", 6, Cause::Order),
+    ("format 105 0 long\nname 105 0 0 6f\n", 6, Cause::Name),
+    // the texts of one domain don't spell the other's level
+    ("format 102 1 text\n", 6, Cause::Missing),
 ];
 
 /// Behind three formats.
@@ -244,6 +269,7 @@ const TABLES: &[([&str; 3], Rows)] = &[
     (["lnfs-policy 1\n", "", ""], MODE_ROWS),
     ([LEVELS, "", ""], LEVEL_ROWS),
     ([LEVELS, "", ""], FORMAT_ROWS),
+    ([LEVELS_2, "", ""], LEVEL_2_ROWS),
     ([LEVELS, FORMATS, ""], NAME_ROWS),
     ([LEVELS, FORMATS, PARENT], PARENT_ROWS),
     ([LEVELS, FORMATS, QUOTA], QUOTA_ROWS),

@@ -3,7 +3,7 @@
 use crate::policy::{read, refusal};
 use lnfs_calipso::Level;
 use lnfs_format::Formats;
-use lnfs_policy::{Cause, Limit, Mode, Policy, PolicyError, write_policy};
+use lnfs_policy::{Cause, Limit, Mode, Policy, PolicyError, migrate, write_policy};
 use std::alloc::{AllocError, Global};
 use std::process::Abort;
 use std::test::Fail;
@@ -147,6 +147,70 @@ fn canonical_texts(rt: HostRuntime) -> Result<(), AllocError> {
     let commented = "lnfs-policy 1\n#\nmode limited\nlevel 0 9 7 c0.c255\n\nformat 2 9 text\n";
     let canonical = "lnfs-policy 1\nmode limited\nlevel 0 9 7 c0.c255\nformat 2 9 text\n";
     assert!(rt; is_canonical(alloc, commented, canonical)?);
+    Ok(())
+}
+
+/// Whether a text is a policy of a version, and migrates to the other.
+fn migrates(alloc: Global, text: &str, version: u32, newer: &str) -> Result<bool, AllocError> {
+    match read(alloc, text) {
+        Ok(policy) => Ok(
+            policy.version() == version && migrate(alloc, &policy)?.as_slice() == newer.as_bytes(),
+        ),
+        Err(_error) => Ok(false),
+    }
+}
+
+#[test]
+fn a_policy_in_version_2(rt: HostRuntime) -> Result<(), Fail> {
+    let alloc = rt.alloc();
+    let lines = SITE.strip_prefix("lnfs-policy 1\n").ok_or("no version")?;
+    let newer = format!(in alloc; "lnfs-policy 2\n{lines}")?;
+    assert!(rt; migrates(alloc, SITE, 1, &newer)?);
+    assert!(rt; migrates(alloc, &newer, 2, &newer)?);
+    let commented = format!(in alloc; "# old\n{SITE}\n")?;
+    assert!(rt; migrates(alloc, &commented, 1, &newer)?);
+    let policy = read(alloc, &newer).ok().ok_or("refused")?;
+    expect_said(&rt, &policy)
+}
+
+/// Two organisations, each with a domain of its own, under one bottom.
+const TWO_DOMAINS: &str = "lnfs-policy 2
+mode enforcing
+level 0 1 0 -
+level 1 2 1 c0
+level 2 1 1 c0
+level 3 1 1 c0,c1919
+format 101 1 calipso
+format 105 0 long
+";
+
+/// Whether the first of two levels of two domains dominates the second.
+const APART: &[(u32, u32, bool)] = &[
+    (1, 0, true),
+    (0, 1, false),
+    (1, 2, false),
+    (2, 1, false),
+    (3, 2, true),
+    (3, 1, false),
+];
+
+fn expect_apart(rt: &impl Abort, policy: &Policy) {
+    assert_eq!(rt; policy.lattice().len(), 4);
+    for (a, b, dominates) in APART {
+        assert_eq!(rt; policy.lattice().dom(Level(*a), Level(*b)), *dominates);
+    }
+}
+
+#[test]
+fn two_domains(rt: HostRuntime) -> Result<(), Fail> {
+    let policy = read(rt.alloc(), TWO_DOMAINS).ok().ok_or("refused")?;
+    expect_apart(&rt, &policy);
+    let older = TWO_DOMAINS.replace(rt.alloc(), "lnfs-policy 2", "lnfs-policy 1")?;
+    let told = PolicyError::Refused {
+        line: 4,
+        cause: Cause::Level,
+    };
+    assert!(rt; refusal(rt.alloc(), &older) == Some(told));
     Ok(())
 }
 

@@ -51,6 +51,12 @@ fn expect_labels(rt: &impl Abort, site: &Site<'_>) {
     assert!(rt; site.label(Level(4)).bytes.as_slice() == BOTTOM);
 }
 
+/// A body of nine words, which is that of no label of version 1.
+const LONG: &[u8] = &[
+    0, 0, 0, 1, 9, 1, 0, 0, 0, 0, 0, 0, 0, 0, 0, 0, 0, 0, 0, 0, 0, 0, 0, 0, 0, 0, 0, 0, 0, 0, 0, 0,
+    0, 0, 0, 0, 0, 0, 0x80, 0, 0, 0,
+];
+
 /// What is read of labels in both formats, and of what is no label in them.
 const READ: &[(u32, u32, &[u8], LabelRead)] = &[
     (101, 1, BOTTOM, LabelRead::LevelOf(Level(0))),
@@ -62,6 +68,7 @@ const READ: &[(u32, u32, &[u8], LabelRead)] = &[
     (102, 1, b"s2", LabelRead::BadLabel),
     (102, 1, b"s3:c0,c1,c2,c5", LabelRead::BadLabel),
     (101, 1, b"s0", LabelRead::BadLabel),
+    (101, 1, LONG, LabelRead::BadLabel),
     (102, 1, b"", LabelRead::BadLabel),
     (103, 1, b"s0", LabelRead::WrongFormat),
     (102, 2, b"s0", LabelRead::WrongFormat),

@@ -1,6 +1,6 @@
 //! Labels from one spelling to another.
 use crate::codecs::codecs_of;
-use crate::formats::{three_formats, two_levels};
+use crate::formats::{four_formats, two_levels};
 use lnfs_calipso::Label;
 use lnfs_map::{MapError, Pair, TranslationTable};
 use std::process::Abort;
@@ -11,6 +11,8 @@ const BODY: Pair = Pair { lfs: 101, pi: 1 };
 const TEXT: Pair = Pair { lfs: 102, pi: 1 };
 
 const NAME: Pair = Pair { lfs: 103, pi: 0 };
+
+const LONG: Pair = Pair { lfs: 105, pi: 0 };
 
 const NONE: Pair = Pair { lfs: 104, pi: 0 };
 
@@ -23,12 +25,15 @@ const TRANSLATED: &[(Pair, Pair, &[u8], &[u8])] = &[
     (TEXT, BODY, b"s3:c0.c2,c5", TOP_BODY),
     (BODY, NAME, b"\x00\x00\x00\x01\x00\x00", b"open"),
     (NAME, TEXT, b"open", b"s0"),
+    (BODY, LONG, TOP_BODY, b"1/3/c0.c2,c5"),
+    (LONG, TEXT, b"1/0/-", b"s0"),
 ];
 
 /// And why nothing is.
 const REFUSED: &[(Pair, Pair, &[u8], MapError)] = &[
     (BODY, NAME, TOP_BODY, MapError::NoRow),
     (TEXT, BODY, b"s2", MapError::BadLabel),
+    (LONG, BODY, b"2/0/-", MapError::BadLabel),
     (NONE, BODY, b"open", MapError::WrongLfs),
     (TEXT, NONE, b"s2", MapError::WrongLfs),
 ];
@@ -75,9 +80,8 @@ fn expect_table(rt: &impl Abort, table: &TranslationTable<'_>) {
 fn labels_are_translated(rt: HostRuntime) -> Result<(), Fail> {
     let alloc = rt.alloc();
     let codecs = codecs_of(alloc)?;
-    let bottom = Label::bare(1, 0);
-    let lattice = two_levels(alloc, bottom)?;
-    let formats = three_formats(alloc, bottom, [BODY, TEXT, NAME])?;
+    let lattice = two_levels(alloc, Label::bare(alloc, 1, 0))?;
+    let formats = four_formats(alloc, Label::bare(alloc, 1, 0), [BODY, TEXT, NAME, LONG])?;
     expect_table(&rt, &TranslationTable::new(&formats, &codecs, &lattice));
     Ok(())
 }

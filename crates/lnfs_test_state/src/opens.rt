@@ -29,7 +29,7 @@ fn reference(level: Level, number: u32, seq: u32) -> OpenRef {
 }
 
 fn lattice(alloc: Global) -> Result<Lattice, LatticeError> {
-    Lattice::new(alloc, &[Label::bare(1, 0), Label::bare(1, 5)])
+    Lattice::new(alloc, &[Label::bare(alloc, 1, 0), Label::bare(alloc, 1, 5)])
 }
 
 /// What is open, for what and denying what, and whether each request conflicts with it (RFC 8881 section 9.7): requests for

@@ -1,4 +1,4 @@
-use Rattle.lnfs_calipso.proofs.BodyLaws.{read_back, written_back}
+use Rattle.lnfs_calipso.proofs.Bodies.{read_back, written_back}
 use Rattle.lnfs_calipso.proofs.laws.bodies.Goals as goal
 
 pub returns-clause-read_back : goal.returns-clause-read_back

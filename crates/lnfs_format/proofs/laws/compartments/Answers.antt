@@ -1,4 +1,4 @@
-use Rattle.lnfs_format.proofs.KindLaws.{comps_read, comps_taken}
+use Rattle.lnfs_format.proofs.CompLaws.{comps_read, comps_taken}
 use Rattle.lnfs_format.proofs.laws.compartments.Goals as goal
 
 pub returns-clause-read_back : goal.returns-clause-read_back

@@ -17,5 +17,5 @@ returns g c =
       facts = λ p lattice journal. holds_after X owed m p lattice journal;
       kept = λ p is journal. kept_after X owed m p p.text is journal;
       labels = λ p lattice journal event. labels_after X owed m p lattice journal event;
-      short = λ p is journal event. reply_short X owed m p (preordered p.text p is) p.text is g.M.Mechanism.sized journal event;
+      short = λ p is journal event. reply_short X owed m p (preordered p) p.text is g.M.Mechanism.sized journal event;
     }

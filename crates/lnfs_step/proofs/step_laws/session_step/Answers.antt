@@ -15,6 +15,6 @@ returns g c = let X = g.X.ExtraRows.extra in let owed = g.X.ExtraRows.lawful in 
       let once = created_once_at X m p a event again call other arguments compound args client comes next asks own in
       (once.0, once.1 tt);
   refused = λ p a event call arguments compound args x slot comes many. many_at X m p a event call arguments compound args x slot comes many;
-  room = λ p is a kept event call arguments compound args x slot comes. room_at X owed m p (preordered p.text p is) a (holds_of X owed m p p.text is a kept) p.text is g.M.Mechanism.sized kept.sound.bounds event call arguments compound args x slot comes;
+  room = λ p is a kept event call arguments compound args x slot comes. room_at X owed m p (preordered p) a (holds_of X owed m p p.text is a kept) p.text is g.M.Mechanism.sized kept.sound.bounds event call arguments compound args x slot comes;
   others = λ p lattice a holds event x there named replaced. event_there X owed m p lattice event a holds x there named replaced;
 }

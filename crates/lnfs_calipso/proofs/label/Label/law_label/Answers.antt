@@ -6,4 +6,4 @@ use Rattle.lnfs_calipso.proofs.label.Label.law_label.Goals as goal
 
 pub returns : goal.returns
 returns c =
-    subst (λ (l : Label). IsLabel l) c.self.view_is (record { doi = omega arith; sens = omega arith; comps = compartments-are (is_marked c.self.inside.bits) })
+    subst (λ (l : Label). IsLabel l) c.self.view_is (record { doi = omega arith; sens = omega arith; comps = compartments-are (is_marked c.self.inside.words.items) })

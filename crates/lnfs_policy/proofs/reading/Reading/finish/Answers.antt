@@ -12,6 +12,7 @@ invariant_of-result g c =
       begun = c.self.inside.begun;
       stage = c.self.inside.stage;
       text = c.self.inside.text.items;
+      version = c.self.inside.version;
       mode = c.self.inside.mode;
       labels = c.self.inside.labels.items;
       rows = c.self.inside.rows.items;
@@ -27,4 +28,4 @@ invariant_of-result g c =
     let e : c.in_ok-entries.entries.items ≡ entries_in r = search rules in
     let s : spells_all (entries_in r) r.labels ≡ true = search rules in
     let lines : c.in_ok-guests.guests ≡ r.guests = search rules in
-    rw (c.of-2.ensures, c.of-3.ensures, e, lines) (c.requires _ (ap finish (sym c.self.view_is) ∙ full r c.in-Some.mode b m l s))
+    rw (c.unwrap_or.ensures, c.of-2.ensures, c.of-3.ensures, e, lines) (c.requires _ (ap finish (sym c.self.view_is) ∙ full r c.in-Some.mode b m l s))

@@ -1,5 +1,4 @@
--- Lemmas, no definitions: which numbers are among the compartments. They stand in specs/, since the view of a label
--- (`Model` of `Label`) rests on them.
+-- Which numbers are among the compartments.
 use Rattle.std.proofs.Common.{◌≡◌, ℕ, ◌+◌, ◌-◌, ◌/◌, ◌%◌, ◌≤◌, ◌==◌, ◌&&◌, ◌||◌, Bool, true, false, cond, eqb, ltb, leb, List, [], ◌∷◌, length, refl, sym, ap, ◌∙◌, arith, filter, suc, zero}
 use Rattle.std.specs.List.{list_any, range_with_len}
 use Rattle.std.specs.Int.{bit_at}
@@ -51,19 +50,20 @@ unfolding numbers_below
 has_comp-numbers n p c =
     has_comp-filter p (range_with_len 0 n) c ∙ ap (λ b. b && p c) (has_comp-range 0 n c ∙ from_zero n c)
 
-pub has_comp-compartments : (p : ℕ → Bool) (c : ℕ) → has_comp (compartments p) c ≡ (ltb c 256 && p c)
-has_comp-compartments p c = has_comp-numbers 256 p c
+pub has_comp-compartments : (p : ℕ → Bool) (c : ℕ) → has_comp (compartments p) c ≡ (ltb c 1920 && p c)
+has_comp-compartments p c = has_comp-numbers 1920 p c
 
--- a compartment above 255 has no bit
-past-members : (bits : List ℕ) (c : ℕ) → length bits ≤ 32 → 256 ≤ c → is_marked bits c ≡ false
-past-members bits c long high =
-    ap (λ b. eqb (bit_at b (7 - c % 8)) 1) (get_or_past bits (c / 8) 0 (omega arith)) ∙ ap (λ b. eqb b 1) (bit_at-zero (7 - c % 8))
+-- a compartment past the bitmap has no bit
+pub past-members : (bits : List ℕ) (c : ℕ) → length bits ≤ c / 32 → is_marked bits c ≡ false
+past-members bits c past =
+    ap (λ b. eqb (bit_at b (31 - c % 32)) 1) (get_or_past bits (c / 32) 0 past) ∙ ap (λ b. eqb b 1) (bit_at-zero (31 - c % 32))
 
 and_true : (x y : Bool) → (x ≡ false → y ≡ false) → (x && y) ≡ y
 and_true true y h = refl
 and_true false y h = sym (h refl)
 
 -- the compartments of a bitmap are those that it marks
-pub has_comp-members : (bits : List ℕ) → length bits ≤ 32 → (c : ℕ) → has_comp (members bits) c ≡ is_marked bits c
+pub has_comp-members : (bits : List ℕ) → length bits ≤ 60 → (c : ℕ) → has_comp (members bits) c ≡ is_marked bits c
 has_comp-members bits long c =
-    has_comp-compartments (is_marked bits) c ∙ and_true (ltb c 256) (is_marked bits c) (λ e. past-members bits c long (ltb-false c 256 e))
+    has_comp-compartments (is_marked bits) c
+    ∙ and_true (ltb c 1920) (is_marked bits c) (λ e. let high = ltb-false c 1920 e in past-members bits c (omega arith))
