@@ -6,6 +6,7 @@
 #![tactic(auto)]
 
 mod caller;
+mod calls;
 mod contexts;
 mod credential;
 mod digest;
@@ -23,12 +24,13 @@ mod signing;
 mod whose;
 
 pub use caller::Caller;
+pub use calls::{create_args, credential_body};
 pub use contexts::Contexts;
 pub use digest::KeyedDigest;
 pub use errors::ContextError;
 pub use handle::ContextHandle;
 pub use mechanism::Mechanism;
 pub use plain::TestMechanism;
-pub use replies::{append_signed, begin_databody, put_create_results, reply_mic};
+pub use replies::{append_signed, begin_databody, is_reply_mic, put_create_results, reply_mic};
 pub use signing::body;
 pub use whose::who;

@@ -109,6 +109,17 @@ pub fn append_signed<M: Mechanism>(
     Ok(())
 }
 
+/// What the verifier of a reply signs: the call's bytes from the transaction through the credential, as those of a reply.
+fn replied_of(alloc: Global, header: &[u8]) -> Result<Vec<u8>, AllocError>
+    ensures { IfOk result (λ v. v.items ≡ replied header.now) }
+{
+    let mut out = XdrWriter::with_capacity(alloc, header.len())?;
+    out.raw(&header[..header.len().min(XID)])?;
+    out.u32(REPLY)?;
+    out.raw(&header[header.len().min(BEFORE_VERSION)..])?;
+    Ok(out.into_bytes())
+}
+
 /// The signature in a reply's verifier, which has the flavor RPCSEC_GSS: the parent's, of the call's bytes from the
 /// transaction through the credential, as those of a reply.
 pub fn reply_mic<M: Mechanism>(
@@ -119,9 +130,18 @@ pub fn reply_mic<M: Mechanism>(
 ) -> Result<[u8; SIGNATURE], AllocError>
     ensures { IfOk result (λ mic. mic ≡ M.signing.mic_of parent.now (replied header.now)) }
 {
-    let mut out = XdrWriter::with_capacity(alloc, header.len())?;
-    out.raw(&header[..header.len().min(XID)])?;
-    out.u32(REPLY)?;
-    out.raw(&header[header.len().min(BEFORE_VERSION)..])?;
-    Ok(mechanism.sign(parent, &out.into_bytes()))
+    Ok(mechanism.sign(parent, &replied_of(alloc, header)?))
+}
+
+/// Whether bytes are a good signature in the verifier of a reply to the call with this header.
+pub fn is_reply_mic<M: Mechanism>(
+    alloc: Global,
+    mechanism: &M,
+    parent: &Parent,
+    header: &[u8],
+    mic: &[u8],
+) -> Result<bool, AllocError>
+    ensures { IfOk result (λ good. good ≡ M.signing.good parent.now (replied header.now) mic.now) }
+{
+    Ok(mechanism.check(parent, &replied_of(alloc, header)?, mic))
 }

@@ -1,6 +1,7 @@
 //! Writing the arguments of a COMPOUND, as a client does (RFC 8881 section 16.2, RFC 7862).
 #![tactic(auto)]
 
+pub mod laws;
 mod write_files;
 mod write_names;
 mod write_sessions;

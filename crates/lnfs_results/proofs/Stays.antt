@@ -1,7 +1,7 @@
 -- No result leaves its format: what isn't in the grammar is refused.
 use Rattle.std.proofs.Common.{◌≡◌, ℕ, zero, suc, eqb, Bool, true, false, List, [], ◌∷◌, Err, Some, None, refl, inl, inr}
 use Rattle.std.specs.Prelude.{MatchBool, ◌||◌}
-use Rattle.lnfs_xdr.specs.Format.{Format, Word, Long, Boolean, Count, Among, Opaque, Fixed, Raw, Outside, Done, If, Then, Linked, Leaving, times, optional}
+use Rattle.lnfs_xdr.specs.Format.{Format, Word, Long, Boolean, Count, Among, Opaque, OpaqueOf, Fixed, Raw, Outside, Done, If, Then, Linked, Leaving, times, optional}
 use Rattle.lnfs_xdr.specs.Reading.{Leaves, read}
 use Rattle.lnfs_xdr.proofs.Fields.{IsBytes}
 use Rattle.lnfs_xdr.proofs.Laws.{leaves_at}
@@ -21,6 +21,7 @@ Stays Boolean = Unit {0}
 Stays (Count max) = Unit {0}
 Stays (Among test) = Unit {0}
 Stays (Opaque max) = Unit {0}
+Stays (OpaqueOf test) = Unit {0}
 Stays (Fixed n) = Unit {0}
 Stays (Raw n) = Unit {0}
 Stays (Outside e) = ⊥
@@ -29,13 +30,14 @@ Stays (If b f g) = MatchBool b (Stays f) (Stays g)
 Stays (Then {A} f k) = Stays f × ((a : A) → Stays (k a))
 Stays (Linked f) = Stays f
 
-is_not_left : {E A : Type 0} (f : Format E A) (bytes : List ℕ) (e : E) → Stays f → Leaving f bytes e → ⊥
+pub is_not_left : {E A : Type 0} (f : Format E A) (bytes : List ℕ) (e : E) → Stays f → Leaving f bytes e → ⊥
 is_not_left Word bytes e s l = l
 is_not_left Long bytes e s l = l
 is_not_left Boolean bytes e s l = l
 is_not_left (Count max) bytes e s l = l
 is_not_left (Among test) bytes e s l = l
 is_not_left (Opaque max) bytes e s l = l
+is_not_left (OpaqueOf test) bytes e s l = l
 is_not_left (Fixed n) bytes e s l = l
 is_not_left (Raw n) bytes e s l = l
 is_not_left (Outside x) bytes e s l = s
@@ -49,11 +51,11 @@ is_not_left (Then f k) bytes e s l =
     ]
 is_not_left (Linked f) bytes e s l = is_not_left f l.2 e s l.5
 
-if_stays : {E A : Type 0} (f g : Format E A) (b : Bool) → (b ≡ true → Stays f) → (b ≡ false → Stays g) → Stays (If b f g)
+pub if_stays : {E A : Type 0} (f g : Format E A) (b : Bool) → (b ≡ true → Stays f) → (b ≡ false → Stays g) → Stays (If b f g)
 if_stays f g true s t = s refl
 if_stays f g false s t = t refl
 
-times_stays : {E A : Type 0} (f : Format E A) (n : ℕ) → Stays f → Stays (times n f)
+pub times_stays : {E A : Type 0} (f : Format E A) (n : ℕ) → Stays f → Stays (times n f)
 times_stays f zero s = tt
 times_stays f (suc n) s = (s, λ x. (times_stays f n s, λ xs. tt))
 
@@ -62,7 +64,7 @@ optional_stays f s = (tt, λ n. if_stays (Done None) (Then f (λ x. Done (Some x
 
 -- ---- the shared structures
 
-bitmap_stays : Stays bitmap
+pub bitmap_stays : Stays bitmap
 unfolding bitmap so_many_words
 bitmap_stays = (tt, λ n. (times_stays {E = ℕ × ℕ} Word n tt, λ words. tt))
 
@@ -103,6 +105,10 @@ row_stays ((n, f) ∷ more) number all e = here_or_later (eqb number n) f (row m
 table_stays : AllStay table
 unfolding access create getattr getfh link remove rename readdir readlink close commit opening reading writing exchange_id create_session sequence
 table_stays = search (bitmap_stays, attrs_stay, state_id_stays, cinfo_stays, channel_stays, entry_stays) depth 60 fits 4000
+
+pub fields_stay : (number : ℕ) → is_served number ≡ true → Stays (fields number)
+unfolding fields is_served
+fields_stay number there = row_stays table number table_stays there
 
 setattr_stays : Stays setattr
 unfolding setattr

@@ -16,6 +16,7 @@ mod write_whole;
 
 pub use bound::{answers_are_bounded, reply_bound};
 pub use limits::{MOST_DATA, READ_HEAD, RESULT_HEAD, result_bound, result_bounds};
+pub use read_table::read_fields;
 pub use read_whole::read_results;
 pub use types::{DirEntry, OpResult, Results};
 pub use write_whole::{append_head, append_result, write_results};

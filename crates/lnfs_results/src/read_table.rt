@@ -63,9 +63,10 @@ fn serves(number: u32) -> bool
     )
 }
 
-/// What follows the status 0 of the operation of a number.
+/// What follows the status 0 of the operation of a number. `Fault` where an item isn't there, and
+/// `Outside` where the operation can't succeed or is SETATTR.
 #[tactic(auto, unfolding(crate::specs::Grammar::fields))]
-fn fields_of(alloc: Global, reader: &mut XdrReader<'_>, number: u32) -> Result<OpResult, Halt>
+pub fn read_fields(alloc: Global, reader: &mut XdrReader<'_>, number: u32) -> Result<OpResult, Halt>
     ensures { ParsesInMemory (λ x. x) result reader.old reader.new
         (read (fields number) reader.old.rest) }
 {
@@ -116,7 +117,7 @@ fn served_of(alloc: Global, reader: &mut XdrReader<'_>, number: u32) -> Result<O
     if status != NFS4_OK {
         return Ok(OpResult::Failed { number, status });
     }
-    fields_of(alloc, reader, number)
+    read_fields(alloc, reader, number)
 }
 
 /// What follows the number of another, which is a status other than 0.

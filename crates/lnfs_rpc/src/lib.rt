@@ -14,7 +14,7 @@ mod replies;
 mod streams;
 
 pub use authsys::{Sys, read_sys};
-pub use calls::{Auth, Call, CallError, read_call};
+pub use calls::{Auth, Call, CallError, auth_of, read_call};
 pub use framing::ReplyRecord;
 pub use numbers::{
     CALL, NFS_PROGRAM, NFS_VERSION, PROC_COMPOUND, PROG_MISMATCH, REPLY, RPC_VERSION,

@@ -6,8 +6,8 @@ use Rattle.std.proofs.lemmas.List.{take_at, drop_at, take-append-drop, length-ap
 use Rattle.std.proofs.lemmas.Nat.{be_bytes_4, be_bytes_8, from_be_bytes-to_be_bytes_4, from_be_bytes-to_be_bytes_8}
 use Rattle.lnfs_xdr.specs.declared.error.XdrError.{XdrError}
 use Rattle.lnfs_xdr.specs.declared.error.XdrError.TheVariants.{Short, BadBool, TooLong}
-use Rattle.lnfs_xdr.specs.Format.{Format, Boolean, Count, Among, Opaque, Fixed, padding, number_of, Spells, Raw}
-use Rattle.lnfs_xdr.specs.Reading.{Item, Fault, Read, here, after, number_at, boolean_at, count_at, among_at, padded_at, opaque_at, raw_at}
+use Rattle.lnfs_xdr.specs.Format.{Format, Boolean, Count, Among, Opaque, OpaqueOf, Fixed, padding, number_of, Spells, Raw}
+use Rattle.lnfs_xdr.specs.Reading.{Item, Fault, Read, here, after, number_at, boolean_at, count_at, among_at, padded_at, opaque_at, opaque_of_at, raw_at}
 
 abbrev pub IsBytes : List ℕ → Type 0
 IsBytes bytes = (i : ℕ) → get_or bytes i 0 < 256
@@ -217,6 +217,29 @@ opaque_again max v pad rest le lt pads =
     let text : List ℕ = (to_be_bytes w32 (length v) ++ (v ++ pad)) ++ rest in
     let group : text ≡ to_be_bytes w32 (length v) ++ ((v ++ pad) ++ rest) = append_assoc (to_be_bytes w32 (length v)) (v ++ pad) rest in
     let count : count_at max text ≡ Ok (length v, (v ++ pad) ++ rest) = ap (count_at max) group ∙ count_again max (length v) ((v ++ pad) ++ rest) le lt in
+    ap (λ (r : Item ℕ). after r (λ n rest. padded_at n rest)) count ∙ padded_again (length v) v pad rest refl pads
+
+-- a length word that passes a test, and so many bytes
+pub opaque_of_takes : {E : Type 0} (test : ℕ → Bool) (bytes : List ℕ) (x : List ℕ × List ℕ) → IsBytes bytes → opaque_of_at test bytes ≡ Ok x → Found {E = E} (OpaqueOf test) bytes x.0 x.1
+opaque_of_takes {E} test bytes x fits e =
+    let a = after_ok (among_at test bytes) (λ n rest. padded_at n rest) x e in
+    let c = among_takes {E = E} test bytes a.0 fits a.1 in
+    let rest_fits : IsBytes a.0.1 = c.takes.rest_fits in
+    let t = padded_takes a.0.0 a.0.1 x.0 x.1 rest_fits a.2 in
+    let len : length x.0 ≡ a.0.0 = t.0 in
+    let word : c.front ≡ to_be_bytes w32 (length x.0) = c.spelled.2 ∙ ap (to_be_bytes w32) (sym len) in
+    let both : Takes bytes (c.front ++ (x.0 ++ t.1)) x.1 = Takes-then bytes c.front a.0.1 (x.0 ++ t.1) x.1 c.takes t.3 in
+    record {
+      front = c.front ++ (x.0 ++ t.1);
+      spelled = (rw len c.spelled.0, rw len c.spelled.1, t.1, rw len t.2, ap (λ (w : List ℕ). w ++ (x.0 ++ t.1)) word);
+      takes = both;
+    }
+
+pub opaque_of_again : (test : ℕ → Bool) (v pad rest : List ℕ) → test (length v) ≡ true → length v < 2 ^ 32 → length pad ≡ padding (length v) → opaque_of_at test ((to_be_bytes w32 (length v) ++ (v ++ pad)) ++ rest) ≡ Ok (v, rest)
+opaque_of_again test v pad rest passes lt pads =
+    let text : List ℕ = (to_be_bytes w32 (length v) ++ (v ++ pad)) ++ rest in
+    let group : text ≡ to_be_bytes w32 (length v) ++ ((v ++ pad) ++ rest) = append_assoc (to_be_bytes w32 (length v)) (v ++ pad) rest in
+    let count : among_at test text ≡ Ok (length v, (v ++ pad) ++ rest) = ap (among_at test) group ∙ among_again test (length v) ((v ++ pad) ++ rest) passes lt in
     ap (λ (r : Item ℕ). after r (λ n rest. padded_at n rest)) count ∙ padded_again (length v) v pad rest refl pads
 
 -- ---- an item is read, or is a fault where it begins

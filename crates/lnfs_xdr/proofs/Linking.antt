@@ -6,9 +6,9 @@ use Rattle.std.proofs.lemmas.Bool.{ltb-false}
 use Rattle.std.proofs.lemmas.List.{append-nil}
 use Rattle.std.proofs.lemmas.List.Concat.{flat_map-cons}
 use Rattle.lnfs_xdr.specs.declared.error.XdrError.TheVariants.{Short, BadBool, TooLong}
-use Rattle.lnfs_xdr.specs.Format.{Format, Word, Long, Boolean, Count, Among, Opaque, Fixed, Raw, Outside, Done, If, Then, Linked, padding}
+use Rattle.lnfs_xdr.specs.Format.{Format, Word, Long, Boolean, Count, Among, Opaque, OpaqueOf, Fixed, Raw, Outside, Done, If, Then, Linked, padding}
 use Rattle.lnfs_xdr.specs.Canon.{flag, linked}
-use Rattle.lnfs_xdr.specs.Reading.{Stop, Fault, Read, after, element, here, linked_at, number_at, boolean_at, count_at, among_at, padded_at, opaque_at, raw_at, read}
+use Rattle.lnfs_xdr.specs.Reading.{Stop, Fault, Read, after, element, here, linked_at, number_at, boolean_at, count_at, among_at, padded_at, opaque_at, opaque_of_at, raw_at, read}
 use Rattle.lnfs_xdr.proofs.Fields.{no_bytes, after_ok, chosen, guard_ok, here_ok}
 use Rattle.lnfs_xdr.proofs.Loops.{grown, regroup}
 use Rattle.lnfs_xdr.proofs.Spelled.{Spelled}
@@ -69,6 +69,11 @@ opaque_left max bytes x e =
     let a = after_ok (count_at max bytes) (λ n rest. padded_at n rest) x e in
     omega (arith, count_left max bytes a.0 a.1, padded_left a.0.0 a.0.1 x a.2)
 
+opaque_of_left : (test : ℕ → Bool) (bytes : List ℕ) (x : List ℕ × List ℕ) → opaque_of_at test bytes ≡ Ok x → Left bytes x
+opaque_of_left test bytes x e =
+    let a = after_ok (among_at test bytes) (λ n rest. padded_at n rest) x e in
+    omega (arith, among_left test bytes a.0 a.1, padded_left a.0.0 a.0.1 x a.2)
+
 abbrev pub Shrinks : {E A : Type 0} → (List ℕ → Read E A) → Type 0
 Shrinks {A = A} r = (bytes : List ℕ) (x : A × List ℕ) → r bytes ≡ Ok x → Left bytes x
 
@@ -93,6 +98,7 @@ read_left Boolean bytes x e = omega (arith, boolean_left bytes x (here_ok bytes 
 read_left (Count max) bytes x e = count_left max bytes x (here_ok bytes (count_at max bytes) x e)
 read_left (Among test) bytes x e = among_left test bytes x (here_ok bytes (among_at test bytes) x e)
 read_left (Opaque max) bytes x e = opaque_left max bytes x (here_ok bytes (opaque_at max bytes) x e)
+read_left (OpaqueOf test) bytes x e = opaque_of_left test bytes x (here_ok bytes (opaque_of_at test bytes) x e)
 read_left (Fixed n) bytes x e = padded_left n bytes x (here_ok bytes (padded_at n bytes) x e)
 read_left (Raw n) bytes x e = raw_left n bytes x (here_ok bytes (raw_at n bytes) x e)
 read_left (Outside status) bytes x e = absurd cc

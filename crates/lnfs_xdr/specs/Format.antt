@@ -16,6 +16,8 @@ pub data Format (E : Type 0) : Type 0 → Type 1 where
   Among : (ℕ → Bool) → Format E ℕ
   -- at most so many bytes, section 4.10
   Opaque : ℕ → Format E (List ℕ)
+  -- bytes whose number passes a test, section 4.10
+  OpaqueOf : (ℕ → Bool) → Format E (List ℕ)
   -- so many bytes, section 4.9
   Fixed : ℕ → Format E (List ℕ)
   -- so many bytes with no pad: no item of XDR
@@ -58,6 +60,7 @@ Spells Boolean b bytes = bytes ≡ to_be_bytes w32 (number_of b)
 Spells (Count max) n bytes = (n ≤ max) × (n < 2 ^ 32) × (bytes ≡ to_be_bytes w32 n)
 Spells (Among test) n bytes = (test n ≡ true) × (n < 2 ^ 32) × (bytes ≡ to_be_bytes w32 n)
 Spells (Opaque max) v bytes = (length v ≤ max) × (length v < 2 ^ 32) × (pad : List ℕ) × (length pad ≡ padding (length v)) × (bytes ≡ to_be_bytes w32 (length v) ++ (v ++ pad))
+Spells (OpaqueOf test) v bytes = (test (length v) ≡ true) × (length v < 2 ^ 32) × (pad : List ℕ) × (length pad ≡ padding (length v)) × (bytes ≡ to_be_bytes w32 (length v) ++ (v ++ pad))
 Spells (Fixed n) v bytes = (length v ≡ n) × (pad : List ℕ) × (length pad ≡ padding n) × (bytes ≡ v ++ pad)
 Spells (Raw n) v bytes = (length v ≡ n) × (bytes ≡ v)
 Spells (Outside status) x bytes = ⊥
@@ -78,6 +81,7 @@ Stuck {E} Boolean bytes stuck = NoneAt {E = E} Boolean bytes × (bytes ≡ stuck
 Stuck {E} (Count max) bytes stuck = NoneAt {E = E} (Count max) bytes × (bytes ≡ stuck)
 Stuck {E} (Among test) bytes stuck = NoneAt {E = E} (Among test) bytes × (bytes ≡ stuck)
 Stuck {E} (Opaque max) bytes stuck = NoneAt {E = E} (Opaque max) bytes × (bytes ≡ stuck)
+Stuck {E} (OpaqueOf test) bytes stuck = NoneAt {E = E} (OpaqueOf test) bytes × (bytes ≡ stuck)
 Stuck {E} (Fixed n) bytes stuck = NoneAt {E = E} (Fixed n) bytes × (bytes ≡ stuck)
 Stuck {E} (Raw n) bytes stuck = NoneAt {E = E} (Raw n) bytes × (bytes ≡ stuck)
 Stuck {E} (Outside status) bytes stuck = ⊥
@@ -96,6 +100,7 @@ Leaving Boolean bytes status = ⊥
 Leaving (Count max) bytes status = ⊥
 Leaving (Among test) bytes status = ⊥
 Leaving (Opaque max) bytes status = ⊥
+Leaving (OpaqueOf test) bytes status = ⊥
 Leaving (Fixed n) bytes status = ⊥
 Leaving (Raw n) bytes status = ⊥
 Leaving (Outside e) bytes status = e ≡ status

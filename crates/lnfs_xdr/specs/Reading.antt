@@ -3,7 +3,7 @@ use Rattle.std.specs.Prelude.{ℕ, zero, suc, ◌+◌, Bool, true, false, List, 
 use Rattle.std.specs.Int.{Width, w32, w64, byte_len, from_be_bytes}
 use Rattle.lnfs_xdr.specs.declared.error.XdrError.{XdrError}
 use Rattle.lnfs_xdr.specs.declared.error.XdrError.TheVariants.{Short, BadBool, TooLong}
-use Rattle.lnfs_xdr.specs.Format.{Format, Word, Long, Boolean, Count, Among, Opaque, Fixed, Raw, Outside, Done, If, Then, Linked, padding}
+use Rattle.lnfs_xdr.specs.Format.{Format, Word, Long, Boolean, Count, Among, Opaque, OpaqueOf, Fixed, Raw, Outside, Done, If, Then, Linked, padding}
 
 abbrev pub after : {D A B : Type 0} → Result (A × List ℕ) D → (A → List ℕ → Result (B × List ℕ) D) → Result (B × List ℕ) D
 after (Ok x) k = k x.0 x.1
@@ -35,6 +35,9 @@ raw_at n bytes = if nat_lt (length bytes) n then Err Short else Ok (take n bytes
 
 abbrev pub opaque_at : ℕ → List ℕ → Item (List ℕ)
 opaque_at max bytes = after (count_at max bytes) (λ n rest. padded_at n rest)
+
+abbrev pub opaque_of_at : (ℕ → Bool) → List ℕ → Item (List ℕ)
+opaque_of_at test bytes = after (among_at test bytes) (λ n rest. padded_at n rest)
 
 -- ---- a format
 
@@ -68,6 +71,7 @@ read Boolean bytes = here bytes (boolean_at bytes)
 read (Count max) bytes = here bytes (count_at max bytes)
 read (Among test) bytes = here bytes (among_at test bytes)
 read (Opaque max) bytes = here bytes (opaque_at max bytes)
+read (OpaqueOf test) bytes = here bytes (opaque_of_at test bytes)
 read (Fixed n) bytes = here bytes (padded_at n bytes)
 read (Raw n) bytes = here bytes (raw_at n bytes)
 read (Outside e) bytes = Err (Leaves e)

@@ -142,6 +142,8 @@ impl Buffer {
 
 /// Makes at least so many places behind those that are used: all that the vector has room for where
 /// these are few, so that what was reserved is not outgrown. What stands before them stays.
+#[cold]
+#[inline(never)]
 fn make_places(places: &mut Vec<u8>, used: usize, needed: usize) -> Result<(), AllocError>
     requires { (used ≤ length places.old.items) × (needed ≤ 8) }
     ensures kept { take used places.new.items ≡ take used places.old.items }
