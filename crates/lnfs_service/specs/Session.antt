@@ -13,8 +13,8 @@ use Rattle.lnfs_history.specs.Entries.{entry, of}
 use Rattle.lnfs_workers.specs.Links.{IsServed}
 use Rattle.lnfs_workers.specs.Pairs.{EachAt}
 use Rattle.lnfs_workers.specs.declared.line.LinkEnd.{LinkEnd}
-use Rattle.lnfs_workers.specs.declared.ending.Ending.{Ending}
-use Rattle.lnfs_workers.specs.declared.ending.Ending.TheVariants.{Closed, Cut, ReadFault, WriteFault, TooLong, Budget, Memory}
+use Rattle.lnfs_incoming.specs.declared.ending.Ending.{Ending}
+use Rattle.lnfs_incoming.specs.declared.ending.Ending.TheVariants.{Closed, Cut, ReadFault, WriteFault, TooLong, Budget, Memory}
 
 -- the events that it served, and the ends of the links in their order, each with what is told of the link when it is handed back
 pub record Session : Type 0 where

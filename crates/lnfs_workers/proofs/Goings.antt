@@ -11,14 +11,16 @@ use Rattle.lnfs_types.specs.declared.event.Moment.{Moment}
 use Rattle.lnfs_history.specs.declared.entry.Entry.{Entry}
 use Rattle.lnfs_history.specs.Entries.{Part}
 use Rattle.lnfs_workers.specs.Transcripts.{messages, framed, transcript}
-use Rattle.lnfs_workers.specs.declared.ending.TheConstants.{BUDGET}
-use Rattle.lnfs_workers.specs.declared.ending.Ending.{Ending}
-use Rattle.lnfs_workers.specs.declared.ending.Ending.TheVariants.{Closed, Cut, ReadFault, WriteFault, TooLong, Budget, Memory}
-use Rattle.lnfs_workers.specs.Turns.{IsOfCutting, SaysRead, ReadOn, IsOfWriting}
+use Rattle.lnfs_incoming.specs.declared.ending.TheConstants.{BUDGET}
+use Rattle.lnfs_incoming.specs.declared.ending.Ending.{Ending}
+use Rattle.lnfs_incoming.specs.declared.ending.Ending.TheVariants.{Closed, Cut, ReadFault, WriteFault, TooLong, Budget, Memory}
+use Rattle.lnfs_incoming.specs.Incoming.{IsOfCutting, SaysRead, ReadOn}
+use Rattle.lnfs_workers.specs.Turns.{IsOfWriting}
 use Rattle.lnfs_workers.specs.Served.{Tells, Going, EndsAs, Service}
 use Rattle.lnfs_workers.specs.Links.{IsServed}
 use Rattle.lnfs_workers.specs.declared.line.LinkEnd.{LinkEnd}
-use Rattle.lnfs_workers.proofs.Records.{stream_more, stream_push, messages_push, transcript_push}
+use Rattle.lnfs_incoming.proofs.Records.{stream_more, stream_push}
+use Rattle.lnfs_workers.proofs.Records.{messages_push, transcript_push}
 
 -- bytes were read behind what is pending
 more_read : (old now new : Tells) (pending piece : List ℕ) (entries : List Entry) → Going old now pending entries → Consumes now.left new.left piece

@@ -5,4 +5,3 @@ pub mod Pairs
 pub mod Dealt
 pub mod Seats
 pub mod Shares
-pub mod Buffers

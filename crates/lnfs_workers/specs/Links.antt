@@ -4,7 +4,7 @@ use Rattle.lnfs_types.specs.declared.event.Moment.{Moment}
 use Rattle.lnfs_history.specs.declared.entry.Entry.{Entry}
 use Rattle.lnfs_history.specs.Entries.{part}
 use Rattle.lnfs_workers.specs.Served.{Tells, Service, AreOf}
-use Rattle.lnfs_workers.specs.declared.ending.TheConstants.{BUDGET}
+use Rattle.lnfs_incoming.specs.declared.ending.TheConstants.{BUDGET}
 use Rattle.lnfs_workers.specs.declared.line.LinkEnd.{LinkEnd}
 use Rattle.lnfs_workers.specs.declared.line.Waiting.{Waiting}
 use Rattle.lnfs_workers.specs.declared.line.Done.{Done}

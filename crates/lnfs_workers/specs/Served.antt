@@ -8,9 +8,9 @@ use Rattle.lnfs_types.specs.declared.event.Moment.{Moment}
 use Rattle.lnfs_rpc.specs.Records.{Stream, IsPartial, IsTooLong}
 use Rattle.lnfs_history.specs.declared.entry.Entry.{Entry}
 use Rattle.lnfs_workers.specs.Transcripts.{messages, framed, transcript}
-use Rattle.lnfs_workers.specs.declared.ending.TheConstants.{BUDGET}
-use Rattle.lnfs_workers.specs.declared.ending.Ending.{Ending}
-use Rattle.lnfs_workers.specs.declared.ending.Ending.TheVariants.{Closed, Cut, ReadFault, WriteFault, TooLong, Budget, Memory}
+use Rattle.lnfs_incoming.specs.declared.ending.TheConstants.{BUDGET}
+use Rattle.lnfs_incoming.specs.declared.ending.Ending.{Ending}
+use Rattle.lnfs_incoming.specs.declared.ending.Ending.TheVariants.{Closed, Cut, ReadFault, WriteFault, TooLong, Budget, Memory}
 
 -- what a link tells, as when it is handed back: the bytes to come and those taken, where they are told, and how many reads and writes have failed
 abbrev pub Tells : Type 0

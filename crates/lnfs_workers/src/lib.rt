@@ -6,22 +6,19 @@
 //! the program runs, and no answer stands for a difference.
 #![tactic(auto)]
 
-mod buffer;
 mod clock;
 mod deal;
 mod desk;
-mod ending;
 mod gate;
 mod line;
 mod link;
 mod outcome;
 mod pool;
-mod reading;
 mod settling;
 mod shared;
 mod writing;
 
-pub use ending::Ending;
 pub use gate::{OpenGate, TurnGate};
 pub use line::LinkEnd;
+pub use lnfs_incoming::Ending;
 pub use pool::{Ended, serve_all};

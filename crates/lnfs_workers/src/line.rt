@@ -1,6 +1,6 @@
 //! Links before and after their service.
-use crate::ending::Ending;
 use lnfs_history::{LinkView, Room};
+use lnfs_incoming::Ending;
 
 /// What is left of a link that was served.
 #[derive(Drop)]

@@ -6,17 +6,16 @@ ghost use Rattle.lnfs_workers.specs.Pairs.{Each};
 
 use crate::clock::moment_of;
 use crate::desk::{LinkRecord, serve_record};
-use crate::ending::{BUDGET, Ending};
 use crate::gate::{TurnGate, Turns};
 use crate::line::{Done, LinkEnd, Waiting};
 use crate::outcome::Outcome;
-use crate::reading::{Incoming, next_record, read_on};
 use crate::shared::Shared;
 use crate::writing::put_reply;
 use lnfs_engine::ReadExtra;
 use lnfs_format::Codecs;
 use lnfs_gss3::Mechanism;
 use lnfs_history::{LinkView, Room};
+use lnfs_incoming::{BUDGET, Ending, Incoming, next_record, read_on};
 use lnfs_outside::{Clock, Link};
 use std::alloc::AllocError;
 use std::collections::VecDeque;

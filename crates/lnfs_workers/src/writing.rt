@@ -6,7 +6,7 @@ ghost use Rattle.lnfs_outside.specs.Bytes.{AppendsPart};
 ghost use Rattle.lnfs_workers.specs.Transcripts.{framed};
 ghost use Rattle.lnfs_workers.specs.Turns.{IsOfWriting};
 
-use crate::ending::Ending;
+use lnfs_incoming::Ending;
 use lnfs_outside::{Link, put_all};
 use lnfs_rpc::ReplyRecord;
 

@@ -5,8 +5,8 @@ use Rattle.lnfs_rpc.specs.Records.{IsPartial}
 use Rattle.lnfs_history.specs.declared.entry.Entry.{Entry}
 use Rattle.lnfs_history.specs.Entries.{Part, entry}
 use Rattle.lnfs_workers.specs.Served.{telling, Going, IsOf, AreOf}
-use Rattle.lnfs_workers.specs.declared.ending.TheConstants.{BUDGET}
-use Rattle.lnfs_workers.specs.declared.ending.Ending.TheVariants.{Budget, Memory}
+use Rattle.lnfs_incoming.specs.declared.ending.TheConstants.{BUDGET}
+use Rattle.lnfs_incoming.specs.declared.ending.Ending.TheVariants.{Budget, Memory}
 use Rattle.lnfs_workers.proofs.Records.{all_push}
 use Rattle.lnfs_workers.proofs.Goings.{read_more, serves, ends_cutting, ends_reading, out_of_memory, out_of_budget, ends_writing, lost_reply, told_over}
 use Rattle.lnfs_workers.proofs.link.serve_link.Goals as goal

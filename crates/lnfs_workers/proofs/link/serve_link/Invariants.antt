@@ -1,5 +1,5 @@
 use Rattle.std.proofs.Common.{◌≡◌, ◌≤◌, length}
-use Rattle.lnfs_workers.specs.declared.ending.TheConstants.{BUDGET}
+use Rattle.lnfs_incoming.specs.declared.ending.TheConstants.{BUDGET}
 use Rattle.lnfs_workers.specs.Served.{telling, AreOf, Going}
 use Rattle.lnfs_workers.proofs.link.serve_link.Given as goal
 

@@ -1,6 +1,6 @@
 use Rattle.std.proofs.Common.{◌-◌, take, drop, ap, ◌∙◌, arith}
-use Rattle.lnfs_workers.proofs.Buffers.{grown, came}
-use Rattle.lnfs_workers.proofs.buffer.ReadBuffer.read_on.Goals as goal
+use Rattle.lnfs_incoming.proofs.Buffers.{grown, came}
+use Rattle.lnfs_incoming.proofs.buffer.ReadBuffer.read_on.Goals as goal
 
 pub returns-clause-read : goal.returns-clause-read
 returns-clause-read g c =

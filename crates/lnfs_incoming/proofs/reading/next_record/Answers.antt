@@ -2,8 +2,8 @@ use Rattle.std.proofs.Common.{◌≡◌, ◌≤◌, ℕ, List, length, drop, sym
 use Rattle.lnfs_types.specs.declared.limits.TheConstants.{RECORD_LIMIT}
 use Rattle.lnfs_rpc.specs.Formats.{whole_record}
 use Rattle.lnfs_rpc.specs.CallGrammar.{Begins}
-use Rattle.lnfs_workers.proofs.Records.{record_fits}
-use Rattle.lnfs_workers.proofs.reading.next_record.Goals as goal
+use Rattle.lnfs_incoming.proofs.Records.{record_fits}
+use Rattle.lnfs_incoming.proofs.reading.next_record.Goals as goal
 
 -- the record at the front is taken off
 taken : (r bytes now new : List ℕ) (count : ℕ) → bytes ≡ now → new ≡ drop count now → Begins whole_record r bytes (λ rest. rest ≡ drop count bytes)

@@ -2,7 +2,7 @@
 ghost use Rattle.std.specs.Prelude.{◌≡◌, ◌+◌, ◌-◌, ◌<◌, ◌≤◌, [], length, take, drop, OnOk, OnErr, IfOk, IfSome};
 ghost use Rattle.std.specs.Io.KnownBytes.{ReadConsumes};
 ghost use Rattle.lnfs_outside.specs.Causes.{HasCause};
-ghost use Rattle.lnfs_workers.specs.Turns.{ReadOn};
+ghost use Rattle.lnfs_incoming.specs.Incoming.{ReadOn};
 
 use crate::ending::Ending;
 use lnfs_outside::{Failed, Link};

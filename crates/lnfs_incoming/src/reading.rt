@@ -1,6 +1,6 @@
 //! Records that come over a link.
 ghost use Rattle.std.specs.Prelude.{◌≡◌, ◌≤◌, []};
-ghost use Rattle.lnfs_workers.specs.Turns.{Cuts, ReadOn};
+ghost use Rattle.lnfs_incoming.specs.Incoming.{Cuts, ReadOn};
 
 use crate::buffer::ReadBuffer;
 use crate::ending::Ending;

@@ -1,4 +1,4 @@
-use Rattle.lnfs_workers.proofs.reading.Incoming.new.Goals as goal
+use Rattle.lnfs_incoming.proofs.reading.Incoming.new.Goals as goal
 
 pub invariant_of-result : goal.invariant_of-result
 invariant_of-result c = c.new-2.ensures c.new.result
