@@ -17,7 +17,7 @@ use Rattle.lnfs_requests.specs.Texts.{op_text, sys_text, create_session_text, se
 use Rattle.lnfs_rpc.specs.Numbers.{last_procedure}
 use Rattle.lnfs_traffic.specs.declared.guests.Row.{Row}
 use Rattle.lnfs_traffic.specs.declared.turns.Turn.{Turn}
-use Rattle.lnfs_traffic.specs.CallTexts.{auth_text, header_text, call_text}
+use Rattle.lnfs_calls.specs.CallTexts.{auth_text, header_text, call_text}
 use Rattle.lnfs_traffic.specs.Generated.{channel, type_and_size, type_and_label, anonymous, name, open_op, root_ops, ops_of, content, compound_of, credential, no_verifier, message}
 
 -- ---- names and items

@@ -8,7 +8,7 @@ use Rattle.lnfs_types.specs.Moments.{Fits}
 use Rattle.lnfs_policy.specs.Policy.{Policy}
 use Rattle.lnfs_traffic.specs.declared.guests.Row.{Row}
 use Rattle.lnfs_traffic.specs.declared.turns.Past.{Past}
-use Rattle.lnfs_traffic.specs.CallTexts.{IsRequest}
+use Rattle.lnfs_calls.specs.CallTexts.{IsRequest}
 use Rattle.lnfs_traffic.specs.Counts.{last_in, next_past, last_after}
 use Rattle.lnfs_traffic.specs.Generated.{next_number, number, roll, rows, row_at, place_of, places, given, got, events_of, past_of, event_of, event_at, generated}
 use Rattle.lnfs_traffic.proofs.Counting.{AreHad, had, had_more, next_is, one_more, given_more, given_within, events_within, nothing}

@@ -15,7 +15,8 @@ use Rattle.lnfs_arguments.specs.declared.types.Compound.{Compound}
 use Rattle.lnfs_arguments.specs.declared.types.Op.{Op}
 use Rattle.lnfs_arguments.specs.declared.types.Op.TheVariants as ops
 use Rattle.lnfs_arguments.specs.Identifiers.{client_id, session_id}
-use Rattle.lnfs_requests.specs.Texts.{sys_text, compound_text}
+use Rattle.lnfs_requests.specs.Texts.{compound_text}
+use Rattle.lnfs_calls.specs.CallTexts.{call_text, no_auth, user_auth}
 use Rattle.lnfs_policy.specs.declared.mode.Mode.{Mode}
 use Rattle.lnfs_policy.specs.declared.mode.Mode.TheVariants.{Enforcing, Limited}
 use Rattle.lnfs_policy.specs.declared.rows.Guest.{Guest}
@@ -23,7 +24,6 @@ use Rattle.lnfs_policy.specs.Policy.{Policy, guest_level}
 use Rattle.lnfs_traffic.specs.declared.guests.Row.{Row}
 use Rattle.lnfs_traffic.specs.declared.turns.Past.{Past}
 use Rattle.lnfs_traffic.specs.declared.turns.Turn.{Turn}
-use Rattle.lnfs_traffic.specs.CallTexts.{call_text}
 
 -- ---- numbers
 
@@ -154,10 +154,10 @@ compound_of ops = record { tag = []; minor = 2; count = length ops; ops = ops }
 
 -- the user of a row, by AUTH_SYS (RFC 5531 appendix A)
 abbrev pub credential : (uid : ℕ) → OpaqueAuth
-credential uid = record { flavor = 1; body = sys_text (record { stamp = 0; machine = codes "gen"; uid = uid; gid = 0; gids = [] }) }
+credential uid = user_auth (codes "gen") uid
 
 abbrev pub no_verifier : OpaqueAuth
-no_verifier = record { flavor = 0; body = [] }
+no_verifier = no_auth
 
 -- what a WRITE of an event brings
 abbrev pub content : (event : ℕ) → List ℕ

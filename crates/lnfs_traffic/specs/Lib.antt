@@ -3,7 +3,6 @@ pub mod Recording
 pub mod Parts
 pub mod Texts
 pub mod Answers
-pub mod CallTexts
 pub mod Generated
 pub mod Counts
 pub mod Stages

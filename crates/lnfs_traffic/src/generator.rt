@@ -1,11 +1,11 @@
 //! Events that guests of a site might send, drawn by a seed.
 ghost use Rattle.std.specs.Prelude.{◌≡◌, ◌<◌, ◌^◌, All, IfOk};
 ghost use Rattle.lnfs_types.specs.Moments.{Fits};
-ghost use Rattle.lnfs_traffic.specs.CallTexts.{IsRequest};
+ghost use Rattle.lnfs_calls.specs.CallTexts.{IsRequest};
 ghost use Rattle.lnfs_traffic.specs.Generated.{next_number, message, event_of, generated};
 
 use crate::asking::ops_of;
-use crate::calls::write_call;
+use crate::calls::write_request;
 use crate::guests::{Row, rows};
 use crate::turns::{Past, Turn, next_past};
 use lnfs_arguments::Compound;
@@ -40,7 +40,7 @@ fn message_of(alloc: Global, row: &Row, turn: &Turn) -> Result<Vec<u8>, AllocErr
         ops: Items::new(ops),
     };
     let arguments = write_compound(alloc, &compound)?;
-    write_call(alloc, event, uid, &arguments)
+    write_request(alloc, event, uid, &arguments)
 }
 
 fn event_of(alloc: Global, row: &Row, turn: &Turn) -> Result<Event, AllocError>

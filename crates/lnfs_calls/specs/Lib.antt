@@ -1,0 +1,2 @@
+-- Calls as they are written.
+pub mod CallTexts
