@@ -1,0 +1,4 @@
+pub mod Ends
+pub mod Steps
+pub mod Said
+pub mod Named

@@ -1,0 +1,5 @@
+pub mod Lines
+pub mod Paths
+pub mod Fits
+pub mod Forms
+pub mod Script
