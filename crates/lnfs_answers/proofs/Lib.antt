@@ -1,0 +1,12 @@
+mod Steps
+mod Exact
+mod Such
+mod Items
+mod Hearing
+mod Back
+mod Inside
+mod Offsets
+mod Records
+mod Going
+mod Lives
+mod CanSucceed

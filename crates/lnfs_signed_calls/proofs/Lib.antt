@@ -1,0 +1,4 @@
+pub mod Accepting
+pub mod Calling
+pub mod Lengths
+pub mod Parts
