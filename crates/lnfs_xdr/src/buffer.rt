@@ -69,6 +69,7 @@ impl Buffer {
     }
 
     /// Appends a word.
+    #[inline(always)]
     pub fn word(&mut self, v: u32) -> Result<(), AllocError>
         ensures ok { OnOk result (self.new ≡ self.old ++ word v) }
         ensures err { OnErr result (self.new ≡ self.old) }
