@@ -1,0 +1,3 @@
+pub mod OneClient
+pub mod Written
+pub mod SlotLaws
