@@ -1,0 +1,16 @@
+pub mod NamesFit
+pub mod Walking
+pub mod Steps
+pub mod Ready
+pub mod Bounds
+pub mod Showing
+pub mod Guarding
+pub mod Ending
+pub mod Over
+pub mod Suiting
+pub mod Turned
+pub mod Taking
+pub mod Slots
+pub mod Records
+pub mod Fitting
+pub mod Asking

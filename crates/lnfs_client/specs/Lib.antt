@@ -1,0 +1,10 @@
+pub mod Told
+pub mod Enforcing
+pub mod Names
+pub mod Stages
+pub mod Requests
+pub mod Machine
+pub mod Promises
+pub mod Fits
+pub mod Runs
+pub mod Slot
