@@ -1,33 +1,30 @@
 -- A CREATE_SESSION of the client comes: lost, stale and retry.
-use Rattle.std.proofs.Common.{◌≡◌, ℕ, ◌+◌, ◌≤◌, Bool, true, false, cond, ◌&&◌, List, [], Option, Some, None, refl, sym, ◌∙◌, ap, arith}
+use Rattle.std.proofs.Common.{◌≡◌, ℕ, ◌+◌, ◌≤◌, Bool, true, false, cond, List, [], Option, Some, None, refl, sym, ◌∙◌, ap, arith}
 use Rattle.std.specs.Str.{bytes_eq}
 use Rattle.lnfs_types.specs.declared.event.Event.{Event}
 use Rattle.lnfs_policy.specs.Policy.{Policy}
 use Rattle.lnfs_world.specs.declared.numbers.TheConstants.{LAST_SEQUENCE}
 use Rattle.lnfs_world.specs.World.{Id, Client as ClientRow, client_at}
-use Rattle.lnfs_world.specs.Outcome.{begins_at}
 use Rattle.lnfs_world.specs.Lawful.{Turn}
 use Rattle.lnfs_world.specs.Both.{Both}
 use Rattle.lnfs_operations.specs.Identifiers.{client_named}
 use Rattle.lnfs_operations.specs.InOrder.{sequence_before}
 use Rattle.lnfs_operations.specs.Sequence.{Sent}
 use Rattle.lnfs_operations.specs.Extra.{Extra}
-use Rattle.lnfs_operations.specs.Served.{operation}
-use Rattle.lnfs_operations.specs.SlotRule.{Answer, run_all}
+use Rattle.lnfs_operations.specs.SlotRule.{Answer}
 use Rattle.lnfs_operations.proofs.Retries.{created_again}
-use Rattle.lnfs_gss3.specs.declared.numbers.TheConstants.{RPCSEC_GSS_CTXPROBLEM}
 use Rattle.lnfs_gss3.specs.Mechanism.{Signing}
 use Rattle.lnfs_site.specs.Site.{site_of}
-use Rattle.lnfs_step.specs.Wrapping.{caller, answer_text, refusal_text}
-use Rattle.lnfs_step.specs.Request.{Run, Asked, Request, request_with}
+use Rattle.lnfs_step.specs.Wrapping.{answer_text}
 use Rattle.lnfs_step.specs.Contexts.{is_there}
-use Rattle.lnfs_step.specs.Step.{Step, answered, sent_of, step_with}
+use Rattle.lnfs_step.specs.Step.{sent_of}
 use Rattle.lnfs_step.proofs.SlotSteps.{serving}
 use Rattle.lnfs_once.specs.Client.{Create, Packet}
 use Rattle.lnfs_once.specs.Laws.{Record}
-use Rattle.lnfs_slots.specs.OneClient.{Seen, When, Row, Writer, at_level, record_row, row_of, mine_after, keeps_in, is_keeping, event_of, serve}
+use Rattle.lnfs_slots.specs.OneClient.{Seen, When, Row, Writer, at_level, record_row, row_of, mine_after, event_of, serve}
 use Rattle.lnfs_slots.specs.Written.{context_of, call_of, IsCreate}
-use Rattle.lnfs_slots.proofs.Steps.{step_there, step_lost}
+use Rattle.lnfs_slots.proofs.Running as running
+use Rattle.lnfs_slots.proofs.Running.{IsDone}
 use Rattle.lnfs_slots.proofs.Creates.{IsQuiet, lost_quiet, stale_quiet}
 
 -- a record that shows a row
@@ -58,50 +55,23 @@ module _ (X : Extra) (m : Signing) (p : Policy) {A : Type 0} (w : Writer A) (v :
   abbrev result : Turn Answer (Both X.Row)
   result = serving X p event (call_of X m p w q) (w.arguments q) written.compound b
 
-  pub record Still : Type 0 where
-    pub state : (serve X m p w v when q).state ≡ v
-    pub acts : (serve X m p w v when q).acts ≡ false
+  pub same_mine : (i j : ℕ) → mine_after q.kind i j v.mine ≡ v.mine
+  same_mine i j = ap (λ k. mine_after k i j v.mine) kind
 
-  pub same_mine : (k : _) → k ≡ Create → (i j : ℕ) → mine_after k i j v.mine ≡ v.mine
-  same_mine k e i j = ap (λ k. mine_after k i j v.mine) e
-
-  pub acts_is : (r : Request) → request_with X.grammar m p w.class (w.text q) ≡ r → keeps_in X p b event (request_with X.grammar m p w.class (w.text q)) ≡ keeps_in X p b event r
-  acts_is r e = ap (keeps_in X p b event) e
-
-  seen_same : (step : Step (Both X.Row)) → step.state ≡ b → (i j : ℕ) → record { state = step.state; mine = mine_after q.kind i j v.mine } ≡ v
-  seen_same step e i j = λ k. record { state = e k; mine = same_mine q.kind kind i j k }
-
-  request : request_with X.grammar m p event.class event.message ≡ Asked (call_of X m p w q) (Run (w.arguments q) written.compound)
-  request = written.request
+  abbrev Still : Type 0
+  Still = IsDone X m p w v when q same_mine written.compound written.request v
 
   abbrev here : Bool
   here = is_there b.world.contexts w.level (context_of w.parent q.place.context)
 
-  pub away_still : here ≡ false → Still
-  away_still e =
-      let step = step_lost X m p b event (call_of X m p w q) (Run (w.arguments q) written.compound) request e in
-      record {
-        state = seen_same (step_with X m p b event) (ap (λ (s : Step (Both X.Row)). s.state) step) _ _;
-        acts = acts_is _ written.request ∙ ap (λ t. t && is_keeping (run_all (operation X (site_of p) sent written.compound) written.compound (begins_at w.level when.moment) b).keeper) e;
-      }
-
-  pub away_reply : here ≡ false → (serve X m p w v when q).reply ≡ Some (refusal_text m (w.wrapping q) q.xid (caller RPCSEC_GSS_CTXPROBLEM))
-  away_reply e = ap (λ (s : Step (Both X.Row)). s.reply) (step_lost X m p b event (call_of X m p w q) (Run (w.arguments q) written.compound) request e)
-
-  pub step_is : here ≡ true → step_with X m p b event ≡ answered m (call_of X m p w q) result
-  step_is e = step_there X m p b event (call_of X m p w q) (Run (w.arguments q) written.compound) request e
-
-  pub reply_is : here ≡ true → (serve X m p w v when q).reply ≡ Some (answer_text m (w.wrapping q) q.xid result.answer.result)
-  reply_is e = ap (λ (s : Step (Both X.Row)). s.reply) (step_is e)
+  reply_is : here ≡ true → (serve X m p w v when q).reply ≡ Some (answer_text m (w.wrapping q) q.xid result.answer.result)
+  reply_is e = running.reply_is X m p w v when q same_mine written.compound written.request e
 
   pub own : (client_named written.args.client).level ≡ w.level
   own = ap (λ (i : Id). i.level) written.client
 
   quiet_still : here ≡ true → IsQuiet X (site_of p) sent written.compound written.args w.level when.moment b written.minor written.count written.only own → Still
-  quiet_still e quiet = record {
-    state = seen_same (step_with X m p b event) (ap (λ (s : Step (Both X.Row)). s.state) (step_is e) ∙ quiet.state) _ _;
-    acts = acts_is _ written.request ∙ ap (λ t. t && is_keeping (run_all (operation X (site_of p) sent written.compound) written.compound (begins_at w.level when.moment) b).keeper) e ∙ quiet.keeps;
-  }
+  quiet_still e quiet = running.done X m p w v when q same_mine written.compound written.request e b quiet.state quiet.keeps
 
   pub lost_still : here ≡ true → client_at b.world.clients (at_level w.level q.place.number) ≡ None → Still × ((serve X m p w v when q).reply ≡ Some (answer_text m (w.wrapping q) q.xid (w.stale q)))
   lost_still e none =

@@ -1,5 +1,5 @@
 -- A COMPOUND of the client, over any state: lost, stale and retry.
-use Rattle.std.proofs.Common.{◌≡◌, ℕ, ◌+◌, ◌≤◌, Bool, true, false, cond, ◌&&◌, List, Option, Some, None, refl, sym, ◌∙◌, ap, arith}
+use Rattle.std.proofs.Common.{◌≡◌, ℕ, ◌+◌, ◌≤◌, Bool, true, false, cond, List, Option, Some, None, refl, sym, ◌∙◌, ap, arith}
 use Rattle.std.specs.Prelude.{slice_get}
 use Rattle.std.specs.Option.{option_map}
 use Rattle.lnfs_types.specs.declared.event.Event.{Event}
@@ -14,22 +14,20 @@ use Rattle.lnfs_operations.specs.Identifiers.{session_named}
 use Rattle.lnfs_operations.specs.Sequence.{Sent, begun_in}
 use Rattle.lnfs_operations.specs.Extra.{Extra}
 use Rattle.lnfs_operations.specs.Retries.{Names}
-use Rattle.lnfs_operations.specs.Served.{operation}
-use Rattle.lnfs_operations.specs.SlotRule.{Answer, run_all}
+use Rattle.lnfs_operations.specs.SlotRule.{Answer}
 use Rattle.lnfs_operations.proofs.Retries.{on_named, answered_again}
-use Rattle.lnfs_gss3.specs.declared.numbers.TheConstants.{RPCSEC_GSS_CTXPROBLEM}
 use Rattle.lnfs_gss3.specs.Mechanism.{Signing}
 use Rattle.lnfs_site.specs.Site.{site_of}
-use Rattle.lnfs_step.specs.Wrapping.{caller, answer_text, refusal_text}
-use Rattle.lnfs_step.specs.Request.{Run, Asked, Request, request_with}
+use Rattle.lnfs_step.specs.Wrapping.{answer_text}
 use Rattle.lnfs_step.specs.Contexts.{is_there}
-use Rattle.lnfs_step.specs.Step.{Step, answered, sent_of, step_with}
+use Rattle.lnfs_step.specs.Step.{sent_of}
 use Rattle.lnfs_step.proofs.SlotSteps.{serving}
 use Rattle.lnfs_once.specs.Client.{Compound, Packet}
 use Rattle.lnfs_once.specs.Laws.{Session}
-use Rattle.lnfs_slots.specs.OneClient.{Seen, When, Row, Writer, at_level, is_session, session_row, row_of, mine_after, keeps_in, is_keeping, event_of, serve, IsSound}
+use Rattle.lnfs_slots.specs.OneClient.{Seen, When, Row, Writer, at_level, is_session, session_row, row_of, mine_after, event_of, serve, IsSound}
 use Rattle.lnfs_slots.specs.Written.{context_of, call_of, IsCompound}
-use Rattle.lnfs_slots.proofs.Steps.{step_there, step_lost}
+use Rattle.lnfs_slots.proofs.Running as running
+use Rattle.lnfs_slots.proofs.Running.{IsDone}
 use Rattle.lnfs_slots.proofs.Sequences.{refusal, IsQuiet, old_order, no_session, refused_result, old_quiet}
 
 -- a session that shows a row
@@ -63,53 +61,20 @@ module _ (X : Extra) (m : Signing) (p : Policy) {A : Type 0} (w : Writer A) (v :
   abbrev result : Turn Answer (Both X.Row)
   result = serving X p event (call_of X m p w q) (w.arguments q) written.compound b
 
-  -- nothing acts where nothing is kept
-  pub record Still : Type 0 where
-    pub state : (serve X m p w v when q).state ≡ v
-    pub acts : (serve X m p w v when q).acts ≡ false
+  pub same_mine : (i j : ℕ) → mine_after q.kind i j v.mine ≡ v.mine
+  same_mine i j = ap (λ k. mine_after k i j v.mine) kind
 
-  pub same_mine : (k : _) → k ≡ Compound → (i j : ℕ) → mine_after k i j v.mine ≡ v.mine
-  same_mine k e i j = ap (λ k. mine_after k i j v.mine) e
-
-  pub acts_is : (r : Request) → request_with X.grammar m p w.class (w.text q) ≡ r → keeps_in X p b event (request_with X.grammar m p w.class (w.text q)) ≡ keeps_in X p b event r
-  acts_is r e = ap (keeps_in X p b event) e
-
-  -- the state as it was, with the client's contexts
-  seen_same : (step : Step (Both X.Row)) → step.state ≡ b → (i j : ℕ) → record { state = step.state; mine = mine_after q.kind i j v.mine } ≡ v
-  seen_same step e i j = λ k. record { state = e k; mine = same_mine q.kind kind i j k }
-
-  request : request_with X.grammar m p event.class event.message ≡ Asked (call_of X m p w q) (Run (w.arguments q) written.compound)
-  request = written.request
+  abbrev Still : Type 0
+  Still = IsDone X m p w v when q same_mine written.compound written.request v
 
   abbrev here : Bool
   here = is_there b.world.contexts w.level (context_of w.parent q.place.context)
 
-  -- ---- in a context that is not there
-
-  pub away_still : here ≡ false → Still
-  away_still e =
-      let step = step_lost X m p b event (call_of X m p w q) (Run (w.arguments q) written.compound) request e in
-      record {
-        state = seen_same (step_with X m p b event) (ap (λ (s : Step (Both X.Row)). s.state) step) _ _;
-        acts = acts_is _ written.request ∙ ap (λ t. t && is_keeping (run_all (operation X (site_of p) sent written.compound) written.compound (begins_at w.level when.moment) b).keeper) e;
-      }
-
-  pub away_reply : here ≡ false → (serve X m p w v when q).reply ≡ Some (refusal_text m (w.wrapping q) q.xid (caller RPCSEC_GSS_CTXPROBLEM))
-  away_reply e = ap (λ (s : Step (Both X.Row)). s.reply) (step_lost X m p b event (call_of X m p w q) (Run (w.arguments q) written.compound) request e)
-
-  -- ---- in one that is there
-
-  pub step_is : here ≡ true → step_with X m p b event ≡ answered m (call_of X m p w q) result
-  step_is e = step_there X m p b event (call_of X m p w q) (Run (w.arguments q) written.compound) request e
-
-  pub reply_is : here ≡ true → (serve X m p w v when q).reply ≡ Some (answer_text m (w.wrapping q) q.xid result.answer.result)
-  reply_is e = ap (λ (s : Step (Both X.Row)). s.reply) (step_is e)
+  reply_is : here ≡ true → (serve X m p w v when q).reply ≡ Some (answer_text m (w.wrapping q) q.xid result.answer.result)
+  reply_is e = running.reply_is X m p w v when q same_mine written.compound written.request e
 
   quiet_still : here ≡ true → IsQuiet X (site_of p) sent written.compound w.level when.moment b written.args written.rest written.minor written.first → Still
-  quiet_still e quiet = record {
-    state = seen_same (step_with X m p b event) (ap (λ (s : Step (Both X.Row)). s.state) (step_is e) ∙ quiet.state) _ _;
-    acts = acts_is _ written.request ∙ ap (λ t. t && is_keeping (run_all (operation X (site_of p) sent written.compound) written.compound (begins_at w.level when.moment) b).keeper) e ∙ quiet.keeps;
-  }
+  quiet_still e quiet = running.done X m p w v when q same_mine written.compound written.request e b quiet.state quiet.keeps
 
   own : (session_named written.args.session).level ≡ w.level
   own = ap (λ (i : Id). i.level) written.session

@@ -33,6 +33,7 @@ use Rattle.lnfs_once.specs.Laws.{Holder, Record, Session, holder_of, IsNew}
 use Rattle.lnfs_slots.specs.OneClient.{longest_request, most_operations, Seen, When, Row, Writer, at_level, slot_row, is_session, session_row, row_of, given_in, is_mine, is_keeping, event_of, serve, context_met, IsSound, rows}
 use Rattle.lnfs_slots.specs.Written.{context_of, call_of, IsCompound}
 use Rattle.lnfs_slots.proofs.Behind.{core}
+use Rattle.lnfs_slots.proofs.Running as running
 use Rattle.lnfs_slots.proofs.Compounds as compounds
 use Rattle.lnfs_slots.proofs.Cores.{owner_same, record_same, session_same, was_there, none_there}
 use Rattle.lnfs_slots.proofs.Due as due
@@ -144,7 +145,7 @@ module _ (X : Extra) (owed : AreLawful X) (m : Signing) (p : Policy) (lattice : 
   -- ---- what is sound stays so
 
   step_state : (step_with X m p b (event_of X m p w when q)).state ≡ now.state
-  step_state = ap (λ (s : Step (Both X.Row)). s.state) (compounds.step_is X m p w v when q kind written here)
+  step_state = ap (λ (s : Step (Both X.Row)). s.state) (running.step_is X m p w v when q (compounds.same_mine X m p w v when q kind written) written.compound written.request here)
 
   no_zero : session_at after.sessions (at_level w.level 0) ≡ None
   no_zero = session_now (at_level w.level 0) ∙ at (same_id (at_level w.level 0) i) refl
@@ -241,9 +242,9 @@ module _ (X : Extra) (owed : AreLawful X) (m : Signing) (p : Policy) (lattice : 
 
   served : serve X m p w v when q ≡ turn
   served = λ k. record {
-    state = record { state = step_state k; mine = compounds.same_mine X m p w v when q kind written q.kind kind (last_of w.level v.state.world.lasts.contexts) (last_of w.level (step_with X m p v.state (event_of X m p w when q)).state.world.lasts.contexts) k };
-    reply = compounds.reply_is X m p w v when q kind written here k;
-    acts = (compounds.acts_is X m p w v when q kind written _ written.request ∙ ap (λ t. t && is_keeping (run_all (operation X (site_of p) sent written.compound) written.compound (begins_at w.level when.moment) b).keeper) here ∙ acts) k;
+    state = record { state = step_state k; mine = compounds.same_mine X m p w v when q kind written (last_of w.level v.state.world.lasts.contexts) (last_of w.level (step_with X m p v.state (event_of X m p w when q)).state.world.lasts.contexts) k };
+    reply = running.reply_is X m p w v when q (compounds.same_mine X m p w v when q kind written) written.compound written.request here k;
+    acts = (running.acts_is X m p w v when q (compounds.same_mine X m p w v when q kind written) written.compound written.request ∙ ap (λ t. t && is_keeping (run_all (operation X (site_of p) sent written.compound) written.compound (begins_at w.level when.moment) b).keeper) here ∙ acts) k;
   }
 
   pub due_compound : IsNew (rows X m p w) v q (serve X m p w v when q)

@@ -1,4 +1,5 @@
 pub mod Steps
+pub mod Running
 pub mod Sequences
 pub mod Compounds
 pub mod Creates
@@ -17,7 +18,6 @@ pub mod Contexts
 pub mod DueCreateSession
 pub mod OnSlots
 pub mod Tidy
-pub mod Lone
 pub mod PlainDestroy
 pub mod PlainLeave
 pub mod PlainEnd

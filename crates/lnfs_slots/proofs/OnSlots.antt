@@ -16,6 +16,7 @@ use Rattle.lnfs_slots.specs.SlotLaws.{AreSlotsKept, DoCompoundsAct, DoCreatesAct
 use Rattle.lnfs_slots.specs.Written.{context_of, IsWriter}
 use Rattle.lnfs_slots.proofs.Steps.{there_is}
 use Rattle.lnfs_slots.proofs.Compounds as compounds
+use Rattle.lnfs_slots.proofs.Running as running
 use Rattle.lnfs_slots.proofs.ClientCreates as creates
 use Rattle.lnfs_slots.proofs.DueCompound.{due_compound}
 use Rattle.lnfs_slots.proofs.DueCreateSession.{due_create}
@@ -87,8 +88,8 @@ module _ (X : Extra) (m : Signing) (p : Policy) {A : Type 0} (w : Writer A) (wri
     lost_at Assert kind slotted there is none = absurd (grind arith)
     lost_at Exchange kind slotted there is none = absurd (grind arith)
     lost_at Create kind slotted false is none =
-        let still = creates.away_still X m p w v when q kind (written.create q came.suits kind) (same_there ∙ is) in
-        (record { state = still.state; acts = still.acts }, creates.away_reply X m p w v when q kind (written.create q came.suits kind) (same_there ∙ is))
+        let still = running.away X m p w v when q (creates.same_mine X m p w v when q kind (written.create q came.suits kind)) (written.create q came.suits kind).compound (written.create q came.suits kind).request (same_there ∙ is) in
+        (record { state = still.state; acts = still.acts }, running.away_reply X m p w v when q (creates.same_mine X m p w v when q kind (written.create q came.suits kind)) (written.create q came.suits kind).compound (written.create q came.suits kind).request (same_there ∙ is))
     lost_at Create kind slotted true is none =
         let row : row_of w.owner w.level v.state.world Record q.place.number ≡ None = sym (ap (λ t. cond t (row_of w.owner w.level v.state.world Record q.place.number) None) is) ∙ none in
         let given : given_in w.owner w.level v.state.world Record q.place.number = subst (λ k. given_in w.owner w.level v.state.world (holder_of k) q.place.number) kind came.knows.0 in
@@ -96,8 +97,8 @@ module _ (X : Extra) (m : Signing) (p : Policy) {A : Type 0} (w : Writer A) (wri
         let lost = creates.lost_still X m p w v when q kind (written.create q came.suits kind) (same_there ∙ is) gone in
         (record { state = lost.0.state; acts = lost.0.acts }, lost.1)
     lost_at Compound kind slotted false is none =
-        let still = compounds.away_still X m p w v when q kind (written.compound q came.suits kind) (same_there ∙ is) in
-        (record { state = still.state; acts = still.acts }, compounds.away_reply X m p w v when q kind (written.compound q came.suits kind) (same_there ∙ is))
+        let still = running.away X m p w v when q (compounds.same_mine X m p w v when q kind (written.compound q came.suits kind)) (written.compound q came.suits kind).compound (written.compound q came.suits kind).request (same_there ∙ is) in
+        (record { state = still.state; acts = still.acts }, running.away_reply X m p w v when q (compounds.same_mine X m p w v when q kind (written.compound q came.suits kind)) (written.compound q came.suits kind).compound (written.compound q came.suits kind).request (same_there ∙ is))
     lost_at Compound kind slotted true is none =
         let row : row_of w.owner w.level v.state.world Session q.place.number ≡ None = sym (ap (λ t. cond t (row_of w.owner w.level v.state.world Session q.place.number) None) is) ∙ none in
         let given : given_in w.owner w.level v.state.world Session q.place.number = subst (λ k. given_in w.owner w.level v.state.world (holder_of k) q.place.number) kind came.knows.0 in

@@ -20,8 +20,8 @@ use Rattle.lnfs_slots.specs.Written.{context_of, IsDestroy}
 use Rattle.lnfs_slots.proofs.Alone.{destroyed}
 use Rattle.lnfs_slots.proofs.Cores.{session_same}
 use Rattle.lnfs_slots.proofs.Destroys.{IsDestroyed, destroyed_rows}
-use Rattle.lnfs_slots.proofs.Lone as lone
-use Rattle.lnfs_slots.proofs.Lone.{IsDone}
+use Rattle.lnfs_slots.proofs.Running as running
+use Rattle.lnfs_slots.proofs.Running.{IsDone}
 use Rattle.lnfs_slots.proofs.OnSlots.{no_session}
 use Rattle.lnfs_slots.proofs.Steps.{there_is}
 use Rattle.lnfs_slots.proofs.Tidy.{IsTidy, IsGentleToo, tidy_kept, tidy_gentle, same_tidy, same_gentle}
@@ -51,14 +51,15 @@ module _ (X : Extra) (owed : AreLawful X) (m : Signing) (p : Policy) (lattice : 
   same_mine i k = ap (λ l. mine_after l i k v.mine) kind
 
   abbrev Done : Seen X → Type 0
-  Done t = IsDone X m p w v when q same_mine written.compound written.minor written.count written.request t
+  Done t = IsDone X m p w v when q same_mine written.compound written.request t
 
   now : IsDestroyed j b.world u
   now = destroyed_rows written.session j when.moment b.world written.named written.whole
 
   done : is_there b.world.contexts w.level (context_of w.parent q.place.context) ≡ true → Done then
-  done here = lone.done X m p w v when q same_mine written.compound written.minor written.count written.request here u
-      (destroyed X (site_of p) (lone.sent X m p w v when q same_mine written.compound written.minor written.count written.request) written.compound w.level when.moment b written.minor written.count written.session written.only)
+  done here =
+      let leaves = destroyed X (site_of p) (running.sent X m p w v when q same_mine written.compound written.request) written.compound w.level when.moment b written.minor written.count written.session written.only in
+      running.done X m p w v when q same_mine written.compound written.request here (both u b.own) leaves.state leaves.keeps
 
   same_owner : (y : SessionRow) → is_session w.owner w.level u y ≡ is_session w.owner w.level b.world y
   same_owner y = ap (λ cs. is_owner w.owner (client_at cs (at_level w.level y.client))) now.clients
@@ -80,7 +81,7 @@ module _ (X : Extra) (owed : AreLawful X) (m : Signing) (p : Policy) (lattice : 
       let sessions : last_of w.level u.lasts.sessions ≡ last_of w.level b.world.lasts.sessions = ap (λ l. last_of w.level l.sessions) now.lasts in
       let contexts : last_of w.level u.lasts.contexts ≡ last_of w.level b.world.lasts.contexts = ap (λ l. last_of w.level l.contexts) now.lasts in
       record {
-        holds = lone.holds_then X m p w v when q same_mine written.compound written.minor written.count written.request owed lattice sound.holds then is;
+        holds = running.holds_then X m p w v when q same_mine written.compound written.request owed lattice sound.holds then is;
         numbers = let bound = sound.numbers in omega arith;
         records = λ n c there. inl (ap (λ cs. client_at cs (at_level w.level n)) (sym now.clients) ∙ there);
         sessions = was;
@@ -145,7 +146,7 @@ module _ (X : Extra) (owed : AreLawful X) (m : Signing) (p : Policy) (lattice : 
 
       at : (t : Bool) → context_there X m p w v q.place.context ≡ t → Plain
       at false e =
-          let is = lone.away X m p w v when q same_mine written.compound written.minor written.count written.request (same_there ∙ e) in
+          let is = running.away X m p w v when q same_mine written.compound written.request (same_there ∙ e) in
           by_state v is (same_tidy X m p w v sound) (λ before. same_gentle X m p w v) (ap (λ t. cond t (row_of w.owner w.level b.world Session q.place.number) None) e)
       at true e =
           let is = done (same_there ∙ e) in

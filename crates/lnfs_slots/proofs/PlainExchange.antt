@@ -41,8 +41,8 @@ use Rattle.lnfs_slots.proofs.Alone.{exchanged, exchanged_result, ended_result}
 use Rattle.lnfs_slots.proofs.ClientCreates as creates
 use Rattle.lnfs_slots.proofs.Creates.{next_is}
 use Rattle.lnfs_slots.proofs.Leaves.{IsExchanged, exchanged_rows, refused, again, anew}
-use Rattle.lnfs_slots.proofs.Lone as lone
-use Rattle.lnfs_slots.proofs.Lone.{IsDone}
+use Rattle.lnfs_slots.proofs.Running as running
+use Rattle.lnfs_slots.proofs.Running.{IsDone}
 use Rattle.lnfs_slots.proofs.PlainLeave.{filter_none, owned}
 use Rattle.lnfs_slots.proofs.Steps.{there_is}
 use Rattle.lnfs_slots.proofs.Tidy.{IsFresh, IsTidy, IsGentleToo, tidy_kept, tidy_gentle, same_tidy, same_gentle}
@@ -96,22 +96,23 @@ module _ (X : Extra) (owed : AreLawful X) (m : Signing) (p : Policy) (lattice : 
   same_mine i k = ap (λ l. mine_after l i k v.mine) kind
 
   abbrev IsDoneTo : Seen X → Type 0
-  IsDoneTo t = IsDone X m p w v when q same_mine written.compound written.minor written.count written.request t
+  IsDoneTo t = IsDone X m p w v when q same_mine written.compound written.request t
 
   abbrev here : Bool
   here = is_there b.world.contexts w.level (context_of w.parent q.place.context)
 
   done : here ≡ true → IsDoneTo then
-  done e = lone.done X m p w v when q same_mine written.compound written.minor written.count written.request e u
-      (exchanged X (site_of p) (lone.sent X m p w v when q same_mine written.compound written.minor written.count written.request) written.compound w.level when.moment b written.minor written.count w.verifier w.owner written.flags written.implementation written.only)
+  done e =
+      let leaves = exchanged X (site_of p) (running.sent X m p w v when q same_mine written.compound written.request) written.compound w.level when.moment b written.minor written.count w.verifier w.owner written.flags written.implementation written.only in
+      running.done X m p w v when q same_mine written.compound written.request e (both u b.own) leaves.state leaves.keeps
 
   abbrev reply_with : Answer Told → Option (List ℕ)
   reply_with answer = Some (answer_text m (w.wrapping q) q.xid (new_result written.compound (ended_result w.level w.verifier w.owner written.flags written.implementation answer ∷ [])))
 
   reply : here ≡ true → (serve X m p w v when q).reply ≡ reply_with o.answer
   reply e =
-      lone.reply_is X m p w v when q same_mine written.compound written.minor written.count written.request e
-      ∙ ap (λ r. Some (answer_text m (w.wrapping q) q.xid r)) (exchanged_result X (site_of p) (lone.sent X m p w v when q same_mine written.compound written.minor written.count written.request) written.compound w.level when.moment b written.minor written.count w.verifier w.owner written.flags written.implementation written.only)
+      running.reply_is X m p w v when q same_mine written.compound written.request e
+      ∙ ap (λ r. Some (answer_text m (w.wrapping q) q.xid r)) (exchanged_result X (site_of p) (running.sent X m p w v when q same_mine written.compound written.request) written.compound w.level when.moment b written.minor written.count w.verifier w.owner written.flags written.implementation written.only)
 
   -- ---- the law, by the state afterwards and what is told
 
@@ -355,7 +356,7 @@ module _ (X : Extra) (owed : AreLawful X) (m : Signing) (p : Policy) (lattice : 
         let clients = last_now in
         let bound : last + 1 ≤ LAST_NUMBER = grind (arith, nat_tests, room) in
         record {
-          holds = lone.holds_then X m p w v when q same_mine written.compound written.minor written.count written.request owed lattice sound.holds then is;
+          holds = running.holds_then X m p w v when q same_mine written.compound written.request owed lattice sound.holds then is;
           numbers = omega arith;
           records = record_now;
           sessions = was;
@@ -440,7 +441,7 @@ module _ (X : Extra) (owed : AreLawful X) (m : Signing) (p : Policy) (lattice : 
 
       at : (t : Bool) → context_there X m p w v q.place.context ≡ t → Plain
       at false e =
-          by_state v (Some (refusal_text m (w.wrapping q) q.xid (caller RPCSEC_GSS_CTXPROBLEM))) (lone.away X m p w v when q same_mine written.compound written.minor written.count written.request (same_there ∙ e))
-          (lone.away_reply X m p w v when q same_mine written.compound written.minor written.count written.request (same_there ∙ e)) (same_tidy X m p w v sound) (same_gentle X m p w v)
+          by_state v (Some (refusal_text m (w.wrapping q) q.xid (caller RPCSEC_GSS_CTXPROBLEM))) (running.away X m p w v when q same_mine written.compound written.request (same_there ∙ e))
+          (running.away_reply X m p w v when q same_mine written.compound written.request (same_there ∙ e)) (same_tidy X m p w v sound) (same_gentle X m p w v)
           (λ id next told. absurd (written.lost id next told))
       at true e = by_rows (same_there ∙ e) (exchanged_rows args place b.world)

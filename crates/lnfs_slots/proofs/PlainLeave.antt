@@ -28,8 +28,8 @@ use Rattle.lnfs_slots.specs.Written.{context_of, IsLeave}
 use Rattle.lnfs_slots.proofs.Alone.{left}
 use Rattle.lnfs_slots.proofs.ClientCreates as creates
 use Rattle.lnfs_slots.proofs.Leaves.{IsLeft, left_rows}
-use Rattle.lnfs_slots.proofs.Lone as lone
-use Rattle.lnfs_slots.proofs.Lone.{IsDone}
+use Rattle.lnfs_slots.proofs.Running as running
+use Rattle.lnfs_slots.proofs.Running.{IsDone}
 use Rattle.lnfs_slots.proofs.Steps.{there_is}
 use Rattle.lnfs_slots.proofs.Tidy.{IsTidy, IsGentleToo, tidy_kept, tidy_gentle, same_tidy, same_gentle}
 
@@ -68,11 +68,12 @@ module _ (X : Extra) (owed : AreLawful X) (m : Signing) (p : Policy) (lattice : 
   same_mine i k = ap (λ l. mine_after l i k v.mine) kind
 
   abbrev Done : Seen X → Type 0
-  Done t = IsDone X m p w v when q same_mine written.compound written.minor written.count written.request t
+  Done t = IsDone X m p w v when q same_mine written.compound written.request t
 
   done : is_there b.world.contexts w.level (context_of w.parent q.place.context) ≡ true → Done then
-  done here = lone.done X m p w v when q same_mine written.compound written.minor written.count written.request here u
-      (left X (site_of p) (lone.sent X m p w v when q same_mine written.compound written.minor written.count written.request) written.compound w.level when.moment b written.minor written.count written.client written.only)
+  done here =
+      let leaves = left X (site_of p) (running.sent X m p w v when q same_mine written.compound written.request) written.compound w.level when.moment b written.minor written.count written.client written.only in
+      running.done X m p w v when q same_mine written.compound written.request here (both u b.own) leaves.state leaves.keeps
 
   -- ---- a record that goes
 
@@ -122,7 +123,7 @@ module _ (X : Extra) (owed : AreLawful X) (m : Signing) (p : Policy) (lattice : 
         let sessions : last_of w.level u.lasts.sessions ≡ last_of w.level b.world.lasts.sessions = ap (λ (z : World). last_of w.level z.lasts.sessions) goes.world in
         let contexts : last_of w.level u.lasts.contexts ≡ last_of w.level b.world.lasts.contexts = ap (λ (z : World). last_of w.level z.lasts.contexts) goes.world in
         record {
-          holds = lone.holds_then X m p w v when q same_mine written.compound written.minor written.count written.request owed lattice sound.holds then is;
+          holds = running.holds_then X m p w v when q same_mine written.compound written.request owed lattice sound.holds then is;
           numbers = let bound = sound.numbers in omega arith;
           records = λ n c there. inl (record_was n c there);
           sessions = was;
@@ -202,7 +203,7 @@ module _ (X : Extra) (owed : AreLawful X) (m : Signing) (p : Policy) (lattice : 
       same_there = there_is X m p w v q.place.context came.knows.1
 
       at : (t : Bool) → context_there X m p w v q.place.context ≡ t → Plain
-      at false e = by_state v (lone.away X m p w v when q same_mine written.compound written.minor written.count written.request (same_there ∙ e)) (same_tidy X m p w v sound) (same_gentle X m p w v)
+      at false e = by_state v (running.away X m p w v when q same_mine written.compound written.request (same_there ∙ e)) (same_tidy X m p w v sound) (same_gentle X m p w v)
       at true e = elim (left_rows written.client j when.moment b.world written.named) [
         | inl same ↦ by_state v (subst Done (λ k. record { state = both (same k) b.own; mine = v.mine }) (done (same_there ∙ e))) (same_tidy X m p w v sound) (same_gentle X m p w v)
         | inr goes ↦ by_state then (done (same_there ∙ e)) (tidy goes (done (same_there ∙ e))) (gentle goes)

@@ -1,13 +1,13 @@
--- A COMPOUND of one operation, of which nothing is kept, comes in the client's context: what the step leaves.
+-- A request of the client comes that runs a COMPOUND: its step, in a context that is there and in one that isn't.
 use Rattle.std.proofs.Common.{◌≡◌, ℕ, Bool, true, false, ◌&&◌, List, Some, ◌∙◌, ap, subst}
 use Rattle.lnfs_calipso.specs.Label.{IsPreorderWithBottom}
 use Rattle.lnfs_types.specs.declared.event.Event.{Event}
 use Rattle.lnfs_arguments.specs.declared.types.Compound.{Compound}
 use Rattle.lnfs_policy.specs.Policy.{Policy, dominance}
-use Rattle.lnfs_world.specs.World.{World, last_of}
+use Rattle.lnfs_world.specs.World.{last_of}
 use Rattle.lnfs_world.specs.Outcome.{begins_at}
 use Rattle.lnfs_world.specs.Lawful.{Turn}
-use Rattle.lnfs_world.specs.Both.{Both, both}
+use Rattle.lnfs_world.specs.Both.{Both}
 use Rattle.lnfs_operations.specs.Extra.{Extra, AreLawful}
 use Rattle.lnfs_operations.specs.Sequence.{Sent}
 use Rattle.lnfs_operations.specs.Served.{operation}
@@ -25,10 +25,9 @@ use Rattle.lnfs_step.proofs.Steps.{keeps}
 use Rattle.lnfs_once.specs.Client.{Packet}
 use Rattle.lnfs_slots.specs.OneClient.{Seen, When, Writer, mine_after, keeps_in, is_keeping, event_of, serve}
 use Rattle.lnfs_slots.specs.Written.{context_of, call_of}
-use Rattle.lnfs_slots.proofs.Alone.{Leaves}
 use Rattle.lnfs_slots.proofs.Steps.{step_there, step_lost}
 
-module _ (X : Extra) (m : Signing) (p : Policy) {A : Type 0} (w : Writer A) (v : Seen X) (when : When) (q : Packet A) (same_mine : (i j : ℕ) → mine_after q.kind i j v.mine ≡ v.mine) (compound : Compound) (minor : compound.minor ≡ 2) (count : compound.count ≡ 1) (request : request_with X.grammar m p w.class (w.text q) ≡ Asked (call_of X m p w q) (Run (w.arguments q) compound)) where
+module _ (X : Extra) (m : Signing) (p : Policy) {A : Type 0} (w : Writer A) (v : Seen X) (when : When) (q : Packet A) (same_mine : (i j : ℕ) → mine_after q.kind i j v.mine ≡ v.mine) (compound : Compound) (request : request_with X.grammar m p w.class (w.text q) ≡ Asked (call_of X m p w q) (Run (w.arguments q) compound)) where
   abbrev b : Both X.Row
   b = v.state
 
@@ -57,10 +56,10 @@ module _ (X : Extra) (m : Signing) (p : Policy) {A : Type 0} (w : Writer A) (v :
   abbrev last_after : ℕ
   last_after = last_of w.level (step_with X m p b event).state.world.lasts.contexts
 
-  acts_is : keeps_in X p b event (request_with X.grammar m p w.class (w.text q)) ≡ (here && is_keeping (run_all (operation X (site_of p) sent compound) compound (begins_at w.level when.moment) b).keeper)
+  pub acts_is : keeps_in X p b event (request_with X.grammar m p w.class (w.text q)) ≡ (here && is_keeping (run_all (operation X (site_of p) sent compound) compound (begins_at w.level when.moment) b).keeper)
   acts_is = ap (keeps_in X p b event) request
 
-  -- what a step comes to that leaves this world
+  -- what a step comes to that leaves this state, where nothing acts
   pub record IsDone (u : Seen X) : Type 0 where
     pub state : (serve X m p w v when q).state ≡ u
     pub acts : (serve X m p w v when q).acts ≡ false
@@ -75,14 +74,14 @@ module _ (X : Extra) (m : Signing) (p : Policy) {A : Type 0} (w : Writer A) (v :
   pub away_reply : here ≡ false → (serve X m p w v when q).reply ≡ Some (refusal_text m (w.wrapping q) q.xid (caller RPCSEC_GSS_CTXPROBLEM))
   away_reply e = ap (λ (s : Step (Both X.Row)). s.reply) (step_lost X m p b event (call_of X m p w q) (Run (w.arguments q) compound) request e)
 
-  step_is : here ≡ true → step_with X m p b event ≡ answered m (call_of X m p w q) result
+  pub step_is : here ≡ true → step_with X m p b event ≡ answered m (call_of X m p w q) result
   step_is e = step_there X m p b event (call_of X m p w q) (Run (w.arguments q) compound) request e
 
   -- in one that is there
-  pub done : here ≡ true → (u : World) → Leaves X (site_of p) sent compound w.level when.moment b minor count u → IsDone (record { state = both u b.own; mine = v.mine })
-  done e u left = record {
-    state = seen_as (step_with X m p b event) (both u b.own) (ap (λ (s : Step (Both X.Row)). s.state) (step_is e) ∙ left.state) last_before last_after;
-    acts = acts_is ∙ ap (λ t. t && is_keeping (run_all (operation X (site_of p) sent compound) compound (begins_at w.level when.moment) b).keeper) e ∙ left.keeps;
+  pub done : here ≡ true → (a : Both X.Row) → result.state ≡ a → is_keeping (run_all (operation X (site_of p) sent compound) compound (begins_at w.level when.moment) b).keeper ≡ false → IsDone (record { state = a; mine = v.mine })
+  done e a is keeps = record {
+    state = seen_as (step_with X m p b event) a (ap (λ (s : Step (Both X.Row)). s.state) (step_is e) ∙ is) last_before last_after;
+    acts = acts_is ∙ ap (λ t. t && is_keeping (run_all (operation X (site_of p) sent compound) compound (begins_at w.level when.moment) b).keeper) e ∙ keeps;
   }
 
   pub reply_is : here ≡ true → (serve X m p w v when q).reply ≡ Some (answer_text m (w.wrapping q) q.xid result.answer.result)
