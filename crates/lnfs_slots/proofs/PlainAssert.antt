@@ -1,12 +1,14 @@
 -- The law of a context that is asked for: it is a new one of the client's, and all else of the client stays.
 use Rattle.std.proofs.Common.{◌≡◌, inl, inr, ℕ, ◌+◌, ◌≤◌, Bool, true, false, cond, ◌&&◌, ◌||◌, List, ◌∷◌, Option, Some, None, refl, sym, ◌∙◌, ap, subst, arith}
-use Rattle.std.specs.Prelude.{◌==◌}
+use Rattle.std.specs.Prelude.{◌==◌, nat_lt}
+use Rattle.std.proofs.lemmas.Bool.{and_parts, ltb-true}
 use Rattle.std.proofs.lemmas.Bool.Decides.{nat_tests}
 use Rattle.lnfs_calipso.specs.Label.{IsPreorderWithBottom}
 use Rattle.lnfs_types.specs.declared.event.Event.{Event}
 use Rattle.lnfs_policy.specs.Policy.{Policy, dominance}
 use Rattle.lnfs_world.specs.World.{Id, Context, World, same_id, last_of}
 use Rattle.lnfs_world.specs.Change.{AddContext, apply}
+use Rattle.lnfs_world.specs.declared.numbers.TheConstants.{LAST_NUMBER}
 use Rattle.lnfs_world.specs.Outcome.{Place, Outcome, begins_at, done_to}
 use Rattle.lnfs_world.specs.Both.{Both, both}
 use Rattle.lnfs_world.proofs.Keys.{id_same, last_of-inserted}
@@ -173,6 +175,10 @@ module _ (X : Extra) (owed : AreLawful X) (m : Signing) (p : Policy) (lattice : 
     records = λ n x is gone. λ k. let no : Some x ≡ None = sym is ∙ gone in absurd cc;
   }
 
+  -- the level has a number for one more
+  room : left ≡ true → last + 1 ≤ LAST_NUMBER
+  room e = let counted : nat_lt last LAST_NUMBER ≡ true = (and_parts _ _ e).1 in omega (arith, ltb-true _ _ counted)
+
   plain_new : left ≡ true → Plain (turn true)
   plain_new e = record {
     kept = subst (λ s. IsKept (rows X m p w) v s) (sym new_state) (tidy_kept X m p w v then sound (tidy (holds true e)));
@@ -180,7 +186,7 @@ module _ (X : Extra) (owed : AreLawful X) (m : Signing) (p : Policy) (lattice : 
     acts = refl;
     gone = subst (λ k. Gone (rows X m p w) (seen (state_of true) Assert) k q.place) (sym kind) tt;
     known = λ number next exchange told. let no : Assert ≡ Exchange = sym kind ∙ exchange in absurd cc;
-    granted = λ context assert told. subst (λ s. context_met X m p w s context) (sym new_state) (met context (written.told (last + 1) context told));
+    granted = λ context assert told. subst (λ s. context_met X m p w s context) (sym new_state) (met context (written.told (last + 1) context (room e) told));
   }
     where
       met : (context : ℕ) → context ≡ last + 1 → context_met X m p w then context

@@ -118,7 +118,7 @@ module _ (X : Extra) (m : Signing) (p : Policy) {A : Type 0} (w : Writer A) wher
     pub assertion : Assertion
     pub request : request_with X.grammar m p w.class (w.text q) ≡ Asked (alone_of q) (MakeContext w.parent assertion)
     -- what is read from the reply to it is the context that was made, and from a refusal none is read
-    pub told : (number context : ℕ) → w.reads q (Some (answer_text m (w.wrapping q) q.xid (granted (alone_of q) w.parent assertion number))) ≡ Granted context → context ≡ number
+    pub told : (number context : ℕ) → number ≤ LAST_NUMBER → w.reads q (Some (answer_text m (w.wrapping q) q.xid (granted (alone_of q) w.parent assertion number))) ≡ Granted context → context ≡ number
     pub refused : (context : ℕ) → w.reads q (Some (refusal_text m (w.wrapping q) q.xid (called SYSTEM_ERR))) ≡ Granted context → ⊥
 
   -- the end of the context that its place names
