@@ -9,3 +9,5 @@ mod codecs;
 mod drafts;
 #[cfg(test)]
 mod replies;
+#[cfg(test)]
+mod written;
