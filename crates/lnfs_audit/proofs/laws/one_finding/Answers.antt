@@ -1,0 +1,5 @@
+use Rattle.lnfs_audit.proofs.OneFinding.{one_finding}
+use Rattle.lnfs_audit.proofs.laws.one_finding.Goals as goal
+
+pub returns : goal.returns
+returns c = one_finding
