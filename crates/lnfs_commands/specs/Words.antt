@@ -1,5 +1,5 @@
 -- The forms of the command line.
-use Rattle.std.specs.Prelude.{ℕ, ◌-◌, ◌^◌, ◌==◌, cond, nat_le, List, [], ◌∷◌, ◌++◌, length, codes, string_bytes, map, String}
+use Rattle.std.specs.Prelude.{ℕ, Bool, true, false, ◌-◌, ◌^◌, ◌==◌, cond, nat_le, List, [], ◌∷◌, ◌++◌, length, codes, string_bytes, map, String}
 use Rattle.std.specs.declared.alloc.Global.{Global}
 use Rattle.std.specs.declared.option.Option.{Option}
 use Rattle.std.specs.declared.option.Option.TheVariants.{Some, None}
@@ -10,7 +10,9 @@ use Rattle.lnfs_words.specs.Words.{split}
 use Rattle.lnfs_format.specs.declared.formats.Pair.{Pair}
 use Rattle.lnfs_policy.specs.declared.fits.TheConstants.{MAX_CLASS}
 use Rattle.lnfs_commands.specs.declared.command.Asked as asked_for
-use Rattle.lnfs_commands.specs.declared.command.Asked.TheVariants.{Alone, Serve}
+use Rattle.lnfs_commands.specs.declared.command.Asked.TheVariants.{Alone, Other}
+use Rattle.lnfs_commands.specs.declared.command.Work.{Work}
+use Rattle.lnfs_commands.specs.declared.command.Work.TheVariants.{Serve, Talk, Judge}
 use Rattle.lnfs_commands.specs.declared.command.Command.{Command}
 use Rattle.lnfs_commands.specs.declared.command.Command.TheVariants.{Help, Version, Under}
 use Rattle.lnfs_commands.specs.declared.command.Task as code
@@ -40,6 +42,10 @@ pub data Asked : Type 0 where
   alone : Form → Asked
   -- the service of one link of each of these classes under the policy of a name, by so many workers
   serve : (policy links : List ℕ) (workers : ℕ) → Asked
+  -- the script of a name, which a client of a level talks through under the policy of a name
+  talk : (policy : List ℕ) (level : ℕ) (script : List ℕ) → Asked
+  -- the recorded replies of a name to the recording of a name, judged under the policy of a name, where they may be told level by level
+  judge : (policy traffic replies : List ℕ) (purged : Bool) → Asked
 
 abbrev pub pair_of : Option ℕ → Option ℕ → Option Pair
 pair_of (Some lfs) (Some pi) = Some (record { lfs = lfs; pi = pi })
@@ -104,12 +110,27 @@ service policy (Some links) (Some workers) = Some (serve policy links workers)
 service policy (Some links) None = None
 service policy None workers = None
 
+-- the number of a level
+abbrev pub level_in : List ℕ → Option ℕ
+level_in = number
+
+abbrev pub visit : (policy : List ℕ) → (level : Option ℕ) → (script : List ℕ) → Option Asked
+visit policy (Some level) script = Some (talk policy level script)
+visit policy None script = None
+
+abbrev pub judgement : (policy traffic replies : List ℕ) → (purged : Bool) → Option Asked
+judgement policy traffic replies purged = Some (judge policy traffic replies purged)
+
+abbrev pub purging : (policy traffic replies word : List ℕ) → Option Asked
+purging policy traffic replies word = cond (bytes_eq word (codes "purged")) (judgement policy traffic replies true) None
+
 -- the form that the words are, if they are one
 abbrev pub form_of : List (List ℕ) → Option Asked
 form_of (a ∷ []) = cond (bytes_eq a (codes "--help")) (Some (alone help)) (cond (bytes_eq a (codes "--version")) (Some (alone version)) None)
 form_of (a ∷ b ∷ []) = cond (bytes_eq a (codes "check")) (Some (alone (under b check))) (cond (bytes_eq a (codes "migrate")) (Some (alone (under b migrate))) None)
 form_of (a ∷ b ∷ c ∷ []) = cond (bytes_eq a (codes "replay")) (Some (alone (under b (replay c)))) None
-form_of (a ∷ b ∷ c ∷ d ∷ []) = cond (bytes_eq a (codes "generate")) (generation b (seed_in c) (count_in d)) (cond (bytes_eq a (codes "serve")) (service b (classes_in c) (workers_in d)) None)
+form_of (a ∷ b ∷ c ∷ d ∷ []) = cond (bytes_eq a (codes "generate")) (generation b (seed_in c) (count_in d)) (cond (bytes_eq a (codes "serve")) (service b (classes_in c) (workers_in d)) (cond (bytes_eq a (codes "client")) (visit b (level_in c) d) (cond (bytes_eq a (codes "audit")) (judgement b c d false) None)))
+form_of (a ∷ b ∷ c ∷ d ∷ e ∷ []) = cond (bytes_eq a (codes "audit")) (purging b c d e) None
 form_of (a ∷ b ∷ c ∷ d ∷ e ∷ f ∷ g ∷ []) = cond (bytes_eq a (codes "translate")) (translation b (pair_in c d) (pair_in f g) (bytes_in e)) None
 form_of words = None
 
@@ -127,10 +148,16 @@ named Help = help
 named Version = version
 named (Under policy task) = under policy.now (task_of task)
 
+-- what crates above this one do
+abbrev pub work : Work → Asked
+work (Serve service) = serve service.policy.now service.team.links.items service.team.workers
+work (Talk visit) = talk visit.policy.now visit.level visit.script.now
+work (Judge audit) = judge audit.policy.now audit.traffic.now audit.replies.now audit.purged
+
 -- what the code's value asks for
 abbrev pub asked : asked_for.Asked → Asked
 asked (Alone command) = alone (named command)
-asked (Serve service) = serve service.policy.now service.team.links.items service.team.workers
+asked (Other it) = work it
 
 -- the words' bytes
 abbrev pub texts : List (String Global) → List (List ℕ)
@@ -146,6 +173,8 @@ help_text = codes "usage: lnfs check POLICY\n"
     ++ codes "usage: lnfs replay POLICY TRAFFIC\n"
     ++ codes "usage: lnfs generate POLICY SEED N\n"
     ++ codes "usage: lnfs serve POLICY LINKS WORKERS\n"
+    ++ codes "usage: lnfs client POLICY LEVEL SCRIPT\n"
+    ++ codes "usage: lnfs audit POLICY TRAFFIC REPLIES [purged]\n"
     ++ codes "usage: lnfs --help\n"
     ++ codes "usage: lnfs --version\n"
     ++ codes "\n"
@@ -174,8 +203,21 @@ help_text = codes "usage: lnfs check POLICY\n"
     ++ codes "order in which these were served. Standard error gets the audit lines, and then one line\n"
     ++ codes "for each link, link I ENDING RECORDS.\n"
     ++ codes "\n"
+    ++ codes "client talks SCRIPT through as a client of the level LEVEL of POLICY, over one link to\n"
+    ++ codes "the port 20490 + C of the loopback. The first line of SCRIPT is link C guest UID or link C\n"
+    ++ codes "full PARENT; each further line is list PATH, read PATH OFFSET COUNT, write PATH OFFSET\n"
+    ++ codes "HEX, make PATH, mkdir PATH LEVEL, remove PATH or raise PATH LEVEL. The client mounts\n"
+    ++ codes "first and leaves last, and takes and gives by the labels alone. Standard output gets for\n"
+    ++ codes "each action its answer, or why it has none.\n"
+    ++ codes "\n"
+    ++ codes "audit judges the recorded replies REPLIES to the recording TRAFFIC, from whatever server.\n"
+    ++ codes "It shows faithful N where they are, record by record, what replay writes of its N events,\n"
+    ++ codes "differs E where the reply to event E is the first that isn't, and surplus O where more\n"
+    ++ codes "bytes are left from byte O on. With purged each level's replies are told by a new server\n"
+    ++ codes "that is given only the events whose level this one dominates.\n"
+    ++ codes "\n"
     ++ codes "Standard error gets a line that begins with 'fault' where the run ends with status\n"
-    ++ codes "2, 3, 4, 9 or 10.\n"
+    ++ codes "2, 3, 4, 9, 10, 12 or 13.\n"
     ++ codes "\n"
     ++ codes "exit status:\n"
     ++ codes "0 all was written\n"
@@ -188,3 +230,5 @@ help_text = codes "usage: lnfs check POLICY\n"
     ++ codes "8 the network failed\n"
     ++ codes "9 there is no such file\n"
     ++ codes "10 the label has no translation\n"
+    ++ codes "12 SCRIPT is refused\n"
+    ++ codes "13 the link ended, or gave too much, before a reply that was awaited\n"

@@ -3,7 +3,7 @@ ghost use Rattle.std.specs.Option.{option_map};
 ghost use Rattle.lnfs_commands.specs.Runs.{IsUnread, IsUntouched, Runs, RunsAlone};
 ghost use Rattle.lnfs_commands.specs.Words.{form_of, named, texts};
 
-use crate::command::{Asked, Command, Service};
+use crate::command::{Asked, Command, Work};
 use crate::perform::judge;
 use crate::words::command_of;
 use lnfs_format::Codecs;
@@ -27,14 +27,14 @@ fn alone<O: Outside>(
     close(told, outside)
 }
 
-/// Does what the words behind the program's name say, unless they ask for a service: then it does
-/// nothing, and says of which. It waits for nobody, and returns.
+/// Does what the words behind the program's name say, unless they ask for what crates above this one do: then it does nothing,
+/// and says what. It waits for nobody, and returns.
 pub fn run_alone<'a, O: Outside>(
     alloc: Global,
     words: &'a [String],
     codecs: &Codecs,
     outside: &mut O,
-) -> Result<Option<Service<'a>>, Stop>
+) -> Result<Option<Work<'a>>, Stop>
     ensures runs { RunsAlone result (form_of (texts words.now)) (O.seen outside.old)
         (O.seen outside.new) }
     ensures unread { IsUnread (form_of (texts words.now)) (O.shelf outside.old)
@@ -45,7 +45,7 @@ pub fn run_alone<'a, O: Outside>(
             let _handed = outside.hand_on();
             return Err(Stop::Memory);
         }
-        Ok(Some(Asked::Serve(service))) => return Ok(Some(service)),
+        Ok(Some(Asked::Other(work))) => return Ok(Some(work)),
         Ok(Some(Asked::Alone(command))) => Some(command),
         Ok(None) => None,
     };

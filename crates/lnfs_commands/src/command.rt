@@ -39,9 +39,35 @@ pub struct Service<'a> {
     pub team: Team,
 }
 
-/// What the words ask for: a command, or a service.
+/// The script of a name, which a client of a level talks through under the policy of a name.
+#[derive(Clone, Copy, Debug, Drop)]
+pub struct Visit<'a> {
+    pub policy: &'a str,
+    pub level: u32,
+    pub script: &'a str,
+}
+
+/// The recorded replies of a name to the recording of a name, judged under the policy of a name.
+#[derive(Clone, Copy, Debug, Drop)]
+pub struct Audit<'a> {
+    pub policy: &'a str,
+    pub traffic: &'a str,
+    pub replies: &'a str,
+    /// Whether the replies are told level by level, each by a server that is given only what the level dominates.
+    pub purged: bool,
+}
+
+/// What crates above this one do: over links, or in an audit.
+#[derive(Debug, Drop)]
+pub enum Work<'a> {
+    Serve(Service<'a>),
+    Talk(Visit<'a>),
+    Judge(Audit<'a>),
+}
+
+/// What the words ask for: a command, or what crates above this one do.
 #[derive(Debug, Drop)]
 pub enum Asked<'a> {
     Alone(Command<'a>),
-    Serve(Service<'a>),
+    Other(Work<'a>),
 }

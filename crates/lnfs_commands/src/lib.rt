@@ -18,6 +18,6 @@ mod texts;
 mod words;
 
 pub use alone::run_alone;
-pub use command::{Asked, Command, Service, Task};
+pub use command::{Asked, Audit, Command, Service, Task, Visit, Work};
 pub use rules::rules_of;
 pub use team::Team;

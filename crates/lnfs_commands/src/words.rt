@@ -1,9 +1,9 @@
 //! The forms of the command line.
 ghost use Rattle.std.specs.Prelude.{◌≡◌, ◌≤◌, ◌<◌, ◌∷◌, [], IfOk, IfSome, length};
 ghost use Rattle.std.specs.Option.{option_map};
-ghost use Rattle.lnfs_commands.specs.Words.{form_of, texts, asked, pair_in, bytes_in, seed_in, count_in, classes_in, workers_in, translation, generation, service, help_text, version_text};
+ghost use Rattle.lnfs_commands.specs.Words.{form_of, texts, asked, pair_in, bytes_in, seed_in, count_in, classes_in, workers_in, translation, generation, service, level_in, visit, judgement, purging, help_text, version_text};
 
-use crate::command::{Asked, Command, Service, Task};
+use crate::command::{Asked, Audit, Command, Service, Task, Visit, Work};
 use crate::team::Team;
 use lnfs_map::Pair;
 use lnfs_policy::MAX_CLASS;
@@ -30,6 +30,8 @@ usage: lnfs translate POLICY LFS PI HEX LFS PI\n\
 usage: lnfs replay POLICY TRAFFIC\n\
 usage: lnfs generate POLICY SEED N\n\
 usage: lnfs serve POLICY LINKS WORKERS\n\
+usage: lnfs client POLICY LEVEL SCRIPT\n\
+usage: lnfs audit POLICY TRAFFIC REPLIES [purged]\n\
 usage: lnfs --help\n\
 usage: lnfs --version\n\
 \n\
@@ -58,8 +60,21 @@ When all links have ended, standard output gets the recording of their requests,
 order in which these were served. Standard error gets the audit lines, and then one line\n\
 for each link, link I ENDING RECORDS.\n\
 \n\
+client talks SCRIPT through as a client of the level LEVEL of POLICY, over one link to\n\
+the port 20490 + C of the loopback. The first line of SCRIPT is link C guest UID or link C\n\
+full PARENT; each further line is list PATH, read PATH OFFSET COUNT, write PATH OFFSET\n\
+HEX, make PATH, mkdir PATH LEVEL, remove PATH or raise PATH LEVEL. The client mounts\n\
+first and leaves last, and takes and gives by the labels alone. Standard output gets for\n\
+each action its answer, or why it has none.\n\
+\n\
+audit judges the recorded replies REPLIES to the recording TRAFFIC, from whatever server.\n\
+It shows faithful N where they are, record by record, what replay writes of its N events,\n\
+differs E where the reply to event E is the first that isn't, and surplus O where more\n\
+bytes are left from byte O on. With purged each level's replies are told by a new server\n\
+that is given only the events whose level this one dominates.\n\
+\n\
 Standard error gets a line that begins with 'fault' where the run ends with status\n\
-2, 3, 4, 9 or 10.\n\
+2, 3, 4, 9, 10, 12 or 13.\n\
 \n\
 exit status:\n\
 0 all was written\n\
@@ -71,7 +86,9 @@ exit status:\n\
 7 there was no memory\n\
 8 the network failed\n\
 9 there is no such file\n\
-10 the label has no translation\n";
+10 the label has no translation\n\
+12 SCRIPT is refused\n\
+13 the link ended, or gave too much, before a reply that was awaited\n";
 
 /// What the words ask for; none where they are no form of the command line.
 pub fn command_of<'a>(alloc: Global, words: &'a [String]) -> Result<Option<Asked<'a>>, AllocError>
@@ -100,6 +117,15 @@ pub fn command_of<'a>(alloc: Global, words: &'a [String]) -> Result<Option<Asked
         }
         [word, policy, links, workers] if word.as_str() == "serve" => {
             service_of(alloc, policy, links, workers)
+        }
+        [word, policy, level, script] if word.as_str() == "client" => {
+            Ok(visit_of(policy, level, script))
+        }
+        [word, policy, traffic, replies] if word.as_str() == "audit" => {
+            Ok(audit_of(policy, traffic, replies, false))
+        }
+        [word, policy, traffic, replies, purged] if word.as_str() == "audit" => {
+            Ok(purged_of(policy, traffic, replies, purged))
         }
         [word, policy, lfs, pi, hex, to_lfs, to_pi] if word.as_str() == "translate" => {
             translation_of(alloc, policy, pair_of(lfs, pi), pair_of(to_lfs, to_pi), hex)
@@ -205,10 +231,54 @@ fn service_of<'a>(
     let Some(workers) = workers_of(workers) else {
         return Ok(None);
     };
-    Ok(Some(Asked::Serve(Service {
+    Ok(Some(Asked::Other(Work::Serve(Service {
         policy,
         team: Team { links, workers },
+    }))))
+}
+
+/// A client's script under the policy of a name, where the word for its level is a number.
+fn visit_of<'a>(policy: &'a str, level: &str, script: &'a str) -> Option<Asked<'a>>
+    ensures { option_map asked result ≡ visit policy.now (level_in level.now) script.now }
+{
+    let level = number(level.as_bytes())?;
+    Some(Asked::Other(Work::Talk(Visit {
+        policy,
+        level,
+        script,
     })))
+}
+
+/// The recorded replies of a name to the recording of a name, under the policy of a name.
+fn audit_of<'a>(
+    policy: &'a str,
+    traffic: &'a str,
+    replies: &'a str,
+    purged: bool,
+) -> Option<Asked<'a>>
+    ensures { option_map asked result ≡ judgement policy.now traffic.now replies.now purged }
+{
+    Some(Asked::Other(Work::Judge(Audit {
+        policy,
+        traffic,
+        replies,
+        purged,
+    })))
+}
+
+/// The same where the word behind the names says that the replies are told level by level.
+fn purged_of<'a>(
+    policy: &'a str,
+    traffic: &'a str,
+    replies: &'a str,
+    word: &str,
+) -> Option<Asked<'a>>
+    ensures { option_map asked result ≡ purging policy.now traffic.now replies.now word.now }
+{
+    match word {
+        "purged" => audit_of(policy, traffic, replies, true),
+        _ => None,
+    }
 }
 
 /// The format that two words name.

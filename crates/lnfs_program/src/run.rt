@@ -1,15 +1,17 @@
 //! The top call.
-ghost use Rattle.std.specs.Prelude.{◌≡◌, ◌≤◌, ◌<◌, ◌^◌, [], IfSome};
+ghost use Rattle.std.specs.Prelude.{◌≡◌, ◌≤◌, ◌<◌, ◌^◌, [], IfSome, Some};
 ghost use Rattle.lnfs_stage.specs.Ending.{status_of, told_by};
 ghost use Rattle.lnfs_stage.specs.Seen.{HandsOn, Stays};
 ghost use Rattle.lnfs_stage.specs.Does.{HandedOn};
 ghost use Rattle.lnfs_commands.specs.Runs.{IsUnread};
-ghost use Rattle.lnfs_commands.specs.Words.{form_of, texts};
+ghost use Rattle.lnfs_commands.specs.Words.{form_of, work, texts};
 ghost use Rattle.lnfs_service.specs.Handed.{dealings};
 ghost use Rattle.lnfs_program.specs.Idle.{IsIdle};
 ghost use Rattle.lnfs_program.specs.Runs.{HasReason, NoneFell, Runs, RunsAsked, counts, streams};
 
-use lnfs_commands::run_alone;
+use lnfs_auditing::run_audit;
+use lnfs_commands::{Work, run_alone};
+use lnfs_dialling::run_visit;
 use lnfs_format::Codecs;
 use lnfs_outside::{Clock, Files, Net, Sink};
 use lnfs_service::run_served;
@@ -18,7 +20,32 @@ use std::alloc::Global;
 use std::sync::Wait;
 use std::thread::Threads;
 
-/// Does what the words say, alone or by a service.
+/// Serves links, talks a script through over one, or judges recorded replies.
+fn run_work<O: Outside, N: Net, C: Clock + Sync, R: Threads + Wait + Sync>(
+    rt: &R,
+    alloc: Global,
+    asked: &Work<'_>,
+    codecs: &Codecs,
+    outside: &mut O,
+    net: &mut N,
+    clock: &C,
+) -> Result<(), Stop>
+where
+    N::L: Send,
+    ensures runs { RunsAsked (C.may clock.now) result (Some (work asked.now))
+        (O.seen outside.old) (O.seen outside.new) (N.faults net.old) (N.faults net.new)
+        (dealings (N.dealt net.old) (N.dealt net.new) (N.backs net.old) (N.backs net.new)) }
+    ensures handed { HandedOn result (O.seen outside.old) (O.seen outside.new) }
+    ensures idle { IsIdle (Some (work asked.now)) (status_of result) net.old net.new }
+{
+    match asked {
+        Work::Serve(service) => run_served(rt, alloc, service, codecs, outside, net, clock),
+        Work::Talk(visit) => run_visit(rt, alloc, visit, codecs, outside, net),
+        Work::Judge(audit) => run_audit(alloc, audit, codecs, outside),
+    }
+}
+
+/// Does what the words say.
 fn run_asked<O: Outside, N: Net, C: Clock + Sync, R: Threads + Wait + Sync>(
     rt: &R,
     alloc: Global,
@@ -41,7 +68,7 @@ where
     match run_alone(alloc, words, codecs, outside) {
         Err(stop) => Err(stop),
         Ok(None) => Ok(()),
-        Ok(Some(service)) => run_served(rt, alloc, &service, codecs, outside, net, clock),
+        Ok(Some(work)) => run_work(rt, alloc, &work, codecs, outside, net, clock),
     }
 }
 
@@ -80,10 +107,12 @@ where
     Status::of(run_asked(rt, alloc, words, codecs, outside, net, clock))
 }
 
-/// Does what the words behind the program's name say: reads the files that they name, hands each frame and each text to `out`
-/// and each line to `audit`, and answers how it ended. The links of a service come from the net, and
-/// their moments from the clock. The codecs read and write labels. Where a call of the outside failed,
-/// or there was no memory, it gives up there; a fault of a link ends the service of that link alone.
+/// Does what the words behind the program's name say: reads the files that they name, hands each
+/// frame and each text to `out` and each line to `audit`, and answers how it ended. The links of a
+/// service come from the net, and their moments from the clock; the link of a client is dialled. The
+/// codecs read and write labels. Where a call of the outside failed, or there was no memory, it gives
+/// up there; a fault of a link ends the service of that link alone. A fault of a client's link is one
+/// of the net.
 pub fn run<F: Files, K: Sink, A: Sink, N: Net, C: Clock + Sync, R: Threads + Wait + Sync>(
     rt: &R,
     alloc: Global,
@@ -97,8 +126,9 @@ pub fn run<F: Files, K: Sink, A: Sink, N: Net, C: Clock + Sync, R: Threads + Wai
 ) -> Status
 where
     N::L: Send,
-    // the status and the writes are those that are due; where the run gave up, a front of the writes was taken;
-    // the links that were dealt are those of a service, and each was handed back
+    // the status and the writes are those that are due; where the run gave up, a front of the writes
+    // was taken; the links that were dealt are those of a service or of a client, and each was handed
+    // back
     ensures runs { Runs (F.content files.old) (C.may clock.now) (form_of (texts words.now)) result
         (streams (K.taken out.old) (A.taken audit.old))
         (streams (K.taken out.new) (A.taken audit.new))
@@ -112,8 +142,8 @@ where
         × (A.waiting audit.new ≡ [])) }
     ensures rests { (HandsOn (K.waiting out.new) (K.write_faults out.old) (K.write_faults out.new))
         × (HandsOn (A.waiting audit.new) (A.write_faults audit.old) (A.write_faults audit.new)) }
-    // for words that ask for no service, and where the status comes before one, the net was asked for nothing;
-    // without a task no file was opened
+    // for words that ask for no links, and where the status comes before any, the net was asked for
+    // nothing; without a task no file was opened
     ensures idle { IsIdle (form_of (texts words.now)) result net.old net.new }
     ensures unread { IsUnread (form_of (texts words.now)) files.old files.new }
     // no count falls, and no file changes

@@ -5,7 +5,7 @@ use Rattle.std.specs.declared.option.Option.{Option}
 use Rattle.std.specs.declared.option.Option.TheVariants.{Some, None}
 use Rattle.lnfs_policy.specs.Policy.{cause_name}
 use Rattle.lnfs_stage.specs.declared.ending.Ending.{Ending}
-use Rattle.lnfs_stage.specs.declared.ending.Ending.TheVariants.{Usage, PolicyRefused, TrafficDamaged, NoFile, Untranslated}
+use Rattle.lnfs_stage.specs.declared.ending.Ending.TheVariants.{Usage, PolicyRefused, TrafficDamaged, NoFile, Untranslated, ScriptRefused, LinkClosed}
 use Rattle.lnfs_stage.specs.declared.ending.MapCause.{MapCause}
 use Rattle.lnfs_stage.specs.declared.ending.MapCause.TheVariants.{WrongLfs, BadLabel, NoRow}
 use Rattle.lnfs_stage.specs.declared.stop.Stop.{Stop}
@@ -26,6 +26,8 @@ fault_line (PolicyRefused line cause) = codes "fault 3 policy line " ++ decimal 
 fault_line (TrafficDamaged at) = codes "fault 4 traffic damaged at " ++ decimal at ++ 10 ∷ []
 fault_line (NoFile name) = codes "fault 9 no file " ++ name ++ 10 ∷ []
 fault_line (Untranslated cause) = codes "fault 10 untranslated " ++ map_cause_name cause ++ 10 ∷ []
+fault_line (ScriptRefused line) = codes "fault 12 script line " ++ decimal line ++ 10 ∷ []
+fault_line LinkClosed = codes "fault 13 link closed\n"
 
 -- the status of a call that ended, or gave up
 abbrev pub status_of : {T : Type 0} → Result T Stop → Status
@@ -52,6 +54,8 @@ number_of_ending (PolicyRefused line cause) = 3
 number_of_ending (TrafficDamaged at) = 4
 number_of_ending (NoFile name) = 9
 number_of_ending (Untranslated cause) = 10
+number_of_ending (ScriptRefused line) = 12
+number_of_ending LinkClosed = 13
 
 abbrev pub number_of : Status → ℕ
 number_of status.Ok = 0

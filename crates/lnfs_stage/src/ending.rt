@@ -44,6 +44,10 @@ pub enum Ending {
     NoFile { name: Text },
     /// The bytes have no translation.
     Untranslated { cause: MapCause },
+    /// The script's text is refused: the first line of no listed form, counted from 1.
+    ScriptRefused { line: u64 },
+    /// No further reply can come over the link of a client, and one is awaited.
+    LinkClosed,
 }
 
 impl Ending {
@@ -57,6 +61,8 @@ impl Ending {
             Ending::TrafficDamaged { at: _ } => 4,
             Ending::NoFile { name: _ } => 9,
             Ending::Untranslated { cause: _ } => 10,
+            Ending::ScriptRefused { line: _ } => 12,
+            Ending::LinkClosed => 13,
         }
     }
 
@@ -82,6 +88,8 @@ impl Ending {
                 let cause = cause.as_str();
                 format!(in alloc; "fault 10 untranslated {cause}\n")
             }
+            Ending::ScriptRefused { line } => format!(in alloc; "fault 12 script line {line}\n"),
+            Ending::LinkClosed => format!(in alloc; "fault 13 link closed\n"),
         }
     }
 }

@@ -18,7 +18,7 @@ pub enum Status {
     WriteFault,
     /// There was no memory.
     Memory,
-    /// A call of the net failed, before all links were accepted.
+    /// A call of the net failed: before all links were accepted, or where a client talks over its link.
     NetFault,
 }
 
@@ -37,7 +37,7 @@ impl Status {
         }
     }
 
-    /// The exit status of the program: 0 for `Ok`, and from 2 to 10 for the others.
+    /// The exit status of the program: 0 for `Ok`, and from 2 to 13 for the others.
     pub fn number(&self) -> u8
         ensures { result ≡ number_of self.now }
     {

@@ -22,8 +22,8 @@ pub enum Stop {
     /// There was no memory.
     #[error("out of memory")]
     Memory,
-    /// A call of the net failed, before all links were accepted.
-    #[error("a call of the net failed before all links were accepted")]
+    /// A call of the net failed: before all links were accepted, or where a client talks over its link.
+    #[error("a call of the net failed")]
     NetFault,
 }
 

@@ -1,5 +1,5 @@
 use Rattle.lnfs_commands.specs.Words.{form_of, texts}
-use Rattle.lnfs_program.proofs.Running.{quiet_asked, served_asked}
+use Rattle.lnfs_program.proofs.Running.{quiet_asked, asked_so}
 use Rattle.lnfs_program.proofs.run.run_asked.Goals as goal
 
 pub returns-in-Err-clause-runs : goal.returns-in-Err-clause-runs
@@ -11,4 +11,4 @@ returns-in-Ok-None-clause-runs g c = quiet_asked _ _ _ _ _ _ _ (form_of (texts c
 pub returns-in-Ok-Some-clause-runs : goal.returns-in-Ok-Some-clause-runs
 returns-in-Ok-Some-clause-runs g c =
     let asked = rw c.in-Ok-Some.field-0-is at c.in-Ok-Some.ensures.runs in
-    served_asked asked.0 asked.1 c.run_served.ensures.offers
+    asked_so asked.0 asked.1 c.run_work.ensures.runs

@@ -1,0 +1,2 @@
+-- The command that judges recorded replies: what is due of it.
+pub mod Audits

@@ -1,0 +1,4 @@
+pub mod Scripts
+pub mod Dialling
+pub mod Visiting
+pub mod Ruled

@@ -1,0 +1,4 @@
+pub mod Exchanging
+pub mod Dialogues
+pub mod Driving
+pub mod Goings
