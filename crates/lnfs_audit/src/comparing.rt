@@ -8,10 +8,10 @@ use lnfs_rpc::{DeframeError, Deframed, Deframer, ReplyRecord, stream_ends};
 use std::alloc::{AllocError, Global};
 
 /// Whether a record is a reply, byte by byte.
-fn is_reply(record: &[u8], reply: &[u8]) -> bool
-    ensures { (result ≡ true) ↔ (record.now ≡ reply.now) }
+fn is_reply(found: &[u8], reply: &[u8]) -> bool
+    ensures { (result ≡ true) ↔ (found.now ≡ reply.now) }
 {
-    record == reply
+    found == reply
 }
 
 /// The place behind a reply, where that is the whole record at a place.

@@ -80,7 +80,7 @@ exit status:\n\
 0 all was written\n\
 2 the words are no form of the above\n\
 3 POLICY is refused\n\
-4 TRAFFIC is damaged; the events before the damage were served\n\
+4 TRAFFIC is damaged; replay has replied to the events before the damage\n\
 5 a file could not be read\n\
 6 a stream could not be written\n\
 7 there was no memory\n\
