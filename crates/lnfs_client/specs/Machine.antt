@@ -1,5 +1,5 @@
 -- The client as a machine: an action begins, requests are made, replies are taken.
-use Rattle.std.specs.Prelude.{◌≡◌, ℕ, ◌+◌, ◌%◌, ◌^◌, Bool, true, false, ◌==◌, not, if◌then◌else◌, List, [], ◌++◌, map, take, replicate, Option, Some, None, Result, Ok, Err, is_none}
+use Rattle.std.specs.Prelude.{◌≡◌, ℕ, ◌+◌, ◌%◌, ◌^◌, Bool, true, false, ◌==◌, ◌&&◌, not, if◌then◌else◌, List, [], ◌++◌, map, take, replicate, Option, Some, None, Result, Ok, Err, is_none}
 use Rattle.lnfs_calipso.specs.declared.Level.{Level}
 use Rattle.lnfs_policy.specs.Policy.{Policy, dominance, parent_at}
 use Rattle.lnfs_policy.specs.declared.rows.Parent.{Parent}
@@ -56,12 +56,13 @@ started level who owner = record {
 abbrev pub beginning : Stage → Action → Running
 beginning stage action = record { action = action; stage = stage; label = None; cookie = 0; shown = []; opened = anonymous; awaited = None }
 
-abbrev pub begun : Action → Known → Known
-begun action k = record k { running = Some (beginning (first_stage k.identity action) action) }
-
 abbrev pub is_mount : Action → Bool
 is_mount actions.Mount = true
 is_mount action = false
+
+-- A client that mounts anew isn't mounted until that is answered.
+abbrev pub begun : Action → Known → Known
+begun action k = record k { mounted = not (is_mount action) && k.mounted; running = Some (beginning (first_stage k.identity action) action) }
 
 -- ---- requests
 

@@ -16,7 +16,7 @@ use crate::known::{Known, Running};
 use crate::listing::Listing;
 use crate::making::{post, request, signer_of};
 use crate::requests::ANONYMOUS;
-use crate::stages::first_stage;
+use crate::stages::{first_stage, is_mount};
 use crate::turning::take_heard;
 use lnfs_answers::{HANDLE_SIZE, Heard, Request, Wants, hear};
 use lnfs_asking::{Sent, Sought};
@@ -142,7 +142,7 @@ impl Client {
         Ok(Client { alloc, known })
     }
 
-    /// Begins an action. Takes no memory.
+    /// Begins an action. A Mount leaves the client unmounted until it is answered. Takes no memory.
     pub fn begin(&mut self, action: Action)
         requires idle { self.old.running ≡ None }
         requires fits { ActionFits action }
@@ -150,6 +150,7 @@ impl Client {
         ensures { self.new ≡ begun action self.old }
     {
         let stage = first_stage(self.known.identity, &action);
+        self.known.mounted = !is_mount(&action) && self.known.mounted;
         self.known.running = Some(Running {
             action,
             stage,
@@ -215,7 +216,7 @@ impl Client {
         self.known.running.is_none()
     }
 
-    /// Whether a Mount was answered, and no Leave since, so that any action may begin.
+    /// Whether a Mount was answered, and neither another begun nor a Leave answered since, so that any action may begin.
     pub fn is_mounted(&self) -> bool
         ensures { result ≡ self.now.mounted }
     {

@@ -1,5 +1,6 @@
 //! The stages of an action.
 ghost use Rattle.std.specs.Prelude.{◌≡◌};
+ghost use Rattle.lnfs_client.specs.Machine.{is_mount};
 ghost use Rattle.lnfs_client.specs.Stages.{first_mounting, first_stage, is_reading};
 
 use crate::stage::Stage;
@@ -24,6 +25,13 @@ pub fn first_stage(identity: Identity, action: &Action) -> Stage
         Action::Leave => Stage::EndingSession,
         _ => Stage::Asking,
     }
+}
+
+/// Whether an action is a Mount.
+pub fn is_mount(action: &Action) -> bool
+    ensures { result ≡ is_mount action.now }
+{
+    matches!(action, Action::Mount)
 }
 
 /// Whether an action reads alone.

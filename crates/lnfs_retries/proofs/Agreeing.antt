@@ -39,7 +39,7 @@ use Rattle.lnfs_world.specs.declared.numbers.TheConstants.{LAST_SEQUENCE}
 use Rattle.lnfs_operations.specs.Extra.{Extra}
 use Rattle.lnfs_once.specs.Client.{Packet, Client, following}
 use Rattle.lnfs_retries.specs.Packets.{Setting, number_of_parent, handle_in, sent_as}
-use Rattle.lnfs_retries.specs.Schedule.{kind_at, is_guest}
+use Rattle.lnfs_retries.specs.Schedule.{kind_at}
 
 -- ---- which numbers a client has in a stage
 
@@ -165,16 +165,12 @@ mount_stage : (has : Stage → Bool) (who : Identity) → has Exchanging ≡ fal
 mount_stage has (identities.Guest uid) e f = e
 mount_stage has (identities.Full number) e f = f
 
-or_none : (a b : Bool) → b ≡ false → (a || b) ≡ true → a ≡ true
-or_none true b g h = refl
-or_none false b g h = absurd (let no : true ≡ false = sym h ∙ g in cc)
-
 pub mounted_has : (has : Stage → Bool) (k : Known) → k.mounted ≡ true → Has has k
 mounted_has has k e = ap (λ (b : Bool). b || in_running has k.running) e
 
 -- what a client has as an action begins it has as one that is mounted
 begun_has : (has : Stage → Bool) (k : Known) (action : Action) → has (first_stage k.identity actions.Mount) ≡ false → (is_mount action || k.mounted) ≡ true → Has has (begun action k) → k.mounted ≡ true
-begun_has has k actions.Mount none may h = or_none k.mounted (has (first_stage k.identity actions.Mount)) none h
+begun_has has k actions.Mount none may h = absurd (let no : true ≡ false = sym h ∙ none in cc)
 begun_has has k (actions.List path) none may h = may
 begun_has has k (actions.Read path offset count) none may h = may
 begun_has has k (actions.Write path offset content) none may h = may
@@ -184,18 +180,17 @@ begun_has has k (actions.Remove path) none may h = may
 begun_has has k (actions.Raise path level) none may h = may
 begun_has has k actions.Leave none may h = may
 
-asserting_begun : (p : Policy) (who : Identity) (action : Action) (mounted : Bool) → IdentitySuits p who → (is_guest who || not (is_mount action && mounted)) ≡ true → OnAsserting (first_stage who action) mounted (signer_of p who)
-asserting_begun p (identities.Guest uid) actions.Mount mounted known free = tt
-asserting_begun p (identities.Full number) actions.Mount true known free = absurd cc
-asserting_begun p (identities.Full number) actions.Mount false known free = (refl, known)
-asserting_begun p who (actions.List path) mounted known free = tt
-asserting_begun p who (actions.Read path offset count) mounted known free = tt
-asserting_begun p who (actions.Write path offset content) mounted known free = tt
-asserting_begun p who (actions.Make path) mounted known free = tt
-asserting_begun p who (actions.Mkdir path level) mounted known free = tt
-asserting_begun p who (actions.Remove path) mounted known free = tt
-asserting_begun p who (actions.Raise path level) mounted known free = tt
-asserting_begun p who actions.Leave mounted known free = tt
+asserting_begun : (p : Policy) (who : Identity) (action : Action) (mounted : Bool) → IdentitySuits p who → OnAsserting (first_stage who action) (not (is_mount action) && mounted) (signer_of p who)
+asserting_begun p (identities.Guest uid) actions.Mount mounted known = tt
+asserting_begun p (identities.Full number) actions.Mount mounted known = (refl, known)
+asserting_begun p who (actions.List path) mounted known = tt
+asserting_begun p who (actions.Read path offset count) mounted known = tt
+asserting_begun p who (actions.Write path offset content) mounted known = tt
+asserting_begun p who (actions.Make path) mounted known = tt
+asserting_begun p who (actions.Mkdir path level) mounted known = tt
+asserting_begun p who (actions.Remove path) mounted known = tt
+asserting_begun p who (actions.Raise path level) mounted known = tt
+asserting_begun p who actions.Leave mounted known = tt
 
 begun_inside : (p : Policy) (who : Identity) (k : Known) (action : Action) (context : ℕ) → k.identity ≡ who → (is_mount action || k.mounted) ≡ true → ContextFits (signer_of p who) (Has has_context_at k) context → ContextFits (signer_of p who) (Has has_context_at (begun action k)) context
 begun_inside p (identities.Guest uid) k action context is may fits = fits
@@ -218,8 +213,8 @@ module _ (X : Extra) (m : Signing) (p : Policy) (s : Setting) (level : ℕ) (kno
   still_none r None e = tt
   still_none r (Some q) e = absurd cc
 
-  pub begun_agrees : (k : Known) (c : Client (List Op)) (action : Action) → Agrees X m p s level k c → k.running ≡ None → (is_mount action || k.mounted) ≡ true → (is_guest k.identity || not (is_mount action && k.mounted)) ≡ true → ActionFits action → Agrees X m p s level (begun action k) c
-  begun_agrees k c action a idle may free fits = record {
+  pub begun_agrees : (k : Known) (c : Client (List Op)) (action : Action) → Agrees X m p s level k c → k.running ≡ None → (is_mount action || k.mounted) ≡ true → ActionFits action → Agrees X m p s level (begun action k) c
+  begun_agrees k c action a idle may fits = record {
     identity = a.identity;
     level_is = a.level_is;
     owner = a.owner;
@@ -231,7 +226,7 @@ module _ (X : Extra) (m : Signing) (p : Policy) (s : Setting) (level : ℕ) (kno
     session = λ h. a.session (mounted_has has_session_at k (begun_has has_session_at k action (mount_stage has_session_at k.identity refl refl) may h));
     fits = record { owner = a.fits.owner; running = (fits, tt) };
     opened = refl;
-    asserts = subst (λ (who : Identity). OnAsserting (first_stage who action) k.mounted (signer_of p s.who)) (sym a.identity) (asserting_begun p s.who action k.mounted known (subst (λ (who : Identity). (is_guest who || not (is_mount action && k.mounted)) ≡ true) a.identity free));
+    asserts = subst (λ (who : Identity). OnAsserting (first_stage who action) (not (is_mount action) && k.mounted) (signer_of p s.who)) (sym a.identity) (asserting_begun p s.who action k.mounted known);
   }
 
 -- ---- a request is made

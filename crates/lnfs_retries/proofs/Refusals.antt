@@ -1,6 +1,6 @@
 -- Over every schedule nothing of such a client acts.
 use Rattle.std.proofs.Common.{◌≡◌, ◌⊎◌, inl, inr, ℕ, ◌+◌, ◌≤◌, ◌<◌, ◌^◌, ◌==◌, Bool, true, false, cond, ◌&&◌, ◌||◌, List, [], ◌∷◌, replicate, Option, Some, None, refl, sym, ap, ◌∙◌, subst, arith}
-use Rattle.std.specs.Prelude.{IfSome, nat_lt, is_none}
+use Rattle.std.specs.Prelude.{IfSome, nat_lt, is_none, not}
 use Rattle.std.proofs.lemmas.Bool.{and_parts, ltb-true, eqb-true}
 use Rattle.lnfs_arguments.specs.declared.types.Op.{Op}
 use Rattle.lnfs_policy.specs.Policy.{Policy}
@@ -17,7 +17,7 @@ use Rattle.lnfs_client.specs.declared.known.Running.{Running}
 use Rattle.lnfs_client.specs.declared.stage.Stage.{Stage}
 use Rattle.lnfs_client.specs.Stages.{first_stage}
 use Rattle.lnfs_client.specs.Machine.{begun, is_mount, awaited, may_ask_in, may_ask, request_in, asked, next, turn_by, turn, heard_in, heard_by, asked_of, spent}
-use Rattle.lnfs_client.specs.Runs.{most_requests}
+use Rattle.lnfs_client.specs.Runs.{may_begin, most_requests}
 use Rattle.lnfs_operations.specs.Extra.{Extra}
 use Rattle.lnfs_step.specs.Wrapping.{Plain, caller, refusal_text}
 use Rattle.lnfs_step.specs.Request.{Request, Refused, request_with}
@@ -27,7 +27,7 @@ use Rattle.lnfs_once.specs.Schedule.{Reply, nth, posted as sends, noted, count, 
 use Rattle.lnfs_once.proofs.Told.{newest_or}
 use Rattle.lnfs_slots.specs.OneClient.{Seen, When, Writer, event_of, keeps_in, serve}
 use Rattle.lnfs_retries.specs.Packets.{Setting, client_writer}
-use Rattle.lnfs_retries.specs.Schedule.{packet_in, packet_for, may_start, Deed, ClientState, ClientTurn, Begin, Next, Resend, Arrive, Return, Others, server_of, asks, arrives, returns, client_after, is_taken, client_happens, client_run, client_start, seen_state}
+use Rattle.lnfs_retries.specs.Schedule.{packet_in, packet_for, Deed, ClientState, ClientTurn, Begin, Next, Resend, Arrive, Return, Others, server_of, asks, arrives, returns, client_after, is_taken, client_happens, client_run, client_start, seen_state}
 use Rattle.lnfs_retries.proofs.Heard.{denies}
 use Rattle.lnfs_retries.proofs.Openings.{SaidFits}
 use Rattle.lnfs_retries.proofs.Shapes.{other_heard}
@@ -87,20 +87,23 @@ module _ (X : Extra) (m : Signing) (p : Policy) (s : Setting) (level : ℕ) (kin
     mount_alone k (actions.Raise path level) none may = absurd (let no : false ≡ true = sym none ∙ may in cc)
     mount_alone k actions.Leave none may = absurd (let no : false ≡ true = sym none ∙ may in cc)
 
+    nothing : (b : Bool) → (b && false) ≡ false
+    nothing true = refl
+    nothing false = refl
+
     begin_alone : (t : At) → Alone t → (deed : Deed p) → Alone (client_happens X m p s level t (Begin deed))
-    begin_alone t alone deed = at (may_start t.client deed.action) refl
+    begin_alone t alone deed = at (may_begin t.client deed.action) refl
       where
-        at : (b : Bool) → may_start t.client deed.action ≡ b → Alone (cond b (record t { client = begun deed.action t.client }) t)
+        at : (b : Bool) → may_begin t.client deed.action ≡ b → Alone (cond b (record t { client = begun deed.action t.client }) t)
         at false e = alone
         at true e =
-            let start = and_parts _ _ e in
-            let begin = and_parts (is_none t.client.running) (is_mount deed.action || t.client.mounted) start.0 in
+            let begin = and_parts (is_none t.client.running) (is_mount deed.action || t.client.mounted) e in
             let is : deed.action ≡ actions.Mount = mount_alone t.client deed.action alone.client.mounted begin.1 in
             record {
               client = record {
                 identity = alone.client.identity;
                 context = alone.client.context;
-                mounted = alone.client.mounted;
+                mounted = ap (λ (b : Bool). not (is_mount deed.action) && b) alone.client.mounted ∙ nothing (not (is_mount deed.action));
                 running = ap (first_stage t.client.identity) is ∙ begins t.client alone.client.identity;
                 few = alone.client.few;
               };

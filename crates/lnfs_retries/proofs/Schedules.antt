@@ -26,7 +26,7 @@ use Rattle.lnfs_client.specs.declared.known.Running.{Running}
 use Rattle.lnfs_client.specs.declared.stage.Stage.{Stage}
 use Rattle.lnfs_client.specs.declared.stage.Stage.TheVariants.{Asserting, Exchanging, Creating, Reclaiming, Asking, Changing, Closing, EndingSession, EndingClient, EndingContext}
 use Rattle.lnfs_client.specs.Machine.{begun, is_mount, ended, awaited_in, awaited, may_ask_in, may_ask, signer_of, request_in, asked, next, turn, heard_by, heard_in, turn_by, started}
-use Rattle.lnfs_client.specs.Runs.{most_requests}
+use Rattle.lnfs_client.specs.Runs.{may_begin, most_requests}
 use Rattle.lnfs_world.specs.declared.numbers.TheConstants.{LAST_NUMBER, LAST_SEQUENCE}
 use Rattle.lnfs_operations.specs.Extra.{Extra, AreLawful}
 use Rattle.lnfs_step.specs.declared.numbers.TheConstants.{SYSTEM_ERR}
@@ -48,7 +48,7 @@ use Rattle.lnfs_slots.specs.Written.{alone_of, IsWriter}
 use Rattle.lnfs_slots.proofs.First.{bare}
 use Rattle.lnfs_slots.proofs.Whole.{lawful}
 use Rattle.lnfs_retries.specs.Packets.{Setting, number_of_parent, writer_under, handle_in, granted_by, told_by, ops_as, plan_as, sent_as, asked_as, suits, reads, client_writer}
-use Rattle.lnfs_retries.specs.Schedule.{kind_at, packet_in, packet_for, may_start, Deed, ClientState, ClientTurn, Begin, Next, Resend, Arrive, Return, Others, asks, arrives, returns, is_taken, client_happens, client_run, client_start, seen_state, sent_of_packet, IsAwaited}
+use Rattle.lnfs_retries.specs.Schedule.{kind_at, packet_in, packet_for, Deed, ClientState, ClientTurn, Begin, Next, Resend, Arrive, Return, Others, asks, arrives, returns, is_taken, client_happens, client_run, client_start, seen_state, sent_of_packet, IsAwaited}
 use Rattle.lnfs_retries.proofs.Shapes.{IsShape, other_heard, own_heard}
 use Rattle.lnfs_retries.proofs.Openings.{SaidFits, answers_fit}
 use Rattle.lnfs_retries.proofs.Pieces.{both_true}
@@ -114,20 +114,19 @@ module _ (X : Extra) (owed : AreLawful X) (grammar : IsLawfulGrammar X.grammar) 
   -- ---- an action begins
 
   begin_stands : (t : At) → Stands t → (deed : Deed p) → Stands (client_happens X m p s level t (Begin deed))
-  begin_stands t stands deed = at (may_start t.client deed.action) refl
+  begin_stands t stands deed = at (may_begin t.client deed.action) refl
     where
       idle_is : (o : Option Running) → is_none o ≡ true → o ≡ None
       idle_is None e = refl
       idle_is (Some r) e = absurd cc
 
-      at : (b : Bool) → may_start t.client deed.action ≡ b → Stands (cond b (record t { client = begun deed.action t.client }) t)
+      at : (b : Bool) → may_begin t.client deed.action ≡ b → Stands (cond b (record t { client = begun deed.action t.client }) t)
       at false e = stands
       at true e =
-          let start = and_parts _ _ e in
-          let begin = and_parts (is_none t.client.running) (is_mount deed.action || t.client.mounted) start.0 in
+          let begin = and_parts (is_none t.client.running) (is_mount deed.action || t.client.mounted) e in
           record {
             client = stands.client;
-            agrees = begun_agrees X m p s level known t.client stands.client deed.action stands.agrees (idle_is t.client.running begin.0) begin.1 start.1 deed.fits;
+            agrees = begun_agrees X m p s level known t.client stands.client deed.action stands.agrees (idle_is t.client.running begin.0) begin.1 deed.fits;
             waits = stands.waits;
             holds = stands.holds;
             came = stands.came;

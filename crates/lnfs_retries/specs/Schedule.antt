@@ -99,15 +99,6 @@ pub record Deed (p : Policy) : Type 0 where
 abbrev pub mounting : (p : Policy) → Deed p
 mounting p = record { action = Mount; fits = tt; suits = tt }
 
-abbrev pub is_guest : Identity → Bool
-is_guest (identities.Guest uid) = true
-is_guest (identities.Full number) = false
-
--- A client that is mounted in a context doesn't mount anew: the second Mount might be refused behind its new context, and the
--- client would go on with the old session in it. The program mounts once, before all else.
-abbrev pub may_start : Known → Action → Bool
-may_start k action = may_begin k action && (is_guest k.identity || not (is_mount action && k.mounted))
-
 -- ---- schedules
 
 module _ (X : Extra) (m : Signing) (p : Policy) (s : Setting) (level : ℕ) where
@@ -175,7 +166,7 @@ module _ (X : Extra) (m : Signing) (p : Policy) (s : Setting) (level : ℕ) wher
 
   -- one turn
   abbrev pub client_happens : ClientState → ClientTurn → ClientState
-  client_happens t (Begin deed) = cond (may_start t.client deed.action) (record t { client = begun deed.action t.client }) t
+  client_happens t (Begin deed) = cond (may_begin t.client deed.action) (record t { client = begun deed.action t.client }) t
   client_happens t Next = asks t
   client_happens t Resend = record t { sent = posted t.waits_for t.sent }
   client_happens t (Arrive k when) = arrives t when (nth t.sent k)

@@ -17,8 +17,7 @@ use lnfs_operations::ExtraRows;
 /// packet of the client, and each reply to one. It is so of guests and of those who come under a parent, for each policy,
 /// and each mechanism that takes the signatures that it makes.
 ///
-/// A client that is mounted in a context doesn't mount anew. Numbers of the policy and of the client that are sent as words
-/// fit one.
+/// Numbers of the policy and of the client that are sent as words fit one.
 pub fn acts_once<X: ExtraRows, M: Mechanism>()
     ensures once { (p : Policy) → IsPreorderWithBottom (dominance p) → IsLawful X.extra.grammar →
         Accepts M.signing → (s : Setting) → MayCome p s → (level : ℕ) →
