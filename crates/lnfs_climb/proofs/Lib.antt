@@ -1,0 +1,3 @@
+pub mod Pigeons
+pub mod Reached
+pub mod Counted

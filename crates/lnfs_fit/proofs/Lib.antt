@@ -1,0 +1,14 @@
+pub mod Bounded
+pub mod ByPlaces
+pub mod Counts
+pub mod Fitting
+pub mod Growth
+pub mod Indexed
+pub mod Keyed
+pub mod LastFits
+pub mod Mapped
+pub mod Missing
+pub mod Placed
+pub mod Risen
+pub mod Tail
+pub mod Together

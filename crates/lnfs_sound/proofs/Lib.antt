@@ -1,0 +1,9 @@
+pub mod Among
+pub mod Found
+pub mod Joined
+pub mod KeyGrowth
+pub mod Listed
+pub mod OfClients
+pub mod OfContexts
+pub mod OfOpens
+pub mod OfSessions

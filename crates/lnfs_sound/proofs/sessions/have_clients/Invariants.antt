@@ -1,0 +1,7 @@
+use Rattle.std.proofs.Common.{◌≡◌, ℕ, ◌<◌, true}
+use Rattle.lnfs_world.specs.Facts.{has_confirmed}
+use Rattle.lnfs_sound.specs.RowsOf.{clients_of, sessions_of, nth_session}
+use Rattle.lnfs_sound.proofs.sessions.have_clients.Given as goal
+
+abbrev pub invariant-loop-place : goal.invariant-loop-place
+invariant-loop-place l = (k : ℕ) → k < l.place → has_confirmed (clients_of l.clients) (nth_session (sessions_of l.rows) k).id.level (nth_session (sessions_of l.rows) k).client ≡ true
