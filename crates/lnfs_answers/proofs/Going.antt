@@ -2,7 +2,7 @@
 use Rattle.std.proofs.Common.{◌≡◌, ℕ, true, false, List, [], ◌∷◌, ◌++◌, length, replicate, refl, sym, ◌∙◌, ap, append_assoc, arith, inl, inr}
 use Rattle.std.specs.Int.{w32, w64, to_be_bytes}
 use Rattle.std.proofs.lemmas.List.{append-nil, length-replicate}
-use Rattle.lnfs_xdr.specs.Format.{Format, Word, Long, Boolean, Count, Among, Opaque, OpaqueOf, Fixed, Raw, Outside, Done, If, Then, Linked, Spells, Stuck, Chains, padding}
+use Rattle.lnfs_xdr.specs.Format.{Format, Word, Long, Boolean, Count, Among, LongAmong, Byte, Opaque, OpaqueOf, Fixed, Raw, Outside, Done, If, Then, Linked, Spells, Stuck, Chains, padding}
 use Rattle.lnfs_answers.specs.Continued.{GoesOn}
 
 -- a value of a format, and how it is spelled
@@ -15,6 +15,8 @@ some Long g = (0, to_be_bytes w64 0, (omega arith, refl))
 some Boolean g = (false, to_be_bytes w32 0, refl)
 some (Count max) g = (0, to_be_bytes w32 0, (omega arith, omega arith, refl))
 some (Among test) g = (g.0, to_be_bytes w32 g.0, (g.1, g.2, refl))
+some (LongAmong test) g = (g.0, to_be_bytes w64 g.0, (g.1, g.2, refl))
+some (Byte test) g = (g.0, g.0 ∷ [], (g.1, g.2, refl))
 some (Opaque max) g = ([], to_be_bytes w32 0 ++ ([] ++ []), (omega arith, omega arith, [], refl, refl))
 some (OpaqueOf test) g =
     let v : List ℕ = replicate g.0 0 in
@@ -56,6 +58,8 @@ continued {E} Long g bytes stuck s = at_once {E = E} Long g bytes stuck s.1
 continued {E} Boolean g bytes stuck s = at_once {E = E} Boolean g bytes stuck s.1
 continued {E} (Count max) g bytes stuck s = at_once {E = E} (Count max) g bytes stuck s.1
 continued {E} (Among test) g bytes stuck s = at_once {E = E} (Among test) g bytes stuck s.1
+continued {E} (LongAmong test) g bytes stuck s = at_once {E = E} (LongAmong test) g bytes stuck s.1
+continued {E} (Byte test) g bytes stuck s = at_once {E = E} (Byte test) g bytes stuck s.1
 continued {E} (Opaque max) g bytes stuck s = at_once {E = E} (Opaque max) g bytes stuck s.1
 continued {E} (OpaqueOf test) g bytes stuck s = at_once {E = E} (OpaqueOf test) g bytes stuck s.1
 continued {E} (Fixed n) g bytes stuck s = at_once {E = E} (Fixed n) g bytes stuck s.1

@@ -1,6 +1,6 @@
 -- What stands before a fault can be continued, so that the item at the fault is the first of which no continuation is there.
 use Rattle.std.specs.Prelude.{◌≡◌, ℕ, ◌<◌, ◌^◌, true, MatchBool, List, ◌++◌, take}
-use Rattle.lnfs_xdr.specs.Format.{Format, Word, Long, Boolean, Count, Among, Opaque, OpaqueOf, Fixed, Raw, Outside, Done, If, Then, Linked, Spells}
+use Rattle.lnfs_xdr.specs.Format.{Format, Word, Long, Boolean, Count, Among, LongAmong, Byte, Opaque, OpaqueOf, Fixed, Raw, Outside, Done, If, Then, Linked, Spells}
 use Rattle.lnfs_answers.specs.declared.types.Awaits.{Awaits}
 use Rattle.lnfs_answers.specs.declared.types.Said.{Said}
 use Rattle.lnfs_answers.specs.Grammar.{number_of}
@@ -13,6 +13,8 @@ GoesOn Long = Unit {0}
 GoesOn Boolean = Unit {0}
 GoesOn (Count max) = Unit {0}
 GoesOn (Among test) = (n : ℕ) × (test n ≡ true) × (n < 2 ^ 32)
+GoesOn (LongAmong test) = (n : ℕ) × (test n ≡ true) × (n < 2 ^ 64)
+GoesOn (Byte test) = (n : ℕ) × (test n ≡ true) × (n < 256)
 GoesOn (Opaque max) = Unit {0}
 GoesOn (OpaqueOf test) = (n : ℕ) × (test n ≡ true) × (n < 2 ^ 32)
 GoesOn (Fixed n) = Unit {0}

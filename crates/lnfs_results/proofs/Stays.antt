@@ -1,7 +1,7 @@
 -- No result leaves its format: what isn't in the grammar is refused.
 use Rattle.std.proofs.Common.{◌≡◌, ℕ, zero, suc, eqb, Bool, true, false, List, [], ◌∷◌, Err, Some, None, refl, inl, inr}
 use Rattle.std.specs.Prelude.{MatchBool, ◌||◌}
-use Rattle.lnfs_xdr.specs.Format.{Format, Word, Long, Boolean, Count, Among, Opaque, OpaqueOf, Fixed, Raw, Outside, Done, If, Then, Linked, Leaving, times, optional}
+use Rattle.lnfs_xdr.specs.Format.{Format, Word, Long, Boolean, Count, Among, LongAmong, Byte, Opaque, OpaqueOf, Fixed, Raw, Outside, Done, If, Then, Linked, Leaving, times, optional}
 use Rattle.lnfs_xdr.specs.Reading.{Leaves, read}
 use Rattle.lnfs_xdr.proofs.Fields.{IsBytes}
 use Rattle.lnfs_xdr.proofs.Laws.{leaves_at}
@@ -20,6 +20,8 @@ Stays Long = Unit {0}
 Stays Boolean = Unit {0}
 Stays (Count max) = Unit {0}
 Stays (Among test) = Unit {0}
+Stays (LongAmong test) = Unit {0}
+Stays (Byte test) = Unit {0}
 Stays (Opaque max) = Unit {0}
 Stays (OpaqueOf test) = Unit {0}
 Stays (Fixed n) = Unit {0}
@@ -36,6 +38,8 @@ is_not_left Long bytes e s l = l
 is_not_left Boolean bytes e s l = l
 is_not_left (Count max) bytes e s l = l
 is_not_left (Among test) bytes e s l = l
+is_not_left (LongAmong test) bytes e s l = l
+is_not_left (Byte test) bytes e s l = l
 is_not_left (Opaque max) bytes e s l = l
 is_not_left (OpaqueOf test) bytes e s l = l
 is_not_left (Fixed n) bytes e s l = l

@@ -1,4 +1,7 @@
 //! Rows of nodes and of their names.
+ghost use Rattle.std.specs.Prelude.{◌≡◌, length};
+ghost use Rattle.lnfs_rows.specs.Told.{bytes_of};
+
 use crate::numbers::Id;
 use lnfs_content::Content;
 use lnfs_types::Moment;
@@ -23,6 +26,18 @@ pub struct StoredRow<'a> {
 pub enum Data<'a> {
     Bytes(&'a [u8]),
     File(&'a Content),
+}
+
+impl Data<'_> {
+    /// How many bytes there are.
+    pub fn len(&self) -> u64
+        ensures { result ≡ length (bytes_of self.now) }
+    {
+        match self {
+            Data::Bytes(bytes) => bytes.len() as u64,
+            Data::File(content) => content.len(),
+        }
+    }
 }
 
 #[derive(Clone, Copy)]

@@ -6,8 +6,8 @@ use Rattle.std.proofs.lemmas.List.{take_at, drop_at, take-append-drop, length-ap
 use Rattle.std.proofs.lemmas.Nat.{be_bytes_4, be_bytes_8, from_be_bytes-to_be_bytes_4, from_be_bytes-to_be_bytes_8}
 use Rattle.lnfs_xdr.specs.declared.error.XdrError.{XdrError}
 use Rattle.lnfs_xdr.specs.declared.error.XdrError.TheVariants.{Short, BadBool, TooLong}
-use Rattle.lnfs_xdr.specs.Format.{Format, Boolean, Count, Among, Opaque, OpaqueOf, Fixed, padding, number_of, Spells, Raw}
-use Rattle.lnfs_xdr.specs.Reading.{Item, Fault, Read, here, after, number_at, boolean_at, count_at, among_at, padded_at, opaque_at, opaque_of_at, raw_at}
+use Rattle.lnfs_xdr.specs.Format.{Format, Boolean, Count, Among, LongAmong, Byte, Opaque, OpaqueOf, Fixed, padding, number_of, Spells, Raw}
+use Rattle.lnfs_xdr.specs.Reading.{Item, Fault, Read, here, after, number_at, boolean_at, count_at, passing_at, among_at, long_among_at, byte_at, padded_at, opaque_at, opaque_of_at, raw_at}
 
 abbrev pub IsBytes : List ℕ → Type 0
 IsBytes bytes = (i : ℕ) → get_or bytes i 0 < 256
@@ -139,19 +139,45 @@ count_takes {E} max bytes x fits e =
     let t = word_takes bytes a.0 fits a.1 in
     subst (λ (p : ℕ × List ℕ). Found {E = E} (Count max) bytes p.0 p.1) g.1 (record { front = to_be_bytes w32 a.0.0; spelled = (ltb-false _ _ g.0, t.1, refl); takes = t.0 })
 
-pub among_takes : {E : Type 0} (test : ℕ → Bool) (bytes : List ℕ) (x : ℕ × List ℕ) → IsBytes bytes → among_at test bytes ≡ Ok x → Found {E = E} (Among test) bytes x.0 x.1
-among_takes {E} test bytes x fits e =
-    let a = after_ok (number_at w32 bytes) (λ n rest. cond (test n) (Ok (n, rest)) (Err BadBool)) x e in
-    let t = word_takes bytes a.0 fits a.1 in
+-- a number that is read passes the test
+passing_takes : (w : Width) (limit : ℕ) (wide : IsWide w limit) (test : ℕ → Bool) (bytes : List ℕ) (x : ℕ × List ℕ) → IsBytes bytes → passing_at w test bytes ≡ Ok x → (test x.0 ≡ true) × (x.0 < limit) × Takes bytes (to_be_bytes w x.0) x.1
+passing_takes w limit wide test bytes x fits e =
+    let a = after_ok (number_at w bytes) (λ n rest. cond (test n) (Ok (n, rest)) (Err BadBool)) x e in
+    let t = number_takes w limit wide bytes a.0.0 a.0.1 fits a.1 in
     elim (chosen (test a.0.0) (Ok a.0) (Err BadBool) (Ok x) a.2) [
       | inl on ↦
           let same : a.0 ≡ x = let e = on.1 in cc in
-          subst (λ (p : ℕ × List ℕ). Found {E = E} (Among test) bytes p.0 p.1) same (record { front = to_be_bytes w32 a.0.0; spelled = (on.0, t.1, refl); takes = t.0 })
+          subst (λ (p : ℕ × List ℕ). (test p.0 ≡ true) × (p.0 < limit) × Takes bytes (to_be_bytes w p.0) p.1) same (on.0, t.1, t.0)
       | inr off ↦ absurd (let e = off.1 in cc)
     ]
 
+passing_again : (w : Width) (limit : ℕ) (wide : IsWide w limit) (test : ℕ → Bool) (n : ℕ) (rest : List ℕ) → test n ≡ true → n < limit → passing_at w test (to_be_bytes w n ++ rest) ≡ Ok (n, rest)
+passing_again w limit wide test n rest passes lt = rw (number_again w limit wide n rest lt, passes) refl
+
+pub among_takes : {E : Type 0} (test : ℕ → Bool) (bytes : List ℕ) (x : ℕ × List ℕ) → IsBytes bytes → among_at test bytes ≡ Ok x → Found {E = E} (Among test) bytes x.0 x.1
+among_takes test bytes x fits e = let t = passing_takes w32 (2 ^ 32) wide32 test bytes x fits e in record { front = to_be_bytes w32 x.0; spelled = (t.0, t.1, refl); takes = t.2 }
+
 pub among_again : (test : ℕ → Bool) (n : ℕ) (rest : List ℕ) → test n ≡ true → n < 2 ^ 32 → among_at test (to_be_bytes w32 n ++ rest) ≡ Ok (n, rest)
-among_again test n rest passes lt = rw (word_again n rest lt, passes) refl
+among_again test n rest passes lt = passing_again w32 (2 ^ 32) wide32 test n rest passes lt
+
+pub long_among_takes : {E : Type 0} (test : ℕ → Bool) (bytes : List ℕ) (x : ℕ × List ℕ) → IsBytes bytes → long_among_at test bytes ≡ Ok x → Found {E = E} (LongAmong test) bytes x.0 x.1
+long_among_takes test bytes x fits e = let t = passing_takes w64 (2 ^ 64) wide64 test bytes x fits e in record { front = to_be_bytes w64 x.0; spelled = (t.0, t.1, refl); takes = t.2 }
+
+pub long_among_again : (test : ℕ → Bool) (n : ℕ) (rest : List ℕ) → test n ≡ true → n < 2 ^ 64 → long_among_at test (to_be_bytes w64 n ++ rest) ≡ Ok (n, rest)
+long_among_again test n rest passes lt = passing_again w64 (2 ^ 64) wide64 test n rest passes lt
+
+pub byte_takes : {E : Type 0} (test : ℕ → Bool) (bytes : List ℕ) (x : ℕ × List ℕ) → IsBytes bytes → byte_at test bytes ≡ Ok x → Found {E = E} (Byte test) bytes x.0 x.1
+byte_takes test [] x fits e = absurd cc
+byte_takes {E} test (b ∷ rest) x fits e =
+    elim (chosen (test b) (Ok (b, rest)) (Err BadBool) (Ok x) e) [
+      | inl on ↦
+          let same : (b, rest) ≡ x = let e = on.1 in cc in
+          subst (λ (p : ℕ × List ℕ). Found {E = E} (Byte test) (b ∷ rest) p.0 p.1) same (record { front = b ∷ []; spelled = (on.0, fits 0, refl); takes = record { parts = refl; rest_fits = IsBytes-back (b ∷ []) rest (b ∷ rest) refl fits } })
+      | inr off ↦ absurd (let e = off.1 in cc)
+    ]
+
+pub byte_again : (test : ℕ → Bool) (n : ℕ) (rest : List ℕ) → test n ≡ true → byte_at test ((n ∷ []) ++ rest) ≡ Ok (n, rest)
+byte_again test n rest passes = rw passes refl
 
 pub count_again : (max n : ℕ) (rest : List ℕ) → n ≤ max → n < 2 ^ 32 → count_at max (to_be_bytes w32 n ++ rest) ≡ Ok (n, rest)
 count_again max n rest le lt =

@@ -2,9 +2,9 @@
 use Rattle.std.proofs.Common.{◌≡◌, ◌⊎◌, ℕ, ◌<◌, ◌^◌, true, false, List, [], ◌++◌, length, Ok, Err, refl, sym, ap, subst, ◌∙◌, append_assoc, length-append, arith, inl, inr}
 use Rattle.std.specs.Int.{w32, w64, to_be_bytes}
 use Rattle.lnfs_xdr.specs.declared.error.XdrError.{XdrError}
-use Rattle.lnfs_xdr.specs.Format.{Format, Word, Long, Boolean, Count, Among, Opaque, OpaqueOf, Fixed, Outside, Done, If, Then, Linked, Spells, NoneAt, Stuck, Leaving, Raw}
-use Rattle.lnfs_xdr.specs.Reading.{Stop, Fault, Leaves, Read, here, after, number_at, boolean_at, count_at, among_at, padded_at, opaque_at, opaque_of_at, read, raw_at}
-use Rattle.lnfs_xdr.proofs.Fields.{IsBytes, IsBytes-back, after_err, after_ok, Takes-then, Found, Whole, wide64, number_takes, number_again, word_takes, word_again, boolean_takes, boolean_again, count_takes, count_again, among_takes, among_again, fixed_takes, padded_again, opaque_takes, opaque_again, opaque_of_takes, opaque_of_again, here_ok, whole, raw_takes, raw_again}
+use Rattle.lnfs_xdr.specs.Format.{Format, Word, Long, Boolean, Count, Among, LongAmong, Byte, Opaque, OpaqueOf, Fixed, Outside, Done, If, Then, Linked, Spells, NoneAt, Stuck, Leaving, Raw}
+use Rattle.lnfs_xdr.specs.Reading.{Stop, Fault, Leaves, Read, here, after, number_at, boolean_at, count_at, among_at, long_among_at, byte_at, padded_at, opaque_at, opaque_of_at, read, raw_at}
+use Rattle.lnfs_xdr.proofs.Fields.{IsBytes, IsBytes-back, after_err, after_ok, Takes-then, Found, Whole, wide64, number_takes, number_again, word_takes, word_again, boolean_takes, boolean_again, count_takes, count_again, among_takes, among_again, long_among_takes, long_among_again, byte_takes, byte_again, fixed_takes, padded_again, opaque_takes, opaque_again, opaque_of_takes, opaque_of_again, here_ok, whole, raw_takes, raw_again}
 use Rattle.lnfs_xdr.proofs.Chains.{on, off, chain_found, chain_again}
 use Rattle.lnfs_xdr.proofs.ChainStops.{chain_stuck, chain_leaves, linked_stops, word_stops, element_stops}
 
@@ -15,6 +15,8 @@ found {E} Long bytes x fits e = let t = number_takes w64 (2 ^ 64) wide64 bytes x
 found {E} Boolean bytes x fits e = boolean_takes bytes x fits (here_ok bytes (boolean_at bytes) x e)
 found {E} (Count max) bytes x fits e = count_takes max bytes x fits (here_ok bytes (count_at max bytes) x e)
 found {E} (Among test) bytes x fits e = among_takes test bytes x fits (here_ok bytes (among_at test bytes) x e)
+found {E} (LongAmong test) bytes x fits e = long_among_takes test bytes x fits (here_ok bytes (long_among_at test bytes) x e)
+found {E} (Byte test) bytes x fits e = byte_takes test bytes x fits (here_ok bytes (byte_at test bytes) x e)
 found {E} (Opaque max) bytes x fits e = opaque_takes max bytes x fits (here_ok bytes (opaque_at max bytes) x e)
 found {E} (OpaqueOf test) bytes x fits e = opaque_of_takes test bytes x fits (here_ok bytes (opaque_of_at test bytes) x e)
 found {E} (Fixed n) bytes x fits e = fixed_takes n bytes x fits (here_ok bytes (padded_at n bytes) x e)
@@ -45,6 +47,8 @@ again Long x front rest s = ap (here (front ++ rest)) (ap (λ (b : List ℕ). nu
 again Boolean x front rest s = ap (here (front ++ rest)) (ap (λ (b : List ℕ). boolean_at (b ++ rest)) s ∙ boolean_again x rest)
 again (Count max) x front rest s = ap (here (front ++ rest)) (ap (λ (b : List ℕ). count_at max (b ++ rest)) s.2 ∙ count_again max x rest s.0 s.1)
 again (Among test) x front rest s = ap (here (front ++ rest)) (ap (λ (b : List ℕ). among_at test (b ++ rest)) s.2 ∙ among_again test x rest s.0 s.1)
+again (LongAmong test) x front rest s = ap (here (front ++ rest)) (ap (λ (b : List ℕ). long_among_at test (b ++ rest)) s.2 ∙ long_among_again test x rest s.0 s.1)
+again (Byte test) x front rest s = ap (here (front ++ rest)) (ap (λ (b : List ℕ). byte_at test (b ++ rest)) s.2 ∙ byte_again test x rest s.0)
 again (Opaque max) x front rest s = ap (here (front ++ rest)) (ap (λ (b : List ℕ). opaque_at max (b ++ rest)) s.4 ∙ opaque_again max x s.2 rest s.0 s.1 s.3)
 again (OpaqueOf test) x front rest s = ap (here (front ++ rest)) (ap (λ (b : List ℕ). opaque_of_at test (b ++ rest)) s.4 ∙ opaque_of_again test x s.2 rest s.0 s.1 s.3)
 again (Fixed n) x front rest s = ap (here (front ++ rest)) (ap (λ (b : List ℕ). padded_at n (b ++ rest)) s.3 ∙ padded_again n x s.1 rest s.0 s.2)
@@ -104,6 +108,8 @@ stuck_at Long bytes c stuck fits e = item_stuck Long bytes c stuck (whole bytes 
 stuck_at Boolean bytes c stuck fits e = item_stuck Boolean bytes c stuck (whole bytes (boolean_at bytes)) e
 stuck_at (Count max) bytes c stuck fits e = item_stuck (Count max) bytes c stuck (whole bytes (count_at max bytes)) e
 stuck_at (Among test) bytes c stuck fits e = item_stuck (Among test) bytes c stuck (whole bytes (among_at test bytes)) e
+stuck_at (LongAmong test) bytes c stuck fits e = item_stuck (LongAmong test) bytes c stuck (whole bytes (long_among_at test bytes)) e
+stuck_at (Byte test) bytes c stuck fits e = item_stuck (Byte test) bytes c stuck (whole bytes (byte_at test bytes)) e
 stuck_at (Opaque max) bytes c stuck fits e = item_stuck (Opaque max) bytes c stuck (whole bytes (opaque_at max bytes)) e
 stuck_at (OpaqueOf test) bytes c stuck fits e = item_stuck (OpaqueOf test) bytes c stuck (whole bytes (opaque_of_at test bytes)) e
 stuck_at (Fixed n) bytes c stuck fits e = item_stuck (Fixed n) bytes c stuck (whole bytes (padded_at n bytes)) e
@@ -127,6 +133,8 @@ faults_at Long bytes stuck fits s = item_faults Long bytes stuck fits (whole byt
 faults_at Boolean bytes stuck fits s = item_faults Boolean bytes stuck fits (whole bytes (boolean_at bytes)) s
 faults_at (Count max) bytes stuck fits s = item_faults (Count max) bytes stuck fits (whole bytes (count_at max bytes)) s
 faults_at (Among test) bytes stuck fits s = item_faults (Among test) bytes stuck fits (whole bytes (among_at test bytes)) s
+faults_at (LongAmong test) bytes stuck fits s = item_faults (LongAmong test) bytes stuck fits (whole bytes (long_among_at test bytes)) s
+faults_at (Byte test) bytes stuck fits s = item_faults (Byte test) bytes stuck fits (whole bytes (byte_at test bytes)) s
 faults_at (Opaque max) bytes stuck fits s = item_faults (Opaque max) bytes stuck fits (whole bytes (opaque_at max bytes)) s
 faults_at (OpaqueOf test) bytes stuck fits s = item_faults (OpaqueOf test) bytes stuck fits (whole bytes (opaque_of_at test bytes)) s
 faults_at (Fixed n) bytes stuck fits s = item_faults (Fixed n) bytes stuck fits (whole bytes (padded_at n bytes)) s
@@ -162,6 +170,8 @@ leaves_at Long bytes status fits e = item_stays Long bytes status (whole bytes (
 leaves_at Boolean bytes status fits e = item_stays Boolean bytes status (whole bytes (boolean_at bytes)) e
 leaves_at (Count max) bytes status fits e = item_stays (Count max) bytes status (whole bytes (count_at max bytes)) e
 leaves_at (Among test) bytes status fits e = item_stays (Among test) bytes status (whole bytes (among_at test bytes)) e
+leaves_at (LongAmong test) bytes status fits e = item_stays (LongAmong test) bytes status (whole bytes (long_among_at test bytes)) e
+leaves_at (Byte test) bytes status fits e = item_stays (Byte test) bytes status (whole bytes (byte_at test bytes)) e
 leaves_at (Opaque max) bytes status fits e = item_stays (Opaque max) bytes status (whole bytes (opaque_at max bytes)) e
 leaves_at (OpaqueOf test) bytes status fits e = item_stays (OpaqueOf test) bytes status (whole bytes (opaque_of_at test bytes)) e
 leaves_at (Fixed n) bytes status fits e = item_stays (Fixed n) bytes status (whole bytes (padded_at n bytes)) e
@@ -184,6 +194,8 @@ left_at {E} Long bytes status fits s = absurd s
 left_at {E} Boolean bytes status fits s = absurd s
 left_at {E} (Count max) bytes status fits s = absurd s
 left_at {E} (Among test) bytes status fits s = absurd s
+left_at {E} (LongAmong test) bytes status fits s = absurd s
+left_at {E} (Byte test) bytes status fits s = absurd s
 left_at {E} (Opaque max) bytes status fits s = absurd s
 left_at {E} (OpaqueOf test) bytes status fits s = absurd s
 left_at {E} (Fixed n) bytes status fits s = absurd s

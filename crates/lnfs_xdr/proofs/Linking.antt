@@ -6,9 +6,9 @@ use Rattle.std.proofs.lemmas.Bool.{ltb-false}
 use Rattle.std.proofs.lemmas.List.{append-nil}
 use Rattle.std.proofs.lemmas.List.Concat.{flat_map-cons}
 use Rattle.lnfs_xdr.specs.declared.error.XdrError.TheVariants.{Short, BadBool, TooLong}
-use Rattle.lnfs_xdr.specs.Format.{Format, Word, Long, Boolean, Count, Among, Opaque, OpaqueOf, Fixed, Raw, Outside, Done, If, Then, Linked, padding}
+use Rattle.lnfs_xdr.specs.Format.{Format, Word, Long, Boolean, Count, Among, LongAmong, Byte, Opaque, OpaqueOf, Fixed, Raw, Outside, Done, If, Then, Linked, padding}
 use Rattle.lnfs_xdr.specs.Canon.{flag, linked}
-use Rattle.lnfs_xdr.specs.Reading.{Stop, Fault, Read, after, element, here, linked_at, number_at, boolean_at, count_at, among_at, padded_at, opaque_at, opaque_of_at, raw_at, read}
+use Rattle.lnfs_xdr.specs.Reading.{Stop, Fault, Read, after, element, here, linked_at, number_at, boolean_at, count_at, passing_at, among_at, byte_at, long_among_at, padded_at, opaque_at, opaque_of_at, raw_at, read}
 use Rattle.lnfs_xdr.proofs.Fields.{no_bytes, after_ok, chosen, guard_ok, here_ok}
 use Rattle.lnfs_xdr.proofs.Loops.{grown, regroup}
 use Rattle.lnfs_xdr.proofs.Spelled.{Spelled}
@@ -46,11 +46,19 @@ count_left max bytes x e =
     let g = guard_ok (ltb max a.0.0) TooLong a.0 x a.2 in
     left_by bytes a.0.1 a.0.0 x g.1 (omega (arith, number_left w32 bytes a.0 a.1))
 
-among_left : (test : ℕ → Bool) (bytes : List ℕ) (x : ℕ × List ℕ) → among_at test bytes ≡ Ok x → Left bytes x
-among_left test bytes x e =
-    let a = after_ok (number_at w32 bytes) (λ n rest. cond (test n) (Ok (n, rest)) (Err BadBool)) x e in
+passing_left : (w : Width) (test : ℕ → Bool) (bytes : List ℕ) (x : ℕ × List ℕ) → passing_at w test bytes ≡ Ok x → Left bytes x
+passing_left w test bytes x e =
+    let a = after_ok (number_at w bytes) (λ n rest. cond (test n) (Ok (n, rest)) (Err BadBool)) x e in
     elim (chosen (test a.0.0) (Ok a.0) (Err BadBool) (Ok x) a.2) [
-      | inl on ↦ left_by bytes a.0.1 a.0.0 x (let is = on.1 in cc) (omega (arith, number_left w32 bytes a.0 a.1))
+      | inl on ↦ left_by bytes a.0.1 a.0.0 x (let is = on.1 in cc) (omega (arith, number_left w bytes a.0 a.1))
+      | inr off ↦ absurd (let is = off.1 in cc)
+    ]
+
+byte_left : (test : ℕ → Bool) (bytes : List ℕ) (x : ℕ × List ℕ) → byte_at test bytes ≡ Ok x → Left bytes x
+byte_left test [] x e = absurd cc
+byte_left test (b ∷ rest) x e =
+    elim (chosen (test b) (Ok (b, rest)) (Err BadBool) (Ok x) e) [
+      | inl on ↦ left_by (b ∷ rest) rest b x (let is = on.1 in cc) (omega arith)
       | inr off ↦ absurd (let is = off.1 in cc)
     ]
 
@@ -72,7 +80,7 @@ opaque_left max bytes x e =
 opaque_of_left : (test : ℕ → Bool) (bytes : List ℕ) (x : List ℕ × List ℕ) → opaque_of_at test bytes ≡ Ok x → Left bytes x
 opaque_of_left test bytes x e =
     let a = after_ok (among_at test bytes) (λ n rest. padded_at n rest) x e in
-    omega (arith, among_left test bytes a.0 a.1, padded_left a.0.0 a.0.1 x a.2)
+    omega (arith, passing_left w32 test bytes a.0 a.1, padded_left a.0.0 a.0.1 x a.2)
 
 abbrev pub Shrinks : {E A : Type 0} → (List ℕ → Read E A) → Type 0
 Shrinks {A = A} r = (bytes : List ℕ) (x : A × List ℕ) → r bytes ≡ Ok x → Left bytes x
@@ -96,7 +104,9 @@ read_left Word bytes x e = omega (arith, number_left w32 bytes x (here_ok bytes 
 read_left Long bytes x e = omega (arith, number_left w64 bytes x (here_ok bytes (number_at w64 bytes) x e))
 read_left Boolean bytes x e = omega (arith, boolean_left bytes x (here_ok bytes (boolean_at bytes) x e))
 read_left (Count max) bytes x e = count_left max bytes x (here_ok bytes (count_at max bytes) x e)
-read_left (Among test) bytes x e = among_left test bytes x (here_ok bytes (among_at test bytes) x e)
+read_left (Among test) bytes x e = passing_left w32 test bytes x (here_ok bytes (among_at test bytes) x e)
+read_left (LongAmong test) bytes x e = passing_left w64 test bytes x (here_ok bytes (long_among_at test bytes) x e)
+read_left (Byte test) bytes x e = byte_left test bytes x (here_ok bytes (byte_at test bytes) x e)
 read_left (Opaque max) bytes x e = opaque_left max bytes x (here_ok bytes (opaque_at max bytes) x e)
 read_left (OpaqueOf test) bytes x e = opaque_of_left test bytes x (here_ok bytes (opaque_of_at test bytes) x e)
 read_left (Fixed n) bytes x e = padded_left n bytes x (here_ok bytes (padded_at n bytes) x e)

@@ -5,7 +5,7 @@ use Rattle.std.specs.Int.{w32, to_be_bytes}
 use Rattle.std.proofs.lemmas.List.{take_at, drop_at, take-append-drop, length-take, length-append}
 use Rattle.std.proofs.lemmas.Bool.Decides.{nat_tests}
 use Rattle.lnfs_xdr.specs.declared.error.XdrError.{XdrError}
-use Rattle.lnfs_xdr.specs.Format.{Format, Word, Long, Boolean, Count, Among, Opaque, OpaqueOf, Fixed, Raw, Outside, Done, If, Then, Linked, Stuck}
+use Rattle.lnfs_xdr.specs.Format.{Format, Word, Long, Boolean, Count, Among, LongAmong, Byte, Opaque, OpaqueOf, Fixed, Raw, Outside, Done, If, Then, Linked, Stuck}
 use Rattle.lnfs_xdr.specs.Reading.{Fault, Leaves, Read, read}
 use Rattle.lnfs_xdr.specs.Message.{Message, Closed, Unread, Next, Measured, Tells, NoneMeasured, Refuses, decided, cut_at, parse}
 use Rattle.lnfs_xdr.proofs.Fields.{IsBytes, IsBytes-back, IsBytes-drop}
@@ -164,6 +164,8 @@ stuck_short Long bytes stuck s = omega (arith, ap length s.1)
 stuck_short Boolean bytes stuck s = omega (arith, ap length s.1)
 stuck_short (Count max) bytes stuck s = omega (arith, ap length s.1)
 stuck_short (Among test) bytes stuck s = omega (arith, ap length s.1)
+stuck_short (LongAmong test) bytes stuck s = omega (arith, ap length s.1)
+stuck_short (Byte test) bytes stuck s = omega (arith, ap length s.1)
 stuck_short (Opaque max) bytes stuck s = omega (arith, ap length s.1)
 stuck_short (OpaqueOf test) bytes stuck s = omega (arith, ap length s.1)
 stuck_short (Fixed n) bytes stuck s = omega (arith, ap length s.1)

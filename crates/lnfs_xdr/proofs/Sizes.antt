@@ -4,7 +4,7 @@ use Rattle.std.specs.List.{flat_map}
 use Rattle.std.proofs.lemmas.List.{length-take}
 use Rattle.std.proofs.lemmas.List.Concat.{flat_map-cons}
 use Rattle.lnfs_xdr.specs.Format.{padding}
-use Rattle.lnfs_xdr.specs.Canon.{word, long, flag, padded, opaque, zeros}
+use Rattle.lnfs_xdr.specs.Canon.{word, long, byte, flag, padded, opaque, zeros}
 
 pub length-word : (n : ℕ) → length (word n) ≡ 4
 unfolding word
@@ -13,6 +13,10 @@ length-word n = refl
 pub length-long : (n : ℕ) → length (long n) ≡ 8
 unfolding long
 length-long n = refl
+
+pub length-byte : (n : ℕ) → length (byte n) ≡ 1
+unfolding byte
+length-byte n = refl
 
 pub length-flag : (b : Bool) → length (flag b) ≡ 4
 unfolding flag

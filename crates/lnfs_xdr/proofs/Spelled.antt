@@ -4,8 +4,8 @@ use Rattle.std.specs.List.{flat_map, AllByRecursion}
 use Rattle.std.proofs.lemmas.List.{append-nil, length-take}
 use Rattle.std.proofs.lemmas.List.Concat.{flat_map-cons}
 use Rattle.std.proofs.lemmas.List.Elements.{recursion_from_All}
-use Rattle.lnfs_xdr.specs.Format.{Format, Word, Long, Boolean, Count, Among, Opaque, Fixed, Done, If, Then, padding, Spells, times, array}
-use Rattle.lnfs_xdr.specs.Canon.{word, long, flag, padded, opaque, zeros}
+use Rattle.lnfs_xdr.specs.Format.{Format, Word, Long, Boolean, Count, Among, LongAmong, Byte, Opaque, Fixed, Raw, Done, If, Then, padding, Spells, times, array}
+use Rattle.lnfs_xdr.specs.Canon.{word, long, byte, flag, padded, opaque, zeros}
 
 -- the bytes are a spelling
 pub record Spelled {E A : Type 0} (f : Format E A) (x : A) (bytes : List ℕ) : Type 0 where
@@ -30,6 +30,17 @@ count_spelled max n le lt = record { is = (le, lt, refl) }
 pub among_spelled : {E : Type 0} (test : ℕ → Bool) (n : ℕ) → test n ≡ true → n < 2 ^ 32 → Spelled {E = E} (Among test) n (word n)
 unfolding word
 among_spelled test n passes lt = record { is = (passes, lt, refl) }
+
+pub long_among_spelled : {E : Type 0} (test : ℕ → Bool) (n : ℕ) → test n ≡ true → n < 2 ^ 64 → Spelled {E = E} (LongAmong test) n (long n)
+unfolding long
+long_among_spelled test n passes lt = record { is = (passes, lt, refl) }
+
+pub byte_spelled : {E : Type 0} (test : ℕ → Bool) (n : ℕ) → test n ≡ true → n < 256 → Spelled {E = E} (Byte test) n (byte n)
+unfolding byte
+byte_spelled test n passes lt = record { is = (passes, lt, refl) }
+
+pub raw_spelled : {E : Type 0} (n : ℕ) (v : List ℕ) → length v ≡ n → Spelled {E = E} (Raw n) v v
+raw_spelled n v e = record { is = (e, refl) }
 
 pub fixed_spelled : {E : Type 0} (n : ℕ) (v : List ℕ) → length v ≡ n → Spelled {E = E} (Fixed n) v (padded v)
 unfolding padded

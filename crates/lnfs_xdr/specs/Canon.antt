@@ -9,6 +9,10 @@ word n = to_be_bytes w32 n
 unfoldable pub long : ℕ → List ℕ
 long n = to_be_bytes w64 n
 
+-- a single byte: no item of XDR
+unfoldable pub byte : ℕ → List ℕ
+byte n = n ∷ []
+
 unfoldable pub flag : Bool → List ℕ
 flag b = to_be_bytes w32 (number_of b)
 

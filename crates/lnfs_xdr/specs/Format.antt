@@ -14,6 +14,10 @@ pub data Format (E : Type 0) : Type 0 → Type 1 where
   Count : ℕ → Format E ℕ
   -- a word that passes a test, as an enumeration does, section 4.3
   Among : (ℕ → Bool) → Format E ℕ
+  -- a hyper integer that passes a test
+  LongAmong : (ℕ → Bool) → Format E ℕ
+  -- a single byte that passes a test: no item of XDR
+  Byte : (ℕ → Bool) → Format E ℕ
   -- at most so many bytes, section 4.10
   Opaque : ℕ → Format E (List ℕ)
   -- bytes whose number passes a test, section 4.10
@@ -59,6 +63,8 @@ Spells Long n bytes = (n < 2 ^ 64) × (bytes ≡ to_be_bytes w64 n)
 Spells Boolean b bytes = bytes ≡ to_be_bytes w32 (number_of b)
 Spells (Count max) n bytes = (n ≤ max) × (n < 2 ^ 32) × (bytes ≡ to_be_bytes w32 n)
 Spells (Among test) n bytes = (test n ≡ true) × (n < 2 ^ 32) × (bytes ≡ to_be_bytes w32 n)
+Spells (LongAmong test) n bytes = (test n ≡ true) × (n < 2 ^ 64) × (bytes ≡ to_be_bytes w64 n)
+Spells (Byte test) n bytes = (test n ≡ true) × (n < 256) × (bytes ≡ n ∷ [])
 Spells (Opaque max) v bytes = (length v ≤ max) × (length v < 2 ^ 32) × (pad : List ℕ) × (length pad ≡ padding (length v)) × (bytes ≡ to_be_bytes w32 (length v) ++ (v ++ pad))
 Spells (OpaqueOf test) v bytes = (test (length v) ≡ true) × (length v < 2 ^ 32) × (pad : List ℕ) × (length pad ≡ padding (length v)) × (bytes ≡ to_be_bytes w32 (length v) ++ (v ++ pad))
 Spells (Fixed n) v bytes = (length v ≡ n) × (pad : List ℕ) × (length pad ≡ padding n) × (bytes ≡ v ++ pad)
@@ -80,6 +86,8 @@ Stuck {E} Long bytes stuck = NoneAt {E = E} Long bytes × (bytes ≡ stuck)
 Stuck {E} Boolean bytes stuck = NoneAt {E = E} Boolean bytes × (bytes ≡ stuck)
 Stuck {E} (Count max) bytes stuck = NoneAt {E = E} (Count max) bytes × (bytes ≡ stuck)
 Stuck {E} (Among test) bytes stuck = NoneAt {E = E} (Among test) bytes × (bytes ≡ stuck)
+Stuck {E} (LongAmong test) bytes stuck = NoneAt {E = E} (LongAmong test) bytes × (bytes ≡ stuck)
+Stuck {E} (Byte test) bytes stuck = NoneAt {E = E} (Byte test) bytes × (bytes ≡ stuck)
 Stuck {E} (Opaque max) bytes stuck = NoneAt {E = E} (Opaque max) bytes × (bytes ≡ stuck)
 Stuck {E} (OpaqueOf test) bytes stuck = NoneAt {E = E} (OpaqueOf test) bytes × (bytes ≡ stuck)
 Stuck {E} (Fixed n) bytes stuck = NoneAt {E = E} (Fixed n) bytes × (bytes ≡ stuck)
@@ -99,6 +107,8 @@ Leaving Long bytes status = ⊥
 Leaving Boolean bytes status = ⊥
 Leaving (Count max) bytes status = ⊥
 Leaving (Among test) bytes status = ⊥
+Leaving (LongAmong test) bytes status = ⊥
+Leaving (Byte test) bytes status = ⊥
 Leaving (Opaque max) bytes status = ⊥
 Leaving (OpaqueOf test) bytes status = ⊥
 Leaving (Fixed n) bytes status = ⊥

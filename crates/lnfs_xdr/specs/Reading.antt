@@ -3,7 +3,7 @@ use Rattle.std.specs.Prelude.{ℕ, zero, suc, ◌+◌, Bool, true, false, List, 
 use Rattle.std.specs.Int.{Width, w32, w64, byte_len, from_be_bytes}
 use Rattle.lnfs_xdr.specs.declared.error.XdrError.{XdrError}
 use Rattle.lnfs_xdr.specs.declared.error.XdrError.TheVariants.{Short, BadBool, TooLong}
-use Rattle.lnfs_xdr.specs.Format.{Format, Word, Long, Boolean, Count, Among, Opaque, OpaqueOf, Fixed, Raw, Outside, Done, If, Then, Linked, padding}
+use Rattle.lnfs_xdr.specs.Format.{Format, Word, Long, Boolean, Count, Among, LongAmong, Byte, Opaque, OpaqueOf, Fixed, Raw, Outside, Done, If, Then, Linked, padding}
 
 abbrev pub after : {D A B : Type 0} → Result (A × List ℕ) D → (A → List ℕ → Result (B × List ℕ) D) → Result (B × List ℕ) D
 after (Ok x) k = k x.0 x.1
@@ -23,8 +23,19 @@ boolean_at bytes = after (number_at w32 bytes) (λ n rest. if n == 0 then Ok (fa
 abbrev pub count_at : ℕ → List ℕ → Item ℕ
 count_at max bytes = after (number_at w32 bytes) (λ n rest. if nat_lt max n then Err TooLong else Ok (n, rest))
 
+-- a number that passes a test
+abbrev pub passing_at : Width → (ℕ → Bool) → List ℕ → Item ℕ
+passing_at w test bytes = after (number_at w bytes) (λ n rest. if test n then Ok (n, rest) else Err BadBool)
+
 abbrev pub among_at : (ℕ → Bool) → List ℕ → Item ℕ
-among_at test bytes = after (number_at w32 bytes) (λ n rest. if test n then Ok (n, rest) else Err BadBool)
+among_at test bytes = passing_at w32 test bytes
+
+abbrev pub long_among_at : (ℕ → Bool) → List ℕ → Item ℕ
+long_among_at test bytes = passing_at w64 test bytes
+
+abbrev pub byte_at : (ℕ → Bool) → List ℕ → Item ℕ
+byte_at test [] = Err Short
+byte_at test (b ∷ rest) = if test b then Ok (b, rest) else Err BadBool
 
 -- n bytes and what fills up their last word
 abbrev pub padded_at : ℕ → List ℕ → Item (List ℕ)
@@ -70,6 +81,8 @@ read Long bytes = here bytes (number_at w64 bytes)
 read Boolean bytes = here bytes (boolean_at bytes)
 read (Count max) bytes = here bytes (count_at max bytes)
 read (Among test) bytes = here bytes (among_at test bytes)
+read (LongAmong test) bytes = here bytes (long_among_at test bytes)
+read (Byte test) bytes = here bytes (byte_at test bytes)
 read (Opaque max) bytes = here bytes (opaque_at max bytes)
 read (OpaqueOf test) bytes = here bytes (opaque_of_at test bytes)
 read (Fixed n) bytes = here bytes (padded_at n bytes)

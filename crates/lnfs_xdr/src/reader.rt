@@ -1,10 +1,13 @@
-ghost use Rattle.std.specs.Prelude.{◌≡◌, ◌==◌, nat_lt, ◌+◌, ◌≤◌, length};
+ghost use Rattle.std.specs.Prelude.{◌≡◌, ◌==◌, nat_lt, nat_le, ◌+◌, ◌≤◌, length};
+ghost use Rattle.std.specs.List.{list_any};
 ghost use Rattle.std.specs.Int.{w32, w64};
-ghost use Rattle.lnfs_xdr.specs.Reading.{number_at, boolean_at, count_at, among_at, padded_at, opaque_at, raw_at};
+ghost use Rattle.lnfs_xdr.specs.Reading.{number_at, boolean_at, count_at, among_at, long_among_at, byte_at, padded_at, opaque_at, raw_at};
 ghost use Rattle.lnfs_xdr.specs.Cursor.{Gives};
 
 use crate::error::XdrError;
-use crate::slices::{boolean_of, count_of, long_of, opaque_of, padded_of, raw_of, word_of};
+use crate::slices::{
+    boolean_of, byte_of, count_of, long_of, opaque_of, padded_of, raw_of, word_of,
+};
 use std::marker::Model;
 
 /// Reads items from the front of bytes. A refusal leaves it where it was. No call takes memory.
@@ -128,6 +131,55 @@ impl<'a> XdrReader<'a> {
         if value != expected {
             return Err(XdrError::BadBool);
         }
+        self.rest = rest;
+        Ok(value)
+    }
+
+    /// A word that is one of these, as an enumeration is (RFC 4506 section 4.3). `BadBool` where it is another.
+    pub fn among(&mut self, values: &[u32]) -> Result<u32, XdrError>
+        ensures { Gives (λ n. n) result self.old self.new
+            (among_at (λ n. list_any (λ v. v == n) values.now) self.old.rest) }
+    {
+        let (value, rest) = word_of(self.rest)?;
+        if !values.contains(&value) {
+            return Err(XdrError::BadBool);
+        }
+        self.rest = rest;
+        Ok(value)
+    }
+
+    /// A hyper integer that is the expected one. `BadBool` where it is another.
+    pub fn long_constant(&mut self, expected: u64) -> Result<u64, XdrError>
+        ensures { Gives (λ n. n) result self.old self.new
+            (long_among_at (λ n. n == expected) self.old.rest) }
+    {
+        let (value, rest) = long_of(self.rest)?;
+        if value != expected {
+            return Err(XdrError::BadBool);
+        }
+        self.rest = rest;
+        Ok(value)
+    }
+
+    /// A hyper integer of at most `max`. `BadBool` where it is above.
+    pub fn long_at_most(&mut self, max: u64) -> Result<u64, XdrError>
+        ensures { Gives (λ n. n) result self.old self.new
+            (long_among_at (λ n. nat_le n max) self.old.rest) }
+    {
+        let (value, rest) = long_of(self.rest)?;
+        if value > max {
+            return Err(XdrError::BadBool);
+        }
+        self.rest = rest;
+        Ok(value)
+    }
+
+    /// A single byte of at most `max`: no item of XDR. `Short` where none is left, `BadBool` where it is above.
+    pub fn byte(&mut self, max: u8) -> Result<u8, XdrError>
+        ensures { Gives (λ n. n) result self.old self.new
+            (byte_at (λ n. nat_le n max) self.old.rest) }
+    {
+        let (value, rest) = byte_of(self.rest, max)?;
         self.rest = rest;
         Ok(value)
     }

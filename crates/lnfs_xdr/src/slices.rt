@@ -1,8 +1,8 @@
 //! Items at the front of a slice, each with what is left behind it.
-ghost use Rattle.std.specs.Prelude.{◌≡◌, ◌≤◌, length};
+ghost use Rattle.std.specs.Prelude.{◌≡◌, ◌≤◌, length, nat_le};
 ghost use Rattle.std.specs.Int.{w32, w64};
 ghost use Rattle.lnfs_xdr.specs.Cursor.{Takes};
-ghost use Rattle.lnfs_xdr.specs.Reading.{number_at, boolean_at, count_at, padded_at, opaque_at, raw_at};
+ghost use Rattle.lnfs_xdr.specs.Reading.{number_at, boolean_at, byte_at, count_at, padded_at, opaque_at, raw_at};
 
 use crate::error::XdrError;
 use byteorder::{BigEndian, ByteOrder};
@@ -41,6 +41,21 @@ pub fn boolean_of(bytes: &[u8]) -> Result<(bool, &[u8]), XdrError>
         1 => Ok((true, rest)),
         _ => Err(XdrError::BadBool),
     }
+}
+
+/// A byte of at most `max`.
+#[tactic(auto, using(crate::proofs::Words::byte_none, crate::proofs::Words::byte_some))]
+pub fn byte_of(bytes: &[u8], max: u8) -> Result<(u8, &[u8]), XdrError>
+    ensures { Takes (λ x. (x.0, x.1.now)) result (byte_at (λ n. nat_le n max) bytes.now) }
+{
+    if bytes.is_empty() {
+        return Err(XdrError::Short);
+    }
+    let value = bytes[0];
+    if value > max {
+        return Err(XdrError::BadBool);
+    }
+    Ok((value, &bytes[1..]))
 }
 
 /// A count of at most `max`, which stands before a variable number of elements or bytes.

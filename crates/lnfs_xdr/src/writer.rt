@@ -1,5 +1,5 @@
 ghost use Rattle.std.specs.Prelude.{◌≡◌, ◌++◌, ◌<◌, ◌^◌, [], length, take, OnOk, OnErr, IfOk};
-ghost use Rattle.lnfs_xdr.specs.Canon.{word, long, flag, padded, opaque};
+ghost use Rattle.lnfs_xdr.specs.Canon.{word, long, byte, flag, padded, opaque};
 
 use crate::buffer::Buffer;
 use std::alloc::{AllocError, Global};
@@ -76,6 +76,15 @@ impl XdrWriter {
         ensures err { OnErr result (self.new ≡ self.old) }
     {
         self.bytes.word(if v { 1 } else { 0 })
+    }
+
+    /// A single byte: no item of XDR.
+    #[tactic(auto, unfolding(crate::specs::Canon::byte))]
+    pub fn byte(&mut self, v: u8) -> Result<(), AllocError>
+        ensures ok { OnOk result (self.new ≡ self.old ++ byte v) }
+        ensures err { OnErr result (self.new ≡ self.old) }
+    {
+        self.bytes.raw(&[v])
     }
 
     /// Bytes of a length that the reader knows, and their pad bytes (RFC 4506 section 4.9).
