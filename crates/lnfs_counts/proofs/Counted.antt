@@ -1,10 +1,10 @@
 -- What is told of the levels is true of the rows after a change of both.
-use Rattle.std.proofs.Common.{◌≡◌, ◌≤◌, ℕ, Bool, true, false, cond, not, List, Option, Some, None, refl, sym, ap, ◌∙◌, subst, arith}
+use Rattle.std.proofs.Common.{◌≡◌, ◌≤◌, ℕ, Bool, true, false, cond, not, List, [], Option, Some, None, refl, sym, ap, ◌∙◌, subst, arith}
 use Rattle.std.specs.Prelude.{◌+◌, ◌-◌, ◌==◌, filter, count_by, is_some}
 use Rattle.std.proofs.lemmas.Bool.{false≢true}
 use Rattle.std.proofs.lemmas.Bool.Decides.{nat_tests}
 use Rattle.lnfs_world.specs.Rows.{inserted}
-use Rattle.lnfs_world.specs.World.{Id, level_order, same_id}
+use Rattle.lnfs_world.specs.World.{Id, level_order, last_of, same_id}
 use Rattle.lnfs_world.proofs.Sorted.{rising_filter}
 use Rattle.lnfs_world.proofs.Keys.{id_same, last_of-inserted}
 use Rattle.lnfs_world.proofs.KeptClients.{row_rises}
@@ -15,11 +15,46 @@ use Rattle.lnfs_counts.proofs.Counts.{one_if, count-added, count-set, count-drop
 abbrev pub with_number : ℕ → ℕ → (ℕ → ℕ) → ℕ → ℕ
 with_number level new f l = cond (level == l) new (f l)
 
+-- no row, where the last numbers are known
+pub none_counted : {X : Type 0} (id : X → Id) (lasts : List Id) (last count : ℕ → ℕ) → ((l : ℕ) → last l ≡ last_of l lasts) → ((l : ℕ) → count l ≡ 0) → IsCounted id [] lasts last count
+none_counted id lasts last count told none = record { rise = tt; given = λ i there. absurd (false≢true there); lasting = λ l. sym (told l); counted = none }
+
 module _ {X : Type 0} (id : X → Id) (rows : List X) (lasts : List Id) (last count : ℕ → ℕ) (kept : IsCounted id rows lasts last count) where
   -- what is told in the same way
   pub told_same : (rows' : List X) (lasts' : List Id) (last' count' : ℕ → ℕ) → rows' ≡ rows → lasts' ≡ lasts → ((l : ℕ) → last' l ≡ last l) → ((l : ℕ) → count' l ≡ count l) → IsCounted id rows' lasts' last' count'
   told_same rows' lasts' last' count' row given numbers counts =
       subst (λ (T : Type 0). T) (λ i. IsCounted id (sym row i) (sym given i) (λ l. sym (numbers l) i) (λ l. sym (counts l) i)) kept
+
+  -- ---- a row that wasn't there
+
+  module _ (row : X) (none : row_at id rows (id row) ≡ None) where
+    counted_added : (level : ℕ) → with_number (id row).level (count (id row).level + 1) count level ≡ count_by (λ x. (id x).level == level) (inserted (order_by id) row rows)
+    counted_added level = by ((id row).level == level) refl
+      where
+        more : count_by (λ x. (id x).level == level) (inserted (order_by id) row rows) ≡ count_by (λ x. (id x).level == level) rows + one_if ((id row).level == level)
+        more = count-added id (λ x. (id x).level == level) row rows none
+
+        by : (b : Bool) → ((id row).level == level) ≡ b → cond b (count (id row).level + 1) (count level) ≡ count_by (λ x. (id x).level == level) (inserted (order_by id) row rows)
+        by true is =
+            let same : (id row).level ≡ level = grind (arith, nat_tests, is) in
+            omega (arith, more, ap one_if is, kept.counted level, ap count same)
+        by false is = omega (arith, more, ap one_if is, kept.counted level)
+
+    given_among : (id row).number ≤ last (id row).level → (j : Id) → is_some (row_at id (inserted (order_by id) row rows) j) ≡ true → j.number ≤ last j.level
+    given_among own j there = by (same_id j (id row)) refl (sym (ap is_some (row_at-inserted id row rows j)) ∙ there)
+      where
+        by : (b : Bool) → same_id j (id row) ≡ b → is_some (cond b (Some row) (row_at id rows j)) ≡ true → j.number ≤ last j.level
+        by true is some = subst (λ (i : Id). i.number ≤ last i.level) (sym (id_same j (id row) is)) own
+        by false is some = kept.given j some
+
+    -- one whose number was given before
+    pub added_given : (id row).number ≤ last (id row).level → IsCounted id (inserted (order_by id) row rows) lasts last (with_number (id row).level (count (id row).level + 1) count)
+    added_given own = record {
+      rise = row_rises id row rows kept.rise;
+      given = given_among own;
+      lasting = kept.lasting;
+      counted = counted_added;
+    }
 
   -- ---- a new row
 
@@ -44,24 +79,12 @@ module _ {X : Type 0} (id : X → Id) (rows : List X) (lasts : List Id) (last co
                 omega (arith, kept.given j some, next, ap last here)
             level false same = kept.given j some
 
-    counted_added : (level : ℕ) → with_number (id row).level (count (id row).level + 1) count level ≡ count_by (λ x. (id x).level == level) (inserted (order_by id) row rows)
-    counted_added level = by ((id row).level == level) refl
-      where
-        more : count_by (λ x. (id x).level == level) (inserted (order_by id) row rows) ≡ count_by (λ x. (id x).level == level) rows + one_if ((id row).level == level)
-        more = count-added id (λ x. (id x).level == level) row rows absent
-
-        by : (b : Bool) → ((id row).level == level) ≡ b → cond b (count (id row).level + 1) (count level) ≡ count_by (λ x. (id x).level == level) (inserted (order_by id) row rows)
-        by true is =
-            let same : (id row).level ≡ level = grind (arith, nat_tests, is) in
-            omega (arith, more, ap one_if is, kept.counted level, ap count same)
-        by false is = omega (arith, more, ap one_if is, kept.counted level)
-
     pub added : IsCounted id (inserted (order_by id) row rows) (inserted level_order (id row) lasts) (with_number (id row).level (id row).number last) (with_number (id row).level (count (id row).level + 1) count)
     added = record {
       rise = row_rises id row rows kept.rise;
       given = given_added;
       lasting = λ l. last_of-inserted (id row) lasts l ∙ ap (λ (n : ℕ). cond ((id row).level == l) (id row).number n) (kept.lasting l);
-      counted = counted_added;
+      counted = counted_added row absent;
     }
 
   -- ---- a row gets another state

@@ -17,7 +17,7 @@ use Rattle.lnfs_counts.specs.Levels.{lasts_by}
 -- ---- the last numbers as a list
 
 module _ {V : Type 0} (last : V → ℕ) where
-  abbrev at : ℕ → List (ℕ × V) → Option V
+  abbrev pub at : ℕ → List (ℕ × V) → Option V
   at level es = lookup (λ k. is_eq (nat_cmp level k)) es
 
   -- a level that was given no number is not seen
@@ -47,7 +47,7 @@ module _ {V : Type 0} (last : V → ℕ) where
       by true is rest = grind (arith, is)
       by false is rest = grind (arith, is, all.0)
 
-  below : (level key : ℕ) (es : List (ℕ × V)) → nat_cmp level key ≡ Less → AllByRecursion (λ k. nat_cmp key k ≡ Less) (keys_of es) → at level es ≡ None
+  pub below : (level key : ℕ) (es : List (ℕ × V)) → nat_cmp level key ≡ Less → AllByRecursion (λ k. nat_cmp key k ≡ Less) (keys_of es) → at level es ≡ None
   below level key [] less all = refl
   below level key (e ∷ es) less all = grind (arith, nat_tests, below level key es less all.1, all.0)
 

@@ -4,3 +4,6 @@ pub mod Entries
 pub mod Rows
 pub mod Counts
 pub mod Counted
+pub mod Made
+pub mod Coming
+pub mod Telling

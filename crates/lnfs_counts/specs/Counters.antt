@@ -1,7 +1,8 @@
 -- What the counters of levels tell.
-use Rattle.std.specs.Prelude.{◌≡◌, ℕ, List}
+use Rattle.std.specs.Prelude.{◌≡◌, ◌<◌, ◌≤◌, ◌^◌, ℕ, List}
 use Rattle.std.specs.BTreeMap.{BTreeMap}
 use Rattle.lnfs_world.specs.World.{Id}
+use Rattle.lnfs_world.specs.declared.numbers.TheConstants.{LAST_NUMBER}
 use Rattle.lnfs_counts.specs.declared.counters.Counter.{Counter}
 use Rattle.lnfs_counts.specs.Levels.{told_at, lasts_by}
 
@@ -25,3 +26,8 @@ pub record TellSame (a b : Counters) : Type 0 where
   pub last : (level : ℕ) → last_at b level ≡ last_at a level
   pub count : (level : ℕ) → count_at b level ≡ count_at a level
   pub lasts : lasts_of b.entries ≡ lasts_of a.entries
+
+-- a last number that a counter can have, of a level that can have one
+pub record FitsCounter (i : Id) : Type 0 where
+  pub level : i.level < 2 ^ 32
+  pub number : i.number ≤ LAST_NUMBER

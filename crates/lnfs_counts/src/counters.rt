@@ -72,6 +72,21 @@ pub fn count_one(counters: &mut BTreeMap<u32, Counter>, level: u32, number: u32)
     };
 }
 
+/// Counts one more row of a level, under a number that it was given before.
+pub fn count_given(counters: &mut BTreeMap<u32, Counter>, level: u32)
+    requires given { 0 < last_at counters.old level }
+    requires few { count_at counters.old level < LAST_NUMBER }
+    ensures last { (l : ℕ) → last_at counters.new l ≡ last_at counters.old l }
+    ensures count { (l : ℕ) → count_at counters.new l
+        ≡ cond (level == l) (count_at counters.old level + 1) (count_at counters.old l) }
+    ensures lasts { lasts_of counters.new.entries ≡ lasts_of counters.old.entries }
+{
+    let Some(found) = counters.get_mut(&level) else {
+        return;
+    };
+    found.count += 1;
+}
+
 /// Counts one row less of a level.
 pub fn count_off(counters: &mut BTreeMap<u32, Counter>, level: u32)
     ensures last { (l : ℕ) → last_at counters.new l ≡ last_at counters.old l }

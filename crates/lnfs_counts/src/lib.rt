@@ -5,5 +5,7 @@
 #![tactic(auto)]
 
 mod counters;
+mod dense;
 
-pub use counters::{Counter, count, count_off, count_one, last_given, make_counter};
+pub use counters::{Counter, count, count_given, count_off, count_one, last_given, make_counter};
+pub use dense::{counters_of, last_numbers};

@@ -3,6 +3,7 @@
 //!
 //! `specs/Who.antt` says who a call comes from, `specs/Mechanism.antt` what a signature is, `specs/Grammar.antt` what such a
 //! call carries, `specs/Replies.antt` how it is answered, and `specs/Contexts.antt` what is kept of contexts.
+//! `specs/Makes.antt` says of what rows contexts can be made.
 #![tactic(auto)]
 
 mod caller;
@@ -21,6 +22,7 @@ mod plain;
 mod replies;
 mod rows;
 mod signing;
+mod told;
 mod whose;
 
 pub use caller::Caller;

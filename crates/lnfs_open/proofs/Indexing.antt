@@ -10,6 +10,7 @@ use Rattle.lnfs_world.specs.Change.{is_open_of}
 use Rattle.lnfs_world.proofs.Rows.{all_weaker}
 use Rattle.lnfs_world.proofs.Keys.{id_same, id_itself, bytes_same, bytes_itself}
 use Rattle.lnfs_counts.proofs.Rows.{each_at, found_id, passing, none_passes, one_passes, row_at-inserted, row_at-dropped}
+use Rattle.lnfs_counts.specs.Counted.{IsCounted}
 use Rattle.lnfs_counts.proofs.Counted as counting
 use Rattle.lnfs_counts.proofs.Counted.{with_number}
 use Rattle.lnfs_open.specs.Lists.{Lists}
@@ -52,6 +53,16 @@ at_number rows level (Some number) = open_at rows (record { level = level; numbe
 
 abbrev pub client_of : Open → Id
 client_of o = record { level = o.id.level; number = o.client }
+
+-- with one more open, and what is then told of the levels
+abbrev pub entered_index : Index → Open → (last opens : ℕ → ℕ) → Index
+entered_index ix row last opens = record {
+  last = last;
+  opens = opens;
+  nodes = entered_in row.node row.id ix.nodes;
+  clients = entered_in (client_of row) row.id ix.clients;
+  number = numbered (client_of row) row.node row.owner (Some row.id.number) ix.number;
+}
 
 module _ (s : Lists) (ix : Index) (kept : IsIndexed s ix) where
   -- ---- by client, node and name
@@ -135,26 +146,14 @@ module _ (s : Lists) (ix : Index) (kept : IsIndexed s ix) where
       there = λ client node name number known. set_keeps (λ x. passes (is_matter client node name) x ≡ true) (λ h. h) (record { level = client.level; number = number }) (kept.there client node name number known);
     }
 
-  -- ---- a new open
+  -- ---- an open that wasn't there
 
-  module _ (row : Open) (next : row.id.number ≡ ix.last row.id.level + 1) (none : ix.number (client_of row) row.node row.owner ≡ None) where
-    pub absent : open_at s.opens row.id ≡ None
-    absent = counting.absent own_id s.opens s.lasts ix.last ix.opens kept.counted row next
+  module _ (row : Open) (absent : open_at s.opens row.id ≡ None) (none : ix.number (client_of row) row.node row.owner ≡ None) where
+    pub not_of_node : ix.nodes row.node row.id ≡ false
+    not_of_node = kept.nodes row.node row.id ∙ ap (passes (λ y. same_id row.node y.node)) absent
 
-    pub none_of_node : ix.nodes row.node row.id ≡ false
-    none_of_node = kept.nodes row.node row.id ∙ ap (passes (λ y. same_id row.node y.node)) absent
-
-    pub none_of_client : ix.clients (client_of row) row.id ≡ false
-    none_of_client = kept.clients (client_of row) row.id ∙ ap (passes (is_open_of (client_of row))) absent
-
-    abbrev Entered : Index
-    Entered = record {
-      last = with_number row.id.level row.id.number ix.last;
-      opens = with_number row.id.level (ix.opens row.id.level + 1) ix.opens;
-      nodes = entered_in row.node row.id ix.nodes;
-      clients = entered_in (client_of row) row.id ix.clients;
-      number = numbered (client_of row) row.node row.owner (Some row.id.number) ix.number;
-    }
+    pub not_of_client : ix.clients (client_of row) row.id ≡ false
+    not_of_client = kept.clients (client_of row) row.id ∙ ap (passes (is_open_of (client_of row))) absent
 
     add_keeps : (P : Option Open → Type 0) (j : Id) → (same_id j row.id ≡ true → P (Some row)) → (same_id j row.id ≡ false → P (open_at s.opens j)) → P (open_at (inserted open_order row s.opens) j)
     add_keeps P j new old = subst P (sym (row_at-inserted own_id row s.opens j)) (by (same_id j row.id) refl)
@@ -212,14 +211,30 @@ module _ (s : Lists) (ix : Index) (kept : IsIndexed s ix) where
             (λ own. absurd (let old = kept.there client node name number known in let gone = ap (open_at s.opens) (id_same (record { level = client.level; number = number }) row.id own) ∙ absent in false≢true (ap (passes (is_matter client node name)) (sym gone) ∙ old)))
             (λ other. kept.there client node name number known)
 
-    pub entered : IsIndexed (record { opens = inserted open_order row s.opens; lasts = inserted level_order row.id s.lasts }) Entered
-    entered = record {
-      counted = counting.added own_id s.opens s.lasts ix.last ix.opens kept.counted row next;
+    pub entered_by : (lasts : List Id) (last opens : ℕ → ℕ) → IsCounted own_id (inserted open_order row s.opens) lasts last opens → IsIndexed (record { opens = inserted open_order row s.opens; lasts = lasts }) (entered_index ix row last opens)
+    entered_by lasts last opens counted = record {
+      counted = counted;
       nodes = grouped ix.nodes row.node (λ n y. same_id n y.node) kept.nodes (λ n. grind (arith, nat_tests));
       clients = grouped ix.clients (client_of row) is_open_of kept.clients (λ c. grind (arith, nat_tests));
       filed = filed_added;
       there = there_added;
     }
+
+  -- ---- a new open
+
+  module _ (row : Open) (next : row.id.number ≡ ix.last row.id.level + 1) (none : ix.number (client_of row) row.node row.owner ≡ None) where
+    pub absent : open_at s.opens row.id ≡ None
+    absent = counting.absent own_id s.opens s.lasts ix.last ix.opens kept.counted row next
+
+    pub none_of_node : ix.nodes row.node row.id ≡ false
+    none_of_node = not_of_node row absent none
+
+    pub none_of_client : ix.clients (client_of row) row.id ≡ false
+    none_of_client = not_of_client row absent none
+
+    pub entered : IsIndexed (record { opens = inserted open_order row s.opens; lasts = inserted level_order row.id s.lasts })
+        (entered_index ix row (with_number row.id.level row.id.number ix.last) (with_number row.id.level (ix.opens row.id.level + 1) ix.opens))
+    entered = entered_by row absent none (inserted level_order row.id s.lasts) _ _ (counting.added own_id s.opens s.lasts ix.last ix.opens kept.counted row next)
 
   -- ---- an open goes
 

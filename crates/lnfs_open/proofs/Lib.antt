@@ -12,3 +12,4 @@ pub mod Runs
 pub mod Certain
 pub mod Sharings
 pub mod Yielding
+pub mod Remade

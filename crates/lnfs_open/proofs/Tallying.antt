@@ -11,6 +11,7 @@ use Rattle.lnfs_world.specs.Rows.{Rising, inserted}
 use Rattle.lnfs_world.specs.World.{Id, Open, open_order, same_id}
 use Rattle.lnfs_world.proofs.Rows.{all_weaker}
 use Rattle.lnfs_world.proofs.Keys.{id_same, id_itself, id_equal, id_tied}
+use Rattle.lnfs_world.specs.declared.numbers.TheConstants.{LAST_NUMBER}
 use Rattle.lnfs_counts.proofs.Counts.{counts, count-added, count-dropped}
 use Rattle.lnfs_counts.proofs.Rows.{before, found_id, gone, none_gone, row_at-dropped}
 use Rattle.lnfs_open.specs.declared.bits.TheConstants.{READING, WRITING}
@@ -47,10 +48,13 @@ module _ (opens : List Open) (node : Id) (level : ℕ) where
   }
 
 -- a level that has room for one more has it in each layer
+pub room_in : (opens : List Open) (node : Id) (level : ℕ) → count_by (λ o. o.id.level == level) opens < LAST_NUMBER → HasRoom (tally_of opens node level)
+room_in opens node level few =
+    let layer : count_by (in_layer node level) opens ≤ count_by (λ o. o.id.level == level) opens = count_weaker (in_layer node level) (λ o. o.id.level == level) (λ o both. grind (arith, both)) opens in
+    record { few = omega (arith, layer, few); sound = sound opens node level }
+
 pub room : (s : Lists) (node : Id) (level : ℕ) → has_open_left s level ≡ true → HasRoom (tally_of s.opens node level)
-room s node level left =
-    let layer : count_by (in_layer node level) s.opens ≤ count_by (λ o. o.id.level == level) s.opens = count_weaker (in_layer node level) (λ o. o.id.level == level) (λ o both. grind (arith, both)) s.opens in
-    record { few = grind (arith, nat_tests, layer, left); sound = sound s.opens node level }
+room s node level left = room_in s.opens node level (grind (arith, nat_tests, left))
 
 -- ---- a new open
 

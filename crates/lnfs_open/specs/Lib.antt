@@ -8,3 +8,4 @@ pub mod Indexed
 pub mod Finding
 pub mod Kept
 pub mod Stopping
+pub mod Makes

@@ -24,7 +24,7 @@ use std::collections::BTreeMap;
 
 /// Adds an open under a new identifier, and makes the row of its layer, where there is none. Where memory is wanting, that row
 /// is taken back.
-fn place_row(
+pub(crate) fn place_row(
     rows: &mut BTreeMap<Key, OpenRow>,
     tallies: &mut Tallies,
     layer: Layer,

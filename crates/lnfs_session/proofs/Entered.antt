@@ -1,6 +1,6 @@
 -- Client records stay indexed where one is entered, or gets another state.
 use Rattle.std.proofs.Common.{◌≡◌, ◌≤◌, ℕ, Bool, true, false, cond, List, Option, Some, None, inl, inr, refl, sym, ap, ◌∙◌, subst, arith}
-use Rattle.std.specs.Prelude.{◌+◌, ◌==◌, ◌&&◌, ◌⊎◌}
+use Rattle.std.specs.Prelude.{◌+◌, ◌<◌, ◌==◌, ◌&&◌, ◌⊎◌}
 use Rattle.std.specs.Str.{bytes_eq}
 use Rattle.std.proofs.lemmas.Bool.{false≢true}
 use Rattle.std.proofs.lemmas.Bool.Decides.{nat_tests}
@@ -13,10 +13,26 @@ use Rattle.lnfs_counts.proofs.Rows.{found_id}
 use Rattle.lnfs_counts.proofs.Counted as counting
 use Rattle.lnfs_counts.proofs.Counted.{with_number}
 use Rattle.lnfs_session.specs.declared.levels.OwnerNumbers.{OwnerNumbers}
-use Rattle.lnfs_session.specs.Levels.{number_by}
+use Rattle.lnfs_session.specs.Levels.{number_by, put_number}
 use Rattle.lnfs_session.specs.Standing.{clients_set}
 use Rattle.lnfs_session.specs.Indexed.{own_id, IsIndexed, is_record_of}
-use Rattle.lnfs_session.proofs.Reindexed.{with_numbers, keyed}
+use Rattle.lnfs_session.proofs.Reindexed.{with_numbers, keyed, flags_same}
+
+put-own : (a b : Bool) (number : ℕ) (n : OwnerNumbers) → same_flag a b ≡ true → number_by a (put_number b number n) ≡ Some number
+put-own true true number n is = refl
+put-own true false number n is = absurd (false≢true is)
+put-own false true number n is = absurd (false≢true is)
+put-own false false number n is = refl
+
+put-other : (a b : Bool) (number : ℕ) (n : OwnerNumbers) → same_flag a b ≡ false → number_by a (put_number b number n) ≡ number_by a n
+put-other true true number n is = absurd (false≢true (sym is))
+put-other true false number n is = refl
+put-other false true number n is = refl
+put-other false false number n is = absurd (false≢true (sym is))
+
+flag_itself : (b : Bool) → same_flag b b ≡ true
+flag_itself true = refl
+flag_itself false = refl
 
 module _ (rows : List Client) (lasts : List Id) (last records : ℕ → ℕ) (numbers : ℕ → List ℕ → OwnerNumbers) (ix : IsIndexed rows lasts last records numbers) (row : Client) where
   abbrev new : List Client
@@ -184,6 +200,68 @@ module _ (rows : List Client) (lasts : List Id) (last records : ℕ → ℕ) (nu
       filed = by_row (λ j d. number_by d.confirmed (Added j.level d.owner) ≡ Some j.number) (λ t. number_by (pending t) (cond (own_key t) N (numbers row.id.level row.owner))) filed_beside;
       there = there_added;
       few = few_added;
+    }
+
+  -- ---- a record of an owner that has none that is confirmed, or pending, as it is. Its number was given before
+
+  module _ (fresh : client_at rows row.id ≡ None) (given : row.id.number ≤ last row.id.level) (left : records row.id.level < last row.id.level) (none : number_by row.confirmed (numbers row.id.level row.owner) ≡ None) where
+    abbrev Own : OwnerNumbers
+    Own = put_number row.confirmed row.id.number (numbers row.id.level row.owner)
+
+    abbrev Filed : ℕ → List ℕ → OwnerNumbers
+    Filed = with_numbers row.id.level row.owner Own numbers
+
+    filed_others : (j : Id) (d : Client) → same_id j row.id ≡ false → client_at rows j ≡ Some d → number_by d.confirmed (Filed j.level d.owner) ≡ Some j.number
+    filed_others j d is at = by (row.id.level == j.level && bytes_eq row.owner d.owner) (same_flag d.confirmed row.confirmed) refl refl (ix.filed j d at)
+      where
+        by : (key flag : Bool) → (row.id.level == j.level && bytes_eq row.owner d.owner) ≡ key → same_flag d.confirmed row.confirmed ≡ flag → number_by d.confirmed (numbers j.level d.owner) ≡ Some j.number → number_by d.confirmed (cond key Own (numbers j.level d.owner)) ≡ Some j.number
+        by false flag key same old = old
+        by true true key same old =
+            let k = keyed row.id.level j.level row.owner d.owner key in
+            let here : number_by row.confirmed (numbers row.id.level row.owner) ≡ Some j.number = (λ t. number_by (sym (flags_same d.confirmed row.confirmed same) t) (numbers (k.0 t) (k.1 t))) ∙ old in
+            absurd (cc)
+        by true false key same old =
+            let k = keyed row.id.level j.level row.owner d.owner key in
+            put-other d.confirmed row.confirmed row.id.number (numbers row.id.level row.owner) same ∙ (λ t. number_by d.confirmed (numbers (k.0 t) (k.1 t))) ∙ old
+
+    there_filed : (level : ℕ) (o : List ℕ) (flag : Bool) (number : ℕ) → number_by flag (Filed level o) ≡ Some number → is_record_of o flag (client_at new (record { level = level; number = number })) ≡ true
+    there_filed level o flag number = by (row.id.level == level && bytes_eq row.owner o) (same_flag flag row.confirmed) refl refl
+      where
+        j : Id
+        j = record { level = level; number = number }
+
+        old : number_by flag (numbers level o) ≡ Some number → is_record_of o flag (client_at new j) ≡ true
+        old known = by_place (λ x. is_record_of o flag x ≡ true) j
+            (λ is. absurd (false≢true (sym (ap (is_record_of o flag) (ap (client_at rows) (id_same j row.id is) ∙ fresh)) ∙ ix.there level o flag number known)))
+            (λ is. ix.there level o flag number known)
+
+        by : (key own : Bool) → (row.id.level == level && bytes_eq row.owner o) ≡ key → same_flag flag row.confirmed ≡ own → number_by flag (cond key Own (numbers level o)) ≡ Some number → is_record_of o flag (client_at new j) ≡ true
+        by false own key same known = old known
+        by true false key same known =
+            let k = keyed row.id.level level row.owner o key in
+            old ((λ t. number_by flag (numbers (sym k.0 t) (sym k.1 t))) ∙ sym (put-other flag row.confirmed row.id.number (numbers row.id.level row.owner) same) ∙ known)
+        by true true key same known =
+            let k = keyed row.id.level level row.owner o key in
+            let put : number_by flag Own ≡ Some row.id.number = put-own flag row.confirmed row.id.number (numbers row.id.level row.owner) same in
+            let number_is : row.id.number ≡ number = cc in
+            let level_is = k.0 in
+            ap (is_record_of o flag) (at_own j (grind (arith, nat_tests, level_is, number_is))) ∙ (λ t. bytes_eq row.owner (sym k.1 t) && same_flag row.confirmed (flags_same flag row.confirmed same t)) ∙ grind (arith, bytes_itself row.owner, flag_itself row.confirmed)
+
+    few_filed : (level : ℕ) → with_number row.id.level (records row.id.level + 1) records level ≤ last level
+    few_filed level = by (row.id.level == level) refl
+      where
+        by : (b : Bool) → (row.id.level == level) ≡ b → cond b (records row.id.level + 1) (records level) ≤ last level
+        by true is =
+            let same : row.id.level ≡ level = grind (arith, nat_tests) in
+            omega (arith, left, ap last same)
+        by false is = ix.few level
+
+    pub filed_given : IsIndexed new lasts last (with_number row.id.level (records row.id.level + 1) records) Filed
+    filed_given = record {
+      counted = counting.added_given own_id rows lasts last records ix.counted row fresh given;
+      filed = by_row (λ j d. number_by d.confirmed (Filed j.level d.owner) ≡ Some j.number) ((λ t. number_by row.confirmed (cond (own_key t) Own (numbers row.id.level row.owner))) ∙ put-own row.confirmed row.confirmed row.id.number (numbers row.id.level row.owner) (flag_itself row.confirmed)) filed_others;
+      there = there_filed;
+      few = few_filed;
     }
 
 -- a state that keeps what its owner is found by

@@ -14,6 +14,9 @@ pub mod Reindexed
 pub mod Entered
 pub mod Replaced
 pub mod Confirming
+pub mod LastNumbers
+pub mod Filed
+pub mod Sound
 pub mod ClientRows
 pub mod Recounted
 mod Slots

@@ -34,7 +34,7 @@ cleared-other true false n is = refl
 cleared-other false true n is = refl
 cleared-other false false n is = absurd (false≢true (sym is))
 
-flags_same : (a b : Bool) → same_flag a b ≡ true → a ≡ b
+pub flags_same : (a b : Bool) → same_flag a b ≡ true → a ≡ b
 flags_same true true is = refl
 flags_same true false is = absurd (false≢true is)
 flags_same false true is = absurd (false≢true is)

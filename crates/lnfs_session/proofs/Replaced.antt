@@ -1,15 +1,13 @@
 -- Client records stay indexed where one of an owner takes the place of another.
 use Rattle.std.proofs.Common.{◌≡◌, ℕ, Bool, true, false, cond, not, List, [], ◌∷◌, Option, Some, None, refl, sym, ap, ◌∙◌, subst, arith}
 use Rattle.std.specs.Prelude.{◌+◌, ◌-◌, ◌==◌, ◌&&◌, filter, find, option_map, is_some}
-use Rattle.std.specs.List.{AllByRecursion}
 use Rattle.std.specs.Str.{bytes_eq}
 use Rattle.std.specs.declared.cmp.Ordering.{Ordering}
 use Rattle.std.specs.declared.cmp.Ordering.TheVariants.{Less, Equal, Greater}
 use Rattle.std.proofs.lemmas.Bool.Decides.{nat_tests}
 use Rattle.lnfs_world.specs.Rows.{Rising, inserted}
 use Rattle.lnfs_world.specs.World.{Id, Client, client_order, level_order, same_id, client_at}
-use Rattle.lnfs_world.proofs.Rows.{all_weaker}
-use Rattle.lnfs_world.proofs.Keys.{id_before, id_equal, id_same, bytes_itself}
+use Rattle.lnfs_world.proofs.Keys.{id_equal, id_same, bytes_itself}
 use Rattle.lnfs_operations.specs.ExchangeId.{is_pending}
 use Rattle.lnfs_counts.proofs.Rows.{before, filter-inserted}
 use Rattle.lnfs_counts.proofs.Counted.{with_number}

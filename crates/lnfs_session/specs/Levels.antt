@@ -3,7 +3,7 @@ use Rattle.std.specs.Prelude.{◌≡◌, ℕ, ◌-◌, Bool, true, false, List, 
 use Rattle.std.specs.Ordering.{nat_cmp}
 use Rattle.std.specs.Cmp.Lexicographic.{slice_cmp}
 use Rattle.std.specs.BTreeMap.{BTreeMap, get, get_by}
-use Rattle.lnfs_world.specs.World.{Id}
+use Rattle.lnfs_world.specs.World.{Id, last_of}
 use Rattle.lnfs_counts.specs.Levels.{told_at, lasts_by}
 use Rattle.lnfs_session.specs.declared.levels.OwnerNumbers.{OwnerNumbers}
 use Rattle.lnfs_session.specs.declared.levels.LevelRecords.{LevelRecords}
@@ -56,6 +56,11 @@ abbrev pub number_by : Bool → OwnerNumbers → Option ℕ
 number_by true numbers = numbers.confirmed
 number_by false numbers = numbers.pending
 
+-- an owner's numbers where its confirmed record has a number, or its pending one
+abbrev pub put_number : Bool → ℕ → OwnerNumbers → OwnerNumbers
+put_number true number numbers = record numbers { confirmed = Some number }
+put_number false number numbers = record numbers { pending = Some number }
+
 -- an owner's numbers without the one or the other
 abbrev pub cleared : Bool → OwnerNumbers → OwnerNumbers
 cleared true numbers = record numbers { confirmed = None }
@@ -79,3 +84,9 @@ pub record AllTellSame (a b : Levels) : Type 0 where
   pub records : (level : ℕ) → records_at b level ≡ records_at a level
   pub numbers : (level : ℕ) (owner : List ℕ) → numbers_at b level owner ≡ numbers_at a level owner
   pub lasts : lasts_of b.entries ≡ lasts_of a.entries
+
+-- No level has a record. The last numbers are those that were given.
+pub record HaveNone (a : Levels) : Type 0 where
+  pub lasting : (level : ℕ) → last_of level (lasts_of a.entries) ≡ last_at a level
+  pub records : (level : ℕ) → records_at a level ≡ 0
+  pub numbers : (level : ℕ) (owner : List ℕ) → numbers_at a level owner ≡ no_numbers

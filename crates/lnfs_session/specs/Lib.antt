@@ -8,3 +8,4 @@ pub mod Levels
 pub mod Indexed
 pub mod Records
 pub mod Sessions
+pub mod Makes

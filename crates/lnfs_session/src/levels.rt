@@ -130,7 +130,7 @@ pub fn numbers_at(levels: &BTreeMap<u32, LevelRecords>, level: u32, owner: &[u8]
 }
 
 /// Makes a level that was given no number, where there is none.
-fn make_level(
+pub fn make_level(
     levels: &mut BTreeMap<u32, LevelRecords>,
     alloc: Global,
     level: u32,

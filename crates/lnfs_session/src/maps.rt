@@ -2,13 +2,27 @@
 ghost use Rattle.std.specs.Prelude.{◌≡◌, ◌||◌, true, IfSome, not, is_some, OnOk, OnErr, filter, map, option_map};
 ghost use Rattle.std.specs.List.{find, list_all};
 ghost use Rattle.lnfs_world.specs.Rows.{inserted};
-ghost use Rattle.lnfs_world.specs.World.{session_order, session_at, same_id};
+ghost use Rattle.lnfs_world.specs.World.{client_order, session_order, session_at, same_id};
 ghost use Rattle.lnfs_world.specs.Change.{is_session_of};
 ghost use Rattle.lnfs_session.specs.Listed.{id_of, session_id_of, client_of, session_of};
 
 use crate::rows::{Client, ClientRef, Session, SessionRef};
 use std::alloc::AllocError;
 use std::collections::BTreeMap;
+
+/// Adds a client's record under a new identifier. Where memory is wanting, nothing changes.
+pub fn add_client(
+    clients: &mut BTreeMap<ClientRef, Client>,
+    id: ClientRef,
+    client: Client,
+) -> Result<(), AllocError>
+    ensures added { OnOk result (map client_of clients.new.entries
+        ≡ inserted client_order (client_of (id, client)) (map client_of clients.old.entries)) }
+    ensures kept { OnErr result (clients.new.entries ≡ clients.old.entries) }
+{
+    clients.insert(id, client)?;
+    Ok(())
+}
 
 /// Adds a session under a new identifier. Where memory is wanting, nothing changes.
 pub fn add_session(

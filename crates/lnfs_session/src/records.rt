@@ -1,19 +1,26 @@
 //! The records of the clients of all levels, found by their identifiers and by their owners (RFC 8881
 //! section 18.35.4).
-ghost use Rattle.std.specs.Prelude.{◌≡◌, ◌<◌, OnOk, OnErr, IfOk, not, filter, option_map};
+ghost use Rattle.std.specs.Prelude.{◌≡◌, ◌<◌, OnOk, OnErr, IfOk, not, filter, map, option_map};
 ghost use Rattle.std.specs.List.{find};
 ghost use Rattle.lnfs_world.specs.World.{client_at, last_of, same_id};
 ghost use Rattle.lnfs_operations.specs.ExchangeId.{is_confirmed_as, is_pending, others_of};
+ghost use Rattle.lnfs_rows.specs.Told as told;
+ghost use Rattle.lnfs_rows.specs.Lasts.{given_of, each_of};
 ghost use Rattle.lnfs_session.specs.Listed.{id_of, client_of, kept_of};
 ghost use Rattle.lnfs_session.specs.Standing.{answered, reclaimed, seen_at, clients_set};
 ghost use Rattle.lnfs_session.specs.Records.{no_clients, next_id, pending_replaced, replaced_by, with_confirmed};
+ghost use Rattle.lnfs_session.specs.Makes.{MakesRecords};
 
 use crate::client_rows::{add_new, drop_any, keep_answer, mark_reclaimed, set_confirmed, set_seen};
+use crate::filing::file_clients;
 use crate::levels::{LevelRecords, count, free_place, last_given, make_place, numbers_at};
+use crate::making::make_clients;
 use crate::maps::drop_client;
 use crate::named::client_at;
 use crate::owners::{clear_number, confirm_number, enter_number, numbered, without};
 use crate::rows::{Client, ClientRef, Kept};
+use crate::telling::client_rows;
+use lnfs_rows::ClientRow;
 use lnfs_world::numbers::LAST_NUMBER;
 use std::alloc::{AllocError, Global};
 use std::collections::BTreeMap;
@@ -55,6 +62,43 @@ impl Records {
             rows: BTreeMap::new(alloc),
             levels: BTreeMap::new(alloc),
         }
+    }
+
+    /// The records of just these rows and last numbers by level.
+    pub fn from_rows(
+        alloc: Global,
+        rows: &[ClientRow<'_>],
+        lasts: &[u64],
+    ) -> Result<Records, AllocError>
+        requires { MakesRecords (map told.client_of rows.now) (given_of lasts.now) }
+        ensures { IfOk result (λ records. records
+            ≡ record { clients = map told.client_of rows.now; lasts = given_of lasts.now }) }
+    {
+        let levels = file_clients(alloc, rows, lasts)?;
+        let rows = make_clients(alloc, rows)?;
+        Ok(Records {
+            alloc,
+            rows,
+            levels,
+        })
+    }
+
+    /// The records as rows.
+    pub fn rows(&self) -> Result<Vec<ClientRow<'_>>, AllocError>
+        ensures { IfOk result (λ rows. map told.client_of rows.items ≡ self.now.clients) }
+    {
+        client_rows(self.alloc, &self.rows)
+    }
+
+    /// The last number of each of so many levels, 0 where a level gave none.
+    pub fn last_numbers(&self, levels: u32) -> Result<Vec<u64>, AllocError>
+        ensures { IfOk result (λ numbers. numbers.items ≡ each_of levels self.now.lasts) }
+    {
+        let mut numbers = Vec::new(self.alloc);
+        for level in 0..levels {
+            numbers.push(u64::from(self.last(level)))?;
+        }
+        Ok(numbers)
     }
 
     /// The record of an identifier.

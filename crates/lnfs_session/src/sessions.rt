@@ -1,5 +1,5 @@
 //! The sessions of all levels, found by their identifiers and by their clients (RFC 8881 section 18.36).
-ghost use Rattle.std.specs.Prelude.{◌≡◌, ◌+◌, ◌<◌, ◌||◌, true, not, Bool, IsTrue, Some, IfOk, OnOk, OnErr, IfSome, filter, option_map};
+ghost use Rattle.std.specs.Prelude.{◌≡◌, ◌+◌, ◌<◌, ◌||◌, true, not, Bool, IsTrue, Some, IfOk, OnOk, OnErr, IfSome, filter, map, option_map};
 ghost use Rattle.std.specs.List.{find, list_any, list_all};
 ghost use Rattle.lnfs_world.specs.Rows.{inserted};
 ghost use Rattle.lnfs_world.specs.World as world;
@@ -7,16 +7,23 @@ ghost use Rattle.lnfs_world.specs.World.{session_order, level_order, session_at,
 ghost use Rattle.lnfs_world.specs.Change.{is_session_of};
 ghost use Rattle.lnfs_operations.specs.CreateSession.{sessions_of};
 ghost use Rattle.lnfs_operations.specs.Identifiers.{session_under};
+ghost use Rattle.lnfs_rows.specs.Told as told;
+ghost use Rattle.lnfs_rows.specs.Lasts.{given_of, each_of};
 ghost use Rattle.lnfs_session.specs.Listed.{id_of, session_id_of, session_of, session_key, slot_of};
 ghost use Rattle.lnfs_session.specs.Standing.{sessions_left, settled, sessions_set};
 ghost use Rattle.lnfs_session.specs.Sessions.{no_sessions};
+ghost use Rattle.lnfs_session.specs.Makes.{MakesSessions};
 
+use crate::filing::count_sessions;
 use crate::keep::{keep_result, refill_session};
+use crate::making::make_sessions;
 use crate::maps::{add_session, drop_session, find_session};
 use crate::named::session_under;
 use crate::rows::{ClientRef, Session, SessionRef, Slot};
 use crate::sequence::SlotRef;
-use lnfs_counts::{Counter, count, count_off, count_one, last_given, make_counter};
+use crate::telling::session_rows;
+use lnfs_counts::{Counter, count, count_off, count_one, last_given, last_numbers, make_counter};
+use lnfs_rows::SessionRow;
 use lnfs_world::numbers::LAST_NUMBER;
 use std::alloc::{AllocError, Global};
 use std::collections::BTreeMap;
@@ -55,6 +62,35 @@ impl Sessions {
             rows: BTreeMap::new(alloc),
             counters: BTreeMap::new(alloc),
         }
+    }
+
+    /// The sessions of just these rows and last numbers by level.
+    pub fn from_rows(
+        alloc: Global,
+        rows: &[SessionRow<'_>],
+        lasts: &[u64],
+    ) -> Result<Sessions, AllocError>
+        requires { MakesSessions (map told.session_of rows.now) (given_of lasts.now) }
+        ensures { IfOk result (λ sessions. sessions
+            ≡ record { sessions = map told.session_of rows.now; lasts = given_of lasts.now }) }
+    {
+        let counters = count_sessions(alloc, rows, lasts)?;
+        let rows = make_sessions(alloc, rows)?;
+        Ok(Sessions { rows, counters })
+    }
+
+    /// The sessions as rows.
+    pub fn rows(&self, alloc: Global) -> Result<Vec<SessionRow<'_>>, AllocError>
+        ensures { IfOk result (λ rows. map told.session_of rows.items ≡ self.now.sessions) }
+    {
+        session_rows(alloc, &self.rows)
+    }
+
+    /// The last number of each of so many levels, 0 where a level gave none.
+    pub fn last_numbers(&self, alloc: Global, levels: u32) -> Result<Vec<u64>, AllocError>
+        ensures { IfOk result (λ numbers. numbers.items ≡ each_of levels self.now.lasts) }
+    {
+        last_numbers(alloc, &self.counters, levels)
     }
 
     /// The session of an id, whose last four bytes have to be zero.

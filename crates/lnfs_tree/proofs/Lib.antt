@@ -32,3 +32,7 @@ pub mod Settled
 pub mod NodeHomes
 pub mod Kept
 pub mod FileData
+pub mod Sequences
+pub mod ToldRows
+pub mod GivenLasts
+pub mod Restored

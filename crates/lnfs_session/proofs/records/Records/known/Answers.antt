@@ -1,4 +1,4 @@
-use Rattle.std.proofs.Common.{◌≡◌, true, false, ℕ, Some, None, find, map, ap, sym, ◌∙◌, arith}
+use Rattle.std.proofs.Common.{◌≡◌, true, false, Some, None, find, map, ap, sym, ◌∙◌, arith}
 use Rattle.lnfs_world.specs.World.{Client}
 use Rattle.lnfs_operations.specs.ExchangeId.{is_confirmed_as, others_of}
 use Rattle.lnfs_session.specs.declared.levels.OwnerNumbers.{OwnerNumbers}
