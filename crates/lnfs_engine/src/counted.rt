@@ -15,5 +15,5 @@ pub fn counted(alloc: Global, tree: &Tree) -> Result<Quota, AllocError>
     ensures { IfOk result (λ quota. AreTotals quota tree.now.nodes) }
 {
     let homes = tree.homes(alloc)?;
-    Quota::counted(alloc, &homes)
+    Quota::counted_homes(alloc, &homes)
 }

@@ -34,7 +34,7 @@ use std::alloc::{AllocError, Global};
 /// The state of a server: the rows of the world, and what serves further operations with rows of their own.
 #[derive(Drop)]
 pub struct Engine<X: Extra> {
-    alloc: Global,
+    pub(crate) alloc: Global,
     pub store: Store,
     pub extra: X,
 }

@@ -17,6 +17,7 @@ mod keep;
 mod leases;
 mod names;
 mod nodes;
+mod parts;
 mod perform;
 mod place;
 mod reply;

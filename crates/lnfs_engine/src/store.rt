@@ -27,7 +27,7 @@ pub struct Store {
     pub(crate) clients: Clients,
     pub(crate) tree: Tree,
     pub(crate) opens: Opens,
-    contexts: Contexts,
+    pub(crate) contexts: Contexts,
     pub(crate) quota: Quota,
 }
 

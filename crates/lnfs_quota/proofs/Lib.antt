@@ -3,3 +3,4 @@ pub mod Kept
 pub mod Bounded
 mod FewBytes
 pub mod FromHomes
+pub mod FromRows

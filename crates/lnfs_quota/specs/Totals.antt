@@ -7,7 +7,7 @@ use Rattle.lnfs_world.specs.World.{Node}
 use Rattle.lnfs_world.specs.Usage.{nodes_used, bytes_used, bytes_of}
 use Rattle.lnfs_world.specs.Change.{Change, Make, Touch, Relabel, Drop}
 use Rattle.lnfs_quota.specs.declared.quota.Row.{Row}
-use Rattle.lnfs_quota.specs.Quota.{row_at}
+use Rattle.lnfs_quota.specs.Quota.{row_at, node_charged, resized}
 
 -- A node that is counted: its home and its label are levels that a policy may list, and it has as many bytes as a file may
 -- have. Where it has bytes, its number is one that a level may give.
@@ -38,3 +38,7 @@ home_share n level = cond (n.id.level == level) 1 0
 
 abbrev pub label_share : Node → (level : ℕ) → ℕ
 label_share n level = cond (n.label == level) (bytes_of n n.kind) 0
+
+-- one more node, with its bytes
+abbrev pub node_counted : List Row → Node → List Row
+node_counted rows n = node_charged (resized rows n.label 0 (bytes_of n n.kind)) n.id.level

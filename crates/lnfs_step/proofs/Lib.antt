@@ -29,3 +29,5 @@ pub mod Denials
 pub mod Outsides
 pub mod LimitedSites
 pub mod Carrying
+pub mod LeftContexts
+pub mod FittingContexts

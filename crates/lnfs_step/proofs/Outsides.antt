@@ -1,6 +1,6 @@
 -- An operation that is outside of the profile has a status of its gate, as it was read.
 use Rattle.std.proofs.Common.{◌≡◌, ℕ, zero, suc, Bool, true, false, cond, List, ◌∷◌, Ok, Err, refl, subst, inl, inr, length}
-use Rattle.lnfs_xdr.specs.Format.{Format, Word, Long, Boolean, Count, Among, Opaque, OpaqueOf, Fixed, Raw, Outside, Done, If, Then, Linked, times}
+use Rattle.lnfs_xdr.specs.Format.{Format, Word, Long, Boolean, Count, Among, LongAmong, Byte, Opaque, OpaqueOf, Fixed, Raw, Outside, Done, If, Then, Linked, times}
 use Rattle.lnfs_xdr.specs.Reading.{Item, Read, Leaves, here, after, element, linked_at, read, boolean_at}
 use Rattle.lnfs_xdr.specs.AuthSys.{auth_sys}
 use Rattle.lnfs_xdr.proofs.Fields.{after_err, after_ok}
@@ -241,6 +241,8 @@ left P Long by bytes e is = here_stays bytes _ e is
 left P Boolean by bytes e is = here_stays bytes _ e is
 left P (Count max) by bytes e is = here_stays bytes _ e is
 left P (Among test) by bytes e is = here_stays bytes _ e is
+left P (LongAmong test) by bytes e is = here_stays bytes _ e is
+left P (Byte test) by bytes e is = here_stays bytes _ e is
 left P (Opaque max) by bytes e is = here_stays bytes _ e is
 left P (OpaqueOf test) by bytes e is = here_stays bytes _ e is
 left P (Fixed n) by bytes e is = here_stays bytes _ e is
@@ -258,6 +260,8 @@ ends Q Long by bytes x is = by x.0
 ends Q Boolean by bytes x is = by x.0
 ends Q (Count max) by bytes x is = by x.0
 ends Q (Among test) by bytes x is = by x.0
+ends Q (LongAmong test) by bytes x is = by x.0
+ends Q (Byte test) by bytes x is = by x.0
 ends Q (Opaque max) by bytes x is = by x.0
 ends Q (OpaqueOf test) by bytes x is = by x.0
 ends Q (Fixed n) by bytes x is = by x.0

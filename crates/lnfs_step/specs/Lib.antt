@@ -1,6 +1,7 @@
 pub mod Wrapping
 pub mod Request
 pub mod Contexts
+pub mod ContextBounds
 pub mod Step
 pub mod Level
 pub mod Purged

@@ -5,6 +5,7 @@
 //! come again, and of one step on any state.
 #![tactic(auto)]
 
+mod context_bounds;
 mod context_laws;
 mod laws;
 mod limited_laws;
@@ -13,6 +14,7 @@ pub mod numbers;
 mod session_laws;
 mod step_laws;
 
+pub use context_bounds::contexts_fit;
 pub use context_laws::{contexts_are_lawful, contexts_are_signed};
 pub use laws::{purge, secrecy};
 pub use limited_laws::labels_are_carried;

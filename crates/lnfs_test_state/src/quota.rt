@@ -66,7 +66,7 @@ fn ask_of_homes(rt: &impl Abort, quota: &Quota) {
 fn homes(rt: HostRuntime) -> Result<(), AllocError> {
     // One home is past the levels that a policy may list.
     let homes = [Level(0), Level(1), Level(0), Level(32)];
-    let quota = Quota::counted(rt.alloc(), &homes)?;
+    let quota = Quota::counted_homes(rt.alloc(), &homes)?;
     ask_of_homes(&rt, &quota);
     Ok(())
 }

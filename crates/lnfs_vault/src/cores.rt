@@ -27,8 +27,8 @@ use std::marker::Model;
 /// The lists of a server under a policy, from any state that is kept. It has no journal: whoever calls it numbers the events.
 #[derive(Drop)]
 pub struct Core<M: Mechanism + Drop, X: ReadExtra> {
-    front: Front<M, X>,
-    stand: Stand<X>,
+    pub(crate) front: Front<M, X>,
+    pub(crate) stand: Stand<X>,
 }
 
 impl<M: Mechanism + Drop, X: ReadExtra> Model for Core<M, X> {

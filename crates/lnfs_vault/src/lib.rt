@@ -13,6 +13,7 @@ mod front;
 mod lines;
 mod parts;
 mod request;
+mod resumed;
 mod sealing;
 mod stand;
 mod step;

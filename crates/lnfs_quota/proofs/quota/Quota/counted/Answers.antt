@@ -1,25 +1,26 @@
-use Rattle.std.proofs.Common.{◌+◌, List, take, sym, ◌∙◌, subst}
-use Rattle.std.proofs.lemmas.List.{take_all}
-use Rattle.lnfs_calipso.specs.declared.Level.{Level}
-use Rattle.lnfs_calipso.specs.declared.lattice.TheConstants.{MAX_LEVELS}
+use Rattle.std.proofs.Common.{◌++◌, ◌∷◌, [], List, map, take, sym, subst}
+use Rattle.lnfs_world.specs.World.{node_order}
+use Rattle.lnfs_rows.specs.Told.{node_of}
 use Rattle.lnfs_quota.specs.declared.quota.Row.{Row}
-use Rattle.lnfs_quota.proofs.FromHomes.{IsCounted, counted-none, counted-more, counted-passed, counted-totals}
-use Rattle.lnfs_quota.proofs.quota.Quota.counted.Goals.{then-knows, else-knows}
+use Rattle.lnfs_quota.specs.Totals.{IsInBounds, AreTotals}
+use Rattle.lnfs_quota.proofs.FromRows.{rising_take, all_at, taken_more, totals-counted}
 use Rattle.lnfs_quota.proofs.quota.Quota.counted.Goals as goal
 
-pub loop-home-init : goal.loop-home-init
-loop-home-init c = subst (λ (rows : List Row). IsCounted MAX_LEVELS (take 0 c.args.homes.now) rows) (sym c.in_ok-quota.ensures) (counted-none MAX_LEVELS c.args.homes.now)
+pub count-requires-clause-bounds : goal.count-requires-clause-bounds
+count-requires-clause-bounds c = all_at node_of IsInBounds c.args.nodes.now c.loop-node.node-index c.node-item.result c.loop-node-test.true c.node-item.is c.requires.bounds
 
-pub loop-home-preserved : goal.loop-home-preserved
-loop-home-preserved c =
-    let levels = MAX_LEVELS in
-    let homes = c.args.homes.now in
-    let i = c.loop-home.home-index in
-    let d : Level = record { 0 = 0 } in
-    elim c.if-knows.branch [
-      | then-knows w ↦ subst (λ (rows : List Row). IsCounted levels (take (i + 1) homes) rows) (sym (w.quota-is ∙ w.charge_node.ensures)) (counted-more levels homes c.loop-home.quota i d c.loop-home-test.true (sym c.knows.ensures ∙ w.if-knows.true) c.loop-home.invariant)
-      | else-knows w ↦ subst (λ (rows : List Row). IsCounted levels (take (i + 1) homes) rows) (sym w.quota-is) (counted-passed levels homes c.loop-home.quota i d c.loop-home-test.true (sym c.knows.ensures ∙ w.if-knows.false) c.loop-home.invariant)
-    ]
+pub count-requires-clause-bytes_fit : goal.count-requires-clause-bytes_fit
+count-requires-clause-bytes_fit c =
+    let all = map node_of c.args.nodes.now in
+    let i = c.loop-node.node-index in
+    c.law_fitting.ensures c.loop-node.quota (take i all) c.node-item.result.label c.loop-node.invariant (rising_take node_order i all c.requires.rising)
 
-pub returns : goal.returns
-returns c nodes are empty bounds = counted-totals c.args.homes.now c.loop-home.quota nodes (subst (λ (homes : List Level). IsCounted MAX_LEVELS homes c.loop-home.quota) (take_all c.loop-home.home-index c.args.homes.now c.loop-home-test.false) c.loop-home.invariant) are empty bounds
+pub loop-node-preserved : goal.loop-node-preserved
+loop-node-preserved c =
+    let nodes = c.args.nodes.now in
+    let i = c.loop-node.node-index in
+    let n = node_of c.node-item.result in
+    let front = take i (map node_of nodes) in
+    let bounds : IsInBounds n = all_at node_of IsInBounds nodes i c.node-item.result c.loop-node-test.true c.node-item.is c.requires.bounds in
+    subst (AreTotals c.count.new.self) (sym (taken_more node_of nodes i c.node-item.result c.loop-node-test.true c.node-item.is))
+    (subst (λ (rows : List Row). AreTotals rows (front ++ n ∷ [])) (sym c.count.ensures) (totals-counted c.loop-node.quota front n c.loop-node.invariant bounds))

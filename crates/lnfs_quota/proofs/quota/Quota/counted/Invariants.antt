@@ -1,8 +1,8 @@
-use Rattle.std.proofs.Common.{take}
-use Rattle.lnfs_calipso.specs.declared.lattice.TheConstants.{MAX_LEVELS}
-use Rattle.lnfs_quota.proofs.FromHomes.{IsCounted}
+use Rattle.std.proofs.Common.{map, take}
+use Rattle.lnfs_rows.specs.Told.{node_of}
+use Rattle.lnfs_quota.specs.Totals.{AreTotals}
 use Rattle.lnfs_quota.proofs.quota.Quota.counted.Given as goal
 
--- the homes so far are counted
-abbrev pub invariant-loop-home : goal.invariant-loop-home
-invariant-loop-home l = IsCounted MAX_LEVELS (take l.home-index l.homes) l.quota
+-- the nodes so far are counted
+abbrev pub invariant-loop-node : goal.invariant-loop-node
+invariant-loop-node l = AreTotals l.quota (take l.node-index (map node_of l.nodes))
