@@ -1,0 +1,6 @@
+pub mod Checkpoint
+pub mod Made
+pub mod Takes
+pub mod Judged
+pub mod Resumed
+pub mod Telling
