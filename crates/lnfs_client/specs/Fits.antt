@@ -47,7 +47,7 @@ IfEnded (Ok More) fact = Unit {0}
 IfEnded (Ok (Done answer)) fact = fact
 IfEnded (Err cause) fact = fact
 
--- whether the client is mounted: from the answer of a Mount to that of a Leave
+-- whether the client is mounted: from the answer of a Mount until a Leave is answered or another Mount begins
 abbrev pub mounted_by : Result Progress Refusal → (before : Bool) → Bool
 mounted_by (Ok (Done answers.Mounted)) before = true
 mounted_by (Ok (Done answers.Left)) before = false

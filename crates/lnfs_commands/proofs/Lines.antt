@@ -13,7 +13,7 @@ use Rattle.lnfs_vault.specs.declared.audit.AuditLine.{AuditLine}
 use Rattle.lnfs_commands.specs.Events.{audit_with}
 use Rattle.lnfs_commands.specs.Lines.{text_in}
 
-line_is : (event : ℕ) (line : Option Line) (l : Option AuditLine) → IsLineOf event line l → text_in l ≡ text_of event line
+pub line_is : (event : ℕ) (line : Option Line) (l : Option AuditLine) → IsLineOf event line l → text_in l ≡ text_of event line
 line_is event line None is = sym (ap (text_of event) is)
 line_is event line (Some l) is = ap (λ (n : ℕ). Some (line_text n (line_in l))) is.1 ∙ sym (ap (text_of event) is.0)
 

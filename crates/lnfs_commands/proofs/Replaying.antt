@@ -38,11 +38,11 @@ use Rattle.lnfs_commands.proofs.Events.{writes_join, writes_one}
 -- ---- the events that a reader gave
 
 -- they are the first that are recorded, whatever follows what was fed
-record Firsts (events : List Event) (bytes : List ℕ) : Type 0 where
+pub record Firsts (events : List Event) (bytes : List ℕ) : Type 0 where
   pub others : List Event
   pub are : recorded bytes ≡ events ++ others
 
-firsts : (fed : List ℕ) (events : List Event) (place : ℕ) (rest more : List ℕ) → Reads fed events place rest → Firsts events (fed ++ more)
+pub firsts : (fed : List ℕ) (events : List Event) (place : ℕ) (rest more : List ℕ) → Reads fed events place rest → Firsts events (fed ++ more)
 firsts fed events zero rest more r = record { others = recorded (fed ++ more); are = ap (λ (es : List Event). es ++ recorded (fed ++ more)) (sym (r.none refl)) }
 firsts fed events (suc n) rest more r =
     let b : Behind (fed ++ more) events (suc n) (rest ++ more) = more_behind fed events (suc n) rest more (behind_some fed events (suc n) rest (omega arith) r) in
@@ -97,19 +97,19 @@ all_read (Some x) None fed p e = absurd p
 all_read (Some x) (Some y) fed p e = sym (p ∙ ap (λ (l : List ℕ). fed ++ l) e ∙ append-nil fed)
 
 -- the ending that is due
-whole_ending : (b : Bool) (place : ℕ) → b ≡ true → None ≡ cond b None (Some (TrafficDamaged place))
+pub whole_ending : (b : Bool) (place : ℕ) → b ≡ true → None ≡ cond b None (Some (TrafficDamaged place))
 whole_ending b place e = rw e refl
 
-damaged_ending : (b : Bool) (at place : ℕ) → b ≡ false → at ≡ place → Some (TrafficDamaged at) ≡ cond b None (Some (TrafficDamaged place))
+pub damaged_ending : (b : Bool) (at place : ℕ) → b ≡ false → at ≡ place → Some (TrafficDamaged at) ≡ cond b None (Some (TrafficDamaged place))
 damaged_ending b at place e p = rw (e, p) refl
 
-abbrev due_of : List Write → Option Ending → Due
+abbrev pub due_of : List Write → Option Ending → Due
 due_of ws o = record { writes = ws; ending = o }
 
-as_due : (ws ws' : List Write) (o o' : Option Ending) → ws ≡ ws' → o ≡ o' → due_of ws o ≡ due_of ws' o'
+pub as_due : (ws ws' : List Write) (o o' : Option Ending) → ws ≡ ws' → o ≡ o' → due_of ws o ≡ due_of ws' o'
 as_due ws ws' o o' p q = λ i. record { writes = p i; ending = q i }
 
-abbrev ending_in : List ℕ → Option Ending
+abbrev pub ending_in : List ℕ → Option Ending
 ending_in text = cond (is_recording text) None (Some (TrafficDamaged (place_of text)))
 
 module _ (X : Extra) (m : Signing) (policy : Policy) (before : List Event) where

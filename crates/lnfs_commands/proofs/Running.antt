@@ -12,7 +12,7 @@ use Rattle.lnfs_stage.proofs.Writing.{front_first}
 use Rattle.lnfs_stage.proofs.Reading.{follows_over}
 use Rattle.lnfs_commands.specs.Commands.{due, files_of}
 use Rattle.lnfs_commands.specs.Runs.{Runs, RunsAlone, IsUntouched, IsUnread}
-use Rattle.lnfs_commands.specs.Words.{Form, help, version, under, Asked, alone, serve, talk, judge}
+use Rattle.lnfs_commands.specs.Words.{Form, help, version, under, Asked, alone, serve, talk, judge, save, resume}
 
 -- there was no memory to begin
 short_does : {S T : Type 0} {handed : Result S Stop} {s t : Seen} (due : Due) → Does handed s t (written []) → Does {T = T} (Err Memory) s t due
@@ -30,6 +30,8 @@ short_alone (Some (alone form)) p h = short_runs (Some form) p h
 short_alone (Some (serve policy links workers)) p h = record { memory = refl; does = short_does (written []) p; handed = short_handed h }
 short_alone (Some (talk policy level script)) p h = record { memory = refl; does = short_does (written []) p; handed = short_handed h }
 short_alone (Some (judge policy traffic replies purged)) p h = record { memory = refl; does = short_does (written []) p; handed = short_handed h }
+short_alone (Some (save policy traffic)) p h = record { memory = refl; does = short_does (written []) p; handed = short_handed h }
+short_alone (Some (resume policy checkpoint traffic)) p h = record { memory = refl; does = short_does (written []) p; handed = short_handed h }
 
 -- files that were left alone
 untouched_same : {F : Type 0} (form : Form) (files files' : F) → files' ≡ files → IsUntouched (Some form) files files'
@@ -43,6 +45,8 @@ unread_same (Some (alone form)) files files' same = untouched_same form files fi
 unread_same (Some (serve policy links workers)) files files' same = tt
 unread_same (Some (talk policy level script)) files files' same = tt
 unread_same (Some (judge policy traffic replies purged)) files files' same = tt
+unread_same (Some (save policy traffic)) files files' same = tt
+unread_same (Some (resume policy checkpoint traffic)) files files' same = tt
 
 -- they are left alone by what comes behind
 pub untouched_then : {F : Type 0} (form : Option Form) (a b c : F) → IsUntouched form a b → c ≡ b → IsUntouched form a c

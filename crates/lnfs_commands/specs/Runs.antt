@@ -10,7 +10,7 @@ use Rattle.lnfs_stage.specs.Does.{Does, HandedOn}
 use Rattle.lnfs_stage.specs.Contents.{Follows}
 use Rattle.lnfs_commands.specs.declared.command.Work.{Work}
 use Rattle.lnfs_commands.specs.Commands.{files_of, due}
-use Rattle.lnfs_commands.specs.Words.{Form, under, Asked, alone, serve, talk, judge, work}
+use Rattle.lnfs_commands.specs.Words.{Form, under, Asked, alone, serve, talk, judge, save, resume, work}
 
 -- it did what is due for the form of its words, with the line that tells the ending, and handed it on
 pub record Runs {T : Type 0} (result : Result T Stop) (form : Option Form) (before after : Seen) : Type 0 where
@@ -30,6 +30,8 @@ RunsQuietly result (Some (alone form)) before after = Runs result (Some form) be
 RunsQuietly result (Some (serve policy links workers)) before after = IsShort result before after
 RunsQuietly result (Some (talk policy level script)) before after = IsShort result before after
 RunsQuietly result (Some (judge policy traffic replies purged)) before after = IsShort result before after
+RunsQuietly result (Some (save policy traffic)) before after = IsShort result before after
+RunsQuietly result (Some (resume policy checkpoint traffic)) before after = IsShort result before after
 
 -- all was done, unless crates above this one do it: then nothing was
 abbrev pub RunsAlone : Result (Option Work) Stop → Option Asked → Seen → Seen → Type 0
@@ -49,3 +51,5 @@ IsUnread (Some (alone form)) files files' = IsUntouched (Some form) files files'
 IsUnread (Some (serve policy links workers)) files files' = Unit {0}
 IsUnread (Some (talk policy level script)) files files' = Unit {0}
 IsUnread (Some (judge policy traffic replies purged)) files files' = Unit {0}
+IsUnread (Some (save policy traffic)) files files' = Unit {0}
+IsUnread (Some (resume policy checkpoint traffic)) files files' = Unit {0}

@@ -12,7 +12,7 @@ use Rattle.lnfs_policy.specs.declared.fits.TheConstants.{MAX_CLASS}
 use Rattle.lnfs_commands.specs.declared.command.Asked as asked_for
 use Rattle.lnfs_commands.specs.declared.command.Asked.TheVariants.{Alone, Other}
 use Rattle.lnfs_commands.specs.declared.command.Work.{Work}
-use Rattle.lnfs_commands.specs.declared.command.Work.TheVariants.{Serve, Talk, Judge}
+use Rattle.lnfs_commands.specs.declared.command.Work.TheVariants.{Serve, Talk, Judge, Save, Resume}
 use Rattle.lnfs_commands.specs.declared.command.Command.{Command}
 use Rattle.lnfs_commands.specs.declared.command.Command.TheVariants.{Help, Version, Under}
 use Rattle.lnfs_commands.specs.declared.command.Task as code
@@ -46,6 +46,10 @@ pub data Asked : Type 0 where
   talk : (policy : List ℕ) (level : ℕ) (script : List ℕ) → Asked
   -- the recorded replies of a name to the recording of a name, judged under the policy of a name, where they may be told level by level
   judge : (policy traffic replies : List ℕ) (purged : Bool) → Asked
+  -- the checkpoint of a new server that served the recording of a name under the policy of a name
+  save : (policy traffic : List ℕ) → Asked
+  -- the recording of a name, served behind the checkpoint of a name under the policy of a name
+  resume : (policy checkpoint traffic : List ℕ) → Asked
 
 abbrev pub pair_of : Option ℕ → Option ℕ → Option Pair
 pair_of (Some lfs) (Some pi) = Some (record { lfs = lfs; pi = pi })
@@ -124,14 +128,45 @@ judgement policy traffic replies purged = Some (judge policy traffic replies pur
 abbrev pub purging : (policy traffic replies word : List ℕ) → Option Asked
 purging policy traffic replies word = cond (bytes_eq word (codes "purged")) (judgement policy traffic replies true) None
 
+-- a word alone
+abbrev pub option : (word : List ℕ) → Option Asked
+option word = cond (bytes_eq word (codes "--help")) (Some (alone help)) (cond (bytes_eq word (codes "--version")) (Some (alone version)) None)
+
+-- a word and a policy
+abbrev pub with_policy : (word policy : List ℕ) → Option Asked
+with_policy word policy = cond (bytes_eq word (codes "check")) (Some (alone (under policy check))) (cond (bytes_eq word (codes "migrate")) (Some (alone (under policy migrate))) None)
+
+-- and a recording
+abbrev pub with_traffic : (word policy traffic : List ℕ) → Option Asked
+with_traffic word policy traffic = cond (bytes_eq word (codes "replay")) (Some (alone (under policy (replay traffic)))) (cond (bytes_eq word (codes "checkpoint")) (Some (save policy traffic)) None)
+
+-- a word, a policy, and two words that it says the meaning of
+abbrev pub with_two_texts : (word policy third fourth : List ℕ) → Option Asked
+with_two_texts word policy third fourth =
+    cond (bytes_eq word (codes "generate")) (generation policy (seed_in third) (count_in fourth))
+    (cond (bytes_eq word (codes "client")) (visit policy (level_in third) fourth)
+    (cond (bytes_eq word (codes "audit")) (judgement policy third fourth false)
+    (cond (bytes_eq word (codes "resume")) (Some (resume policy third fourth)) None)))
+
+abbrev pub with_two_words : (word policy third fourth : List ℕ) → Option Asked
+with_two_words word policy third fourth = cond (bytes_eq word (codes "serve")) (service policy (classes_in third) (workers_in fourth)) (with_two_texts word policy third fourth)
+
+-- a word, a policy, a recording, recorded replies, and one word more
+abbrev pub with_replies : (word policy traffic replies purged : List ℕ) → Option Asked
+with_replies word policy traffic replies purged = cond (bytes_eq word (codes "audit")) (purging policy traffic replies purged) None
+
+-- a word, a policy, two formats, and bytes
+abbrev pub with_formats : (word policy : List ℕ) → (source target : Option Pair) → (bytes : Option (List ℕ)) → Option Asked
+with_formats word policy source target bytes = cond (bytes_eq word (codes "translate")) (translation policy source target bytes) None
+
 -- the form that the words are, if they are one
 abbrev pub form_of : List (List ℕ) → Option Asked
-form_of (a ∷ []) = cond (bytes_eq a (codes "--help")) (Some (alone help)) (cond (bytes_eq a (codes "--version")) (Some (alone version)) None)
-form_of (a ∷ b ∷ []) = cond (bytes_eq a (codes "check")) (Some (alone (under b check))) (cond (bytes_eq a (codes "migrate")) (Some (alone (under b migrate))) None)
-form_of (a ∷ b ∷ c ∷ []) = cond (bytes_eq a (codes "replay")) (Some (alone (under b (replay c)))) None
-form_of (a ∷ b ∷ c ∷ d ∷ []) = cond (bytes_eq a (codes "generate")) (generation b (seed_in c) (count_in d)) (cond (bytes_eq a (codes "serve")) (service b (classes_in c) (workers_in d)) (cond (bytes_eq a (codes "client")) (visit b (level_in c) d) (cond (bytes_eq a (codes "audit")) (judgement b c d false) None)))
-form_of (a ∷ b ∷ c ∷ d ∷ e ∷ []) = cond (bytes_eq a (codes "audit")) (purging b c d e) None
-form_of (a ∷ b ∷ c ∷ d ∷ e ∷ f ∷ g ∷ []) = cond (bytes_eq a (codes "translate")) (translation b (pair_in c d) (pair_in f g) (bytes_in e)) None
+form_of (a ∷ []) = option a
+form_of (a ∷ b ∷ []) = with_policy a b
+form_of (a ∷ b ∷ c ∷ []) = with_traffic a b c
+form_of (a ∷ b ∷ c ∷ d ∷ []) = with_two_words a b c d
+form_of (a ∷ b ∷ c ∷ d ∷ e ∷ []) = with_replies a b c d e
+form_of (a ∷ b ∷ c ∷ d ∷ e ∷ f ∷ g ∷ []) = with_formats a b (pair_in c d) (pair_in f g) (bytes_in e)
 form_of words = None
 
 -- the task that the code's value stands for
@@ -153,6 +188,8 @@ abbrev pub work : Work → Asked
 work (Serve service) = serve service.policy.now service.team.links.items service.team.workers
 work (Talk visit) = talk visit.policy.now visit.level visit.script.now
 work (Judge audit) = judge audit.policy.now audit.traffic.now audit.replies.now audit.purged
+work (Save saving) = save saving.policy.now saving.traffic.now
+work (Resume resumption) = resume resumption.policy.now resumption.checkpoint.now resumption.traffic.now
 
 -- what the code's value asks for
 abbrev pub asked : asked_for.Asked → Asked
@@ -175,6 +212,8 @@ help_text = codes "usage: lnfs check POLICY\n"
     ++ codes "usage: lnfs serve POLICY LINKS WORKERS\n"
     ++ codes "usage: lnfs client POLICY LEVEL SCRIPT\n"
     ++ codes "usage: lnfs audit POLICY TRAFFIC REPLIES [purged]\n"
+    ++ codes "usage: lnfs checkpoint POLICY TRAFFIC\n"
+    ++ codes "usage: lnfs resume POLICY CHECKPOINT TRAFFIC\n"
     ++ codes "usage: lnfs --help\n"
     ++ codes "usage: lnfs --version\n"
     ++ codes "\n"
@@ -216,14 +255,22 @@ help_text = codes "usage: lnfs check POLICY\n"
     ++ codes "bytes are left from byte O on. With purged each level's replies are told by a new server\n"
     ++ codes "that is given only the events whose level this one dominates.\n"
     ++ codes "\n"
+    ++ codes "checkpoint serves the events of TRAFFIC in a new server under POLICY, as replay does, without\n"
+    ++ codes "the replies: standard error gets the audit lines. Behind all events standard output gets a\n"
+    ++ codes "checkpoint, which is the state of the server as bytes, with the data of all levels.\n"
+    ++ codes "\n"
+    ++ codes "resume goes on from the checkpoint CHECKPOINT, which a server under the same POLICY wrote. It\n"
+    ++ codes "serves the events of TRAFFIC behind those that the checkpoint stands for, and writes what\n"
+    ++ codes "replay writes, with their numbers.\n"
+    ++ codes "\n"
     ++ codes "Standard error gets a line that begins with 'fault' where the run ends with status\n"
-    ++ codes "2, 3, 4, 9, 10, 12 or 13.\n"
+    ++ codes "2, 3, 4, 9, 10, 12, 13 or 14.\n"
     ++ codes "\n"
     ++ codes "exit status:\n"
     ++ codes "0 all was written\n"
     ++ codes "2 the words are no form of the above\n"
     ++ codes "3 POLICY is refused\n"
-    ++ codes "4 TRAFFIC is damaged; replay has replied to the events before the damage\n"
+    ++ codes "4 TRAFFIC is damaged; replay and resume have replied to the events before the damage\n"
     ++ codes "5 a file could not be read\n"
     ++ codes "6 a stream could not be written\n"
     ++ codes "7 there was no memory\n"
@@ -232,3 +279,4 @@ help_text = codes "usage: lnfs check POLICY\n"
     ++ codes "10 the label has no translation\n"
     ++ codes "12 SCRIPT is refused\n"
     ++ codes "13 the link ended, or gave too much, before a reply that was awaited\n"
+    ++ codes "14 CHECKPOINT is refused\n"

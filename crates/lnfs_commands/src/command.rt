@@ -57,12 +57,29 @@ pub struct Audit<'a> {
     pub purged: bool,
 }
 
-/// What crates above this one do: over links, or in an audit.
+/// The recording of a name, whose events a new server serves under the policy of a name, and the checkpoint of its state then.
+#[derive(Clone, Copy, Debug, Drop)]
+pub struct Saving<'a> {
+    pub policy: &'a str,
+    pub traffic: &'a str,
+}
+
+/// The checkpoint of a name, from which a server goes on with the recording of a name under the policy of a name.
+#[derive(Clone, Copy, Debug, Drop)]
+pub struct Resumption<'a> {
+    pub policy: &'a str,
+    pub checkpoint: &'a str,
+    pub traffic: &'a str,
+}
+
+/// What crates above this one do: over links, in an audit, or with a checkpoint.
 #[derive(Debug, Drop)]
 pub enum Work<'a> {
     Serve(Service<'a>),
     Talk(Visit<'a>),
     Judge(Audit<'a>),
+    Save(Saving<'a>),
+    Resume(Resumption<'a>),
 }
 
 /// What the words ask for: a command, or what crates above this one do.

@@ -7,7 +7,7 @@
 
 mod alone;
 mod command;
-mod frame;
+pub mod frame;
 pub mod laws;
 mod perform;
 pub mod replay;
@@ -18,6 +18,6 @@ mod texts;
 mod words;
 
 pub use alone::run_alone;
-pub use command::{Asked, Audit, Command, Service, Task, Visit, Work};
+pub use command::{Asked, Audit, Command, Resumption, Saving, Service, Task, Visit, Work};
 pub use rules::rules_of;
 pub use team::Team;

@@ -23,7 +23,7 @@ use std::alloc::{AllocError, Global};
 const PIECE: usize = 65_536;
 
 /// The text of an audit line, or nothing.
-fn text_of(alloc: Global, line: &Option<AuditLine>) -> Result<Vec<u8>, AllocError>
+pub fn text_of(alloc: Global, line: &Option<AuditLine>) -> Result<Vec<u8>, AllocError>
     ensures { IfOk result (λ text. text.items ≡ unwrap_or (text_in line.now) []) }
 {
     match line {
@@ -57,7 +57,7 @@ fn serve_event<M: Mechanism + Drop, X: ReadExtra, O: Outside>(
 }
 
 /// How a replay ends with this answer of its reader.
-fn ending_of(answer: Result<(), TrafficError>) -> Result<(), Stop>
+pub fn ending_of(answer: Result<(), TrafficError>) -> Result<(), Stop>
     ensures { result ≡ ending_of answer }
 {
     match answer {

@@ -1,9 +1,9 @@
 //! The forms of the command line.
-ghost use Rattle.std.specs.Prelude.{◌≡◌, ◌≤◌, ◌<◌, ◌∷◌, [], IfOk, IfSome, length};
+ghost use Rattle.std.specs.Prelude.{◌≡◌, ◌≤◌, ◌<◌, ◌∷◌, [], IfOk, IfSome, Some, length};
 ghost use Rattle.std.specs.Option.{option_map};
-ghost use Rattle.lnfs_commands.specs.Words.{form_of, texts, asked, pair_in, bytes_in, seed_in, count_in, classes_in, workers_in, translation, generation, service, level_in, visit, judgement, purging, help_text, version_text};
+ghost use Rattle.lnfs_commands.specs.Words.{form_of, texts, asked, pair_in, bytes_in, seed_in, count_in, classes_in, workers_in, translation, generation, service, level_in, visit, judgement, purging, save, resume, option, alone, under, task_of, with_policy, with_traffic, with_two_words, with_two_texts, with_replies, with_formats, help_text, version_text};
 
-use crate::command::{Asked, Audit, Command, Service, Task, Visit, Work};
+use crate::command::{Asked, Audit, Command, Resumption, Saving, Service, Task, Visit, Work};
 use crate::team::Team;
 use lnfs_map::Pair;
 use lnfs_policy::MAX_CLASS;
@@ -32,6 +32,8 @@ usage: lnfs generate POLICY SEED N\n\
 usage: lnfs serve POLICY LINKS WORKERS\n\
 usage: lnfs client POLICY LEVEL SCRIPT\n\
 usage: lnfs audit POLICY TRAFFIC REPLIES [purged]\n\
+usage: lnfs checkpoint POLICY TRAFFIC\n\
+usage: lnfs resume POLICY CHECKPOINT TRAFFIC\n\
 usage: lnfs --help\n\
 usage: lnfs --version\n\
 \n\
@@ -73,14 +75,22 @@ differs E where the reply to event E is the first that isn't, and surplus O wher
 bytes are left from byte O on. With purged each level's replies are told by a new server\n\
 that is given only the events whose level this one dominates.\n\
 \n\
+checkpoint serves the events of TRAFFIC in a new server under POLICY, as replay does, without\n\
+the replies: standard error gets the audit lines. Behind all events standard output gets a\n\
+checkpoint, which is the state of the server as bytes, with the data of all levels.\n\
+\n\
+resume goes on from the checkpoint CHECKPOINT, which a server under the same POLICY wrote. It\n\
+serves the events of TRAFFIC behind those that the checkpoint stands for, and writes what\n\
+replay writes, with their numbers.\n\
+\n\
 Standard error gets a line that begins with 'fault' where the run ends with status\n\
-2, 3, 4, 9, 10, 12 or 13.\n\
+2, 3, 4, 9, 10, 12, 13 or 14.\n\
 \n\
 exit status:\n\
 0 all was written\n\
 2 the words are no form of the above\n\
 3 POLICY is refused\n\
-4 TRAFFIC is damaged; replay has replied to the events before the damage\n\
+4 TRAFFIC is damaged; replay and resume have replied to the events before the damage\n\
 5 a file could not be read\n\
 6 a stream could not be written\n\
 7 there was no memory\n\
@@ -88,7 +98,8 @@ exit status:\n\
 9 there is no such file\n\
 10 the label has no translation\n\
 12 SCRIPT is refused\n\
-13 the link ended, or gave too much, before a reply that was awaited\n";
+13 the link ended, or gave too much, before a reply that was awaited\n\
+14 CHECKPOINT is refused\n";
 
 /// What the words ask for; none where they are no form of the command line.
 pub fn command_of<'a>(alloc: Global, words: &'a [String]) -> Result<Option<Asked<'a>>, AllocError>
@@ -96,42 +107,123 @@ pub fn command_of<'a>(alloc: Global, words: &'a [String]) -> Result<Option<Asked
 {
     match words {
         [word] => Ok(option_of(word)),
-        [word, policy] if word.as_str() == "check" => Ok(Some(Asked::Alone(Command::Under {
-            policy: policy.as_str(),
-            task: Task::Check,
-        }))),
-        [word, policy] if word.as_str() == "migrate" => Ok(Some(Asked::Alone(Command::Under {
-            policy: policy.as_str(),
-            task: Task::Migrate,
-        }))),
-        [word, policy, traffic] if word.as_str() == "replay" => Ok(Some(Asked::Alone(
-            Command::Under {
-                policy: policy.as_str(),
-                task: Task::Replay {
-                    traffic: traffic.as_str(),
-                },
-            },
-        ))),
-        [word, policy, seed, count] if word.as_str() == "generate" => {
-            Ok(generation_of(policy, seed, count))
+        [word, policy] => Ok(with_policy(word, policy)),
+        [word, policy, traffic] => Ok(with_traffic(word, policy, traffic)),
+        [word, policy, third, fourth] => with_two_words(alloc, word, policy, third, fourth),
+        [word, policy, traffic, replies, purged] => {
+            Ok(with_replies(word, policy, traffic, replies, purged))
         }
-        [word, policy, links, workers] if word.as_str() == "serve" => {
-            service_of(alloc, policy, links, workers)
-        }
-        [word, policy, level, script] if word.as_str() == "client" => {
-            Ok(visit_of(policy, level, script))
-        }
-        [word, policy, traffic, replies] if word.as_str() == "audit" => {
-            Ok(audit_of(policy, traffic, replies, false))
-        }
-        [word, policy, traffic, replies, purged] if word.as_str() == "audit" => {
-            Ok(purged_of(policy, traffic, replies, purged))
-        }
-        [word, policy, lfs, pi, hex, to_lfs, to_pi] if word.as_str() == "translate" => {
-            translation_of(alloc, policy, pair_of(lfs, pi), pair_of(to_lfs, to_pi), hex)
+        [word, policy, lfs, pi, hex, to_lfs, to_pi] => {
+            with_formats(
+                alloc,
+                word,
+                policy,
+                pair_of(lfs, pi),
+                pair_of(to_lfs, to_pi),
+                hex,
+            )
         }
         _ => Ok(None),
     }
+}
+
+/// What a word asks for under the policy of a name alone.
+fn with_policy<'a>(word: &str, policy: &'a str) -> Option<Asked<'a>>
+    ensures { option_map asked result ≡ with_policy word.now policy.now }
+{
+    match word {
+        "check" => Some(under(policy, Task::Check)),
+        "migrate" => Some(under(policy, Task::Migrate)),
+        _ => None,
+    }
+}
+
+/// What a word asks for with the recording of a name, under the policy of a name.
+fn with_traffic<'a>(word: &str, policy: &'a str, traffic: &'a str) -> Option<Asked<'a>>
+    ensures { option_map asked result ≡ with_traffic word.now policy.now traffic.now }
+{
+    match word {
+        "replay" => Some(under(policy, Task::Replay { traffic })),
+        "checkpoint" => saving_of(policy, traffic),
+        _ => None,
+    }
+}
+
+/// What a word asks for with two further words, under the policy of a name.
+fn with_two_words<'a>(
+    alloc: Global,
+    word: &str,
+    policy: &'a str,
+    third: &'a str,
+    fourth: &'a str,
+) -> Result<Option<Asked<'a>>, AllocError>
+    ensures { IfOk result (λ found. option_map asked found
+        ≡ with_two_words word.now policy.now third.now fourth.now) }
+{
+    match word {
+        "serve" => service_of(alloc, policy, third, fourth),
+        _ => Ok(with_two_texts(word, policy, third, fourth)),
+    }
+}
+
+/// The same, of those words that take no memory.
+fn with_two_texts<'a>(
+    word: &str,
+    policy: &'a str,
+    third: &'a str,
+    fourth: &'a str,
+) -> Option<Asked<'a>>
+    ensures { option_map asked result ≡ with_two_texts word.now policy.now third.now fourth.now }
+{
+    match word {
+        "generate" => generation_of(policy, third, fourth),
+        "client" => visit_of(policy, third, fourth),
+        "audit" => audit_of(policy, third, fourth, false),
+        "resume" => resumption_of(policy, third, fourth),
+        _ => None,
+    }
+}
+
+/// What a word asks for with recorded replies and a further word, under the policy of a name.
+fn with_replies<'a>(
+    word: &str,
+    policy: &'a str,
+    traffic: &'a str,
+    replies: &'a str,
+    purged: &str,
+) -> Option<Asked<'a>>
+    ensures { option_map asked result
+        ≡ with_replies word.now policy.now traffic.now replies.now purged.now }
+{
+    match word {
+        "audit" => purged_of(policy, traffic, replies, purged),
+        _ => None,
+    }
+}
+
+/// What a word asks for with two formats and bytes, under the policy of a name.
+fn with_formats<'a>(
+    alloc: Global,
+    word: &str,
+    policy: &'a str,
+    source: Option<Pair>,
+    target: Option<Pair>,
+    hex: &str,
+) -> Result<Option<Asked<'a>>, AllocError>
+    ensures { IfOk result (λ found. option_map asked found
+        ≡ with_formats word.now policy.now source target (bytes_in hex.now)) }
+{
+    match word {
+        "translate" => translation_of(alloc, policy, source, target, hex),
+        _ => Ok(None),
+    }
+}
+
+/// A task of this crate, under the policy of a name.
+fn under<'a>(policy: &'a str, task: Task<'a>) -> Asked<'a>
+    ensures { asked result ≡ alone (under policy.now (task_of task.entry)) }
+{
+    Asked::Alone(Command::Under { policy, task })
 }
 
 /// A translation under the policy of a name, where the words for its formats and its bytes spell some.
@@ -281,6 +373,24 @@ fn purged_of<'a>(
     }
 }
 
+/// The recording of a name, and the checkpoint behind it, under the policy of a name.
+fn saving_of<'a>(policy: &'a str, traffic: &'a str) -> Option<Asked<'a>>
+    ensures { option_map asked result ≡ Some (save policy.now traffic.now) }
+{
+    Some(Asked::Other(Work::Save(Saving { policy, traffic })))
+}
+
+/// The recording of a name, behind the checkpoint of a name, under the policy of a name.
+fn resumption_of<'a>(policy: &'a str, checkpoint: &'a str, traffic: &'a str) -> Option<Asked<'a>>
+    ensures { option_map asked result ≡ Some (resume policy.now checkpoint.now traffic.now) }
+{
+    Some(Asked::Other(Work::Resume(Resumption {
+        policy,
+        checkpoint,
+        traffic,
+    })))
+}
+
 /// The format that two words name.
 fn pair_of(lfs: &str, pi: &str) -> Option<Pair>
     ensures { result ≡ pair_in lfs.now pi.now }
@@ -316,7 +426,7 @@ pub fn version() -> &'static str
 
 /// What a word asks for that stands alone.
 fn option_of<'a>(word: &str) -> Option<Asked<'a>>
-    ensures { option_map asked result ≡ form_of (word.now ∷ []) }
+    ensures { option_map asked result ≡ option word.now }
 {
     match word {
         "--help" => Some(Asked::Alone(Command::Help)),

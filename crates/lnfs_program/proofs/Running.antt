@@ -19,11 +19,11 @@ use Rattle.lnfs_stage.specs.Does.{Does, IsExcused, HandedOn, ended}
 use Rattle.lnfs_stage.proofs.Writing.{front_first}
 use Rattle.lnfs_stage.proofs.Staying.{no_rise}
 use Rattle.lnfs_stage.proofs.Doing.{beside_net}
-use Rattle.lnfs_stage.specs.Contents.{Follows}
+use Rattle.lnfs_stage.specs.Contents.{Contents, Follows}
 use Rattle.lnfs_stage.proofs.Reading.{unread, unread_held}
 use Rattle.lnfs_commands.specs.Commands.{due}
 use Rattle.lnfs_commands.specs.Runs.{RunsQuietly}
-use Rattle.lnfs_commands.specs.Words.{Asked, alone, serve, talk, judge}
+use Rattle.lnfs_commands.specs.Words.{Asked, alone, serve, talk, judge, save, resume}
 use Rattle.lnfs_service.specs.Handed.{Dealings, dealings}
 use Rattle.lnfs_service.specs.Serves.{Offers, IsIdleBefore}
 use Rattle.lnfs_service.proofs.Dealing.{untouched, nothing}
@@ -31,11 +31,16 @@ use Rattle.lnfs_service.proofs.Handing.{idle_same as idle_before}
 use Rattle.lnfs_dialling.specs.Visits.{Visits, IsIdleFor, IsIdleTill}
 use Rattle.lnfs_program.specs.Runs.{Met, Runs, RunsAsked, WithoutNet, HasReason, counts, streams, due_asked}
 use Rattle.lnfs_auditing.specs.Audits.{audit_due}
+use Rattle.lnfs_checkpointing.specs.Checkpoints.{saving_due, resumption_due, IsJudged, Resumes}
 use Rattle.lnfs_program.specs.Idle.{IsIdle}
 
 -- nothing was met
 abbrev nobody : Met
-nobody = record { session = None; records = None }
+nobody = record { session = None; records = None; verdict = None }
+
+-- no verdict where there was no memory to judge
+none_judged : (files : Contents) → IsJudged files status.Memory None
+none_judged files = record { said = λ text bytes p is_text is_policy is_bytes. refl }
 
 -- a call that isn't given the net doesn't say that it failed
 without_net : (result : Result (Unit {0}) Stop) (s t : Seen) → IfErr result (λ stop. IsExcused 0 0 stop s t) → WithoutNet (status_of result)
@@ -55,6 +60,7 @@ module _ (may : Moment → Type 0) (result : Result (Unit {0}) Stop) (s t : Seen
     held = unread_held s.content (policy ∷ []);
     does = record { whole = tt; begun = front_first [] (told (due_asked (Some (serve policy links workers)) (unread s.content (policy ∷ [])) nobody)).writes p.begun; stays = p.stays; excused = tt };
     links = untouched dealt backs (inl nothing);
+    judged = tt;
     later = omega arith;
   }
 
@@ -66,6 +72,7 @@ module _ (may : Moment → Type 0) (result : Result (Unit {0}) Stop) (s t : Seen
     held = unread_held s.content names;
     does = record { whole = tt; begun = front_first [] (told (due_asked (Some (talk policy level script)) (unread s.content names) nobody)).writes p.begun; stays = p.stays; excused = tt };
     links = untouched dealt backs nothing;
+    judged = tt;
     later = omega arith;
   }
 
@@ -77,6 +84,7 @@ module _ (may : Moment → Type 0) (result : Result (Unit {0}) Stop) (s t : Seen
     held = unread_held s.content names;
     does = record { whole = tt; begun = front_first [] (told (due_asked (Some (judge policy traffic replies purged)) (unread s.content names) nobody)).writes p.begun; stays = p.stays; excused = tt };
     links = untouched dealt backs (tt, nothing);
+    judged = tt;
     later = omega arith;
   }
 
@@ -88,6 +96,54 @@ module _ (may : Moment → Type 0) (result : Result (Unit {0}) Stop) (s t : Seen
     held = p.held;
     does = beside_net n n p.does;
     links = untouched dealt backs (without_net result s t p.does.excused, nothing);
+    judged = tt;
+    later = omega arith;
+  })
+
+  -- and none to begin with a checkpoint
+  short_saving : (policy traffic : List ℕ) → Does {T = Unit {0}} (Err stops.Memory) s t (written []) → RunsAsked may (Err stops.Memory) (Some (save policy traffic)) s t n n (dealings dealt dealt backs backs)
+  short_saving policy traffic p = let names : List (List ℕ) = policy ∷ traffic ∷ [] in record {
+    contents = unread s.content names;
+    met = nobody;
+    held = unread_held s.content names;
+    does = record { whole = tt; begun = front_first [] (told (due_asked (Some (save policy traffic)) (unread s.content names) nobody)).writes p.begun; stays = p.stays; excused = tt };
+    links = untouched dealt backs (tt, nothing);
+    judged = tt;
+    later = omega arith;
+  }
+
+  short_resumption : (policy checkpoint traffic : List ℕ) → Does {T = Unit {0}} (Err stops.Memory) s t (written []) → RunsAsked may (Err stops.Memory) (Some (resume policy checkpoint traffic)) s t n n (dealings dealt dealt backs backs)
+  short_resumption policy checkpoint traffic p = let names : List (List ℕ) = policy ∷ checkpoint ∷ traffic ∷ [] in record {
+    contents = unread s.content names;
+    met = nobody;
+    held = unread_held s.content names;
+    does = record { whole = tt; begun = front_first [] (told (due_asked (Some (resume policy checkpoint traffic)) (unread s.content names) nobody)).writes p.begun; stays = p.stays; excused = tt };
+    links = untouched dealt backs (tt, nothing);
+    judged = none_judged (unread s.content names);
+    later = omega arith;
+  }
+
+  -- a checkpoint that was asked for
+  pub saved_asked : {asked : Option Asked} {policy traffic : List ℕ} → asked ≡ Some (save policy traffic) → Follows result s t (policy ∷ traffic ∷ []) (λ files. told (saving_due policy traffic files)) → RunsAsked may result asked s t n n (dealings dealt dealt backs backs)
+  saved_asked is p = rw is (record {
+    contents = p.contents;
+    met = nobody;
+    held = p.held;
+    does = beside_net n n p.does;
+    links = untouched dealt backs (without_net result s t p.does.excused, nothing);
+    judged = tt;
+    later = omega arith;
+  })
+
+  -- and what is behind one
+  pub resumed_asked : {asked : Option Asked} {policy checkpoint traffic : List ℕ} → asked ≡ Some (resume policy checkpoint traffic) → Resumes result s t (policy ∷ checkpoint ∷ traffic ∷ []) IsJudged (λ verdict files. told (resumption_due policy checkpoint traffic verdict files)) → RunsAsked may result asked s t n n (dealings dealt dealt backs backs)
+  resumed_asked is p = rw is (record {
+    contents = p.follows.contents;
+    met = record { session = None; records = None; verdict = p.verdict };
+    held = p.follows.held;
+    does = beside_net n n p.follows.does;
+    links = untouched dealt backs (without_net result s t p.follows.does.excused, nothing);
+    judged = p.judged;
     later = omega arith;
   })
 
@@ -99,6 +155,7 @@ module _ (may : Moment → Type 0) (result : Result (Unit {0}) Stop) (s t : Seen
     held = p.follows.held;
     does = beside_net n n p.follows.does;
     links = untouched dealt backs (without_net result s t p.follows.does.excused, nothing);
+    judged = tt;
     later = omega arith;
   }
   quiet_asked (Some (alone form)) p = record {
@@ -107,11 +164,14 @@ module _ (may : Moment → Type 0) (result : Result (Unit {0}) Stop) (s t : Seen
     held = p.follows.held;
     does = beside_net n n p.follows.does;
     links = untouched dealt backs (without_net result s t p.follows.does.excused, nothing);
+    judged = tt;
     later = omega arith;
   }
   quiet_asked (Some (serve policy links workers)) p = rw p.memory (short_asked policy links workers p.memory (rw p.memory at p.does))
   quiet_asked (Some (talk policy level script)) p = rw p.memory (short_visit policy level script (rw p.memory at p.does))
   quiet_asked (Some (judge policy traffic replies purged)) p = rw p.memory (short_audit policy traffic replies purged (rw p.memory at p.does))
+  quiet_asked (Some (save policy traffic)) p = rw p.memory (short_saving policy traffic (rw p.memory at p.does))
+  quiet_asked (Some (resume policy checkpoint traffic)) p = rw p.memory (short_resumption policy checkpoint traffic (rw p.memory at p.does))
 
   pub quiet_handed : (asked : Option Asked) → RunsQuietly result asked s t → HandedOn result s t
   quiet_handed None p = p.handed
@@ -119,11 +179,13 @@ module _ (may : Moment → Type 0) (result : Result (Unit {0}) Stop) (s t : Seen
   quiet_handed (Some (serve policy links workers)) p = p.handed
   quiet_handed (Some (talk policy level script)) p = p.handed
   quiet_handed (Some (judge policy traffic replies purged)) p = p.handed
+  quiet_handed (Some (save policy traffic)) p = p.handed
+  quiet_handed (Some (resume policy checkpoint traffic)) p = p.handed
 
 -- a service that was asked for
 module _ {asked : Option Asked} {policy links : List ℕ} {workers : ℕ} (is : asked ≡ Some (serve policy links workers)) where
   pub served_asked : {may : Moment → Type 0} {result : Result (Unit {0}) Stop} {s s' t : Seen} {n n' : ℕ} {d : Dealings} → s' ≡ s → Offers may policy links result s' t n n' d told → RunsAsked may result asked s t n n' d
-  served_asked same p = let q = rw same at p in rw is (record { contents = q.policy ∷ []; met = record { session = q.session; records = None }; held = (q.held, tt); does = q.does; links = q.links; later = q.later })
+  served_asked same p = let q = rw same at p in rw is (record { contents = q.policy ∷ []; met = record { session = q.session; records = None; verdict = None }; held = (q.held, tt); does = q.does; links = q.links; judged = tt; later = q.later })
 
   pub served_idle : {N : Type 0} (result : Result (Unit {0}) Stop) (net net' : N) → IsIdleBefore (status_of result) net net' → IsIdle asked (status_of result) net net'
   served_idle result net net' i = rw is i
@@ -131,7 +193,7 @@ module _ {asked : Option Asked} {policy links : List ℕ} {workers : ℕ} (is : 
 -- a client that was asked for
 module _ {asked : Option Asked} {policy : List ℕ} {level : ℕ} {script : List ℕ} (is : asked ≡ Some (talk policy level script)) where
   pub visited_asked : {may : Moment → Type 0} {result : Result (Unit {0}) Stop} {s s' t : Seen} {n n' : ℕ} {d : Dealings} → s' ≡ s → Visits policy level script result s' t n n' d told → RunsAsked may result asked s t n n' d
-  visited_asked same p = let q = rw same at p in rw is (record { contents = q.contents; met = record { session = None; records = q.records }; held = q.held; does = q.does; links = q.links; later = q.later })
+  visited_asked same p = let q = rw same at p in rw is (record { contents = q.contents; met = record { session = None; records = q.records; verdict = None }; held = q.held; does = q.does; links = q.links; judged = tt; later = q.later })
 
   pub visited_idle : {N : Type 0} (result : Result (Unit {0}) Stop) (net net' : N) → IsIdleTill (status_of result) net net' → IsIdle asked (status_of result) net net'
   visited_idle result net net' i = rw is i
@@ -158,6 +220,8 @@ idle_same (Some (alone form)) result net = refl
 idle_same (Some (serve policy links workers)) result net = idle_before net (status_of result)
 idle_same (Some (talk policy level script)) result net = visit_same net (status_of result)
 idle_same (Some (judge policy traffic replies purged)) result net = refl
+idle_same (Some (save policy traffic)) result net = refl
+idle_same (Some (resume policy checkpoint traffic)) result net = refl
 
 -- ---- told of the objects one by one
 
@@ -181,6 +245,7 @@ module _ {may : Moment → Type 0} {asked : Option Asked} {s t : Seen} {n n' : �
     told_all = told_whole (ended result) s t (streams s.out.taken s.audit.taken) (streams t.out.taken t.audit.taken) due p.does.whole (as_streams s t (told due).writes);
     begun = record { whole = p.does.begun.whole; part = p.does.begun.part; takes = as_streams s t _ p.does.begun.takes };
     links = p.links;
+    judged = p.judged;
   }
 
   pub reason_of : (result : Result (Unit {0}) Stop) → RunsAsked may result asked s t n n' d → HasReason (status_of result) s.faults t.faults n n' (counts s.out.faults s.audit.faults) (counts t.out.faults t.audit.faults)

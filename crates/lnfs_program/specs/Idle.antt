@@ -3,7 +3,7 @@ use Rattle.std.specs.Prelude.{◌≡◌}
 use Rattle.std.specs.declared.option.Option.{Option}
 use Rattle.std.specs.declared.option.Option.TheVariants.{Some, None}
 use Rattle.lnfs_stage.specs.declared.status.Status.{Status}
-use Rattle.lnfs_commands.specs.Words.{Asked, alone, serve, talk, judge}
+use Rattle.lnfs_commands.specs.Words.{Asked, alone, serve, talk, judge, save, resume}
 use Rattle.lnfs_service.specs.Serves.{IsIdleBefore}
 use Rattle.lnfs_dialling.specs.Visits.{IsIdleTill}
 
@@ -14,3 +14,5 @@ IsIdle (Some (alone form)) ending net net' = net' ≡ net
 IsIdle (Some (serve policy links workers)) ending net net' = IsIdleBefore ending net net'
 IsIdle (Some (talk policy level script)) ending net net' = IsIdleTill ending net net'
 IsIdle (Some (judge policy traffic replies purged)) ending net net' = net' ≡ net
+IsIdle (Some (save policy traffic)) ending net net' = net' ≡ net
+IsIdle (Some (resume policy checkpoint traffic)) ending net net' = net' ≡ net

@@ -10,6 +10,7 @@ ghost use Rattle.lnfs_program.specs.Idle.{IsIdle};
 ghost use Rattle.lnfs_program.specs.Runs.{HasReason, NoneFell, Runs, RunsAsked, counts, streams};
 
 use lnfs_auditing::run_audit;
+use lnfs_checkpointing::{run_resumption, run_saving};
 use lnfs_commands::{Work, run_alone};
 use lnfs_dialling::run_visit;
 use lnfs_format::Codecs;
@@ -20,7 +21,7 @@ use std::alloc::Global;
 use std::sync::Wait;
 use std::thread::Threads;
 
-/// Serves links, talks a script through over one, or judges recorded replies.
+/// Serves links, talks a script through over one, judges recorded replies, or writes a checkpoint or goes on from one.
 fn run_work<O: Outside, N: Net, C: Clock + Sync, R: Threads + Wait + Sync>(
     rt: &R,
     alloc: Global,
@@ -42,6 +43,8 @@ where
         Work::Serve(service) => run_served(rt, alloc, service, codecs, outside, net, clock),
         Work::Talk(visit) => run_visit(rt, alloc, visit, codecs, outside, net),
         Work::Judge(audit) => run_audit(alloc, audit, codecs, outside),
+        Work::Save(saving) => run_saving(alloc, saving, codecs, outside),
+        Work::Resume(resumption) => run_resumption(alloc, resumption, codecs, outside),
     }
 }
 
@@ -128,7 +131,7 @@ where
     N::L: Send,
     // the status and the writes are those that are due; where the run gave up, a front of the writes
     // was taken; the links that were dealt are those of a service or of a client, and each was handed
-    // back
+    // back; a checkpoint gets the verdict that its bytes and the policy determine
     ensures runs { Runs (F.content files.old) (C.may clock.now) (form_of (texts words.now)) result
         (streams (K.taken out.old) (A.taken audit.old))
         (streams (K.taken out.new) (A.taken audit.new))

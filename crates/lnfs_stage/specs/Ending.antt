@@ -5,9 +5,11 @@ use Rattle.std.specs.declared.option.Option.{Option}
 use Rattle.std.specs.declared.option.Option.TheVariants.{Some, None}
 use Rattle.lnfs_policy.specs.Policy.{cause_name}
 use Rattle.lnfs_stage.specs.declared.ending.Ending.{Ending}
-use Rattle.lnfs_stage.specs.declared.ending.Ending.TheVariants.{Usage, PolicyRefused, TrafficDamaged, NoFile, Untranslated, ScriptRefused, LinkClosed}
+use Rattle.lnfs_stage.specs.declared.ending.Ending.TheVariants.{Usage, PolicyRefused, TrafficDamaged, NoFile, Untranslated, ScriptRefused, LinkClosed, CheckpointRefused}
 use Rattle.lnfs_stage.specs.declared.ending.MapCause.{MapCause}
 use Rattle.lnfs_stage.specs.declared.ending.MapCause.TheVariants.{WrongLfs, BadLabel, NoRow}
+use Rattle.lnfs_stage.specs.declared.ending.CheckpointCause.{CheckpointCause}
+use Rattle.lnfs_stage.specs.declared.ending.CheckpointCause.TheVariants.{Damaged, Policy, Unfit}
 use Rattle.lnfs_stage.specs.declared.stop.Stop.{Stop}
 use Rattle.lnfs_stage.specs.declared.stop.Stop.TheVariants as stop
 use Rattle.lnfs_stage.specs.declared.status.Status.{Status}
@@ -19,6 +21,11 @@ map_cause_name WrongLfs = codes "WrongLfs"
 map_cause_name BadLabel = codes "BadLabel"
 map_cause_name NoRow = codes "NoRow"
 
+abbrev pub checkpoint_line : CheckpointCause → List ℕ
+checkpoint_line (Damaged at) = codes "fault 14 checkpoint damaged at " ++ decimal at ++ 10 ∷ []
+checkpoint_line Policy = codes "fault 14 checkpoint policy\n"
+checkpoint_line Unfit = codes "fault 14 checkpoint unfit\n"
+
 -- the line on the audit stream that tells an ending
 abbrev pub fault_line : Ending → List ℕ
 fault_line Usage = codes "fault 2 usage\n"
@@ -28,6 +35,7 @@ fault_line (NoFile name) = codes "fault 9 no file " ++ name ++ 10 ∷ []
 fault_line (Untranslated cause) = codes "fault 10 untranslated " ++ map_cause_name cause ++ 10 ∷ []
 fault_line (ScriptRefused line) = codes "fault 12 script line " ++ decimal line ++ 10 ∷ []
 fault_line LinkClosed = codes "fault 13 link closed\n"
+fault_line (CheckpointRefused cause) = checkpoint_line cause
 
 -- the status of a call that ended, or gave up
 abbrev pub status_of : {T : Type 0} → Result T Stop → Status
@@ -56,6 +64,7 @@ number_of_ending (NoFile name) = 9
 number_of_ending (Untranslated cause) = 10
 number_of_ending (ScriptRefused line) = 12
 number_of_ending LinkClosed = 13
+number_of_ending (CheckpointRefused cause) = 14
 
 abbrev pub number_of : Status → ℕ
 number_of status.Ok = 0

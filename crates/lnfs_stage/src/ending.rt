@@ -1,7 +1,7 @@
 //! How a run ends where nothing failed on the way, unless all is well.
 ghost use Rattle.std.specs.Prelude.{◌≡◌, [], ◌∷◌, ◌++◌, IfOk, string_bytes, codes};
 ghost use Rattle.std.specs.Fmt.{decimal};
-ghost use Rattle.lnfs_stage.specs.Ending.{fault_line, map_cause_name, number_of_ending};
+ghost use Rattle.lnfs_stage.specs.Ending.{checkpoint_line, fault_line, map_cause_name, number_of_ending};
 
 use lnfs_policy::Cause;
 use lnfs_types::Text;
@@ -31,6 +31,17 @@ impl MapCause {
     }
 }
 
+/// Why a checkpoint is refused.
+#[derive(Clone, Copy, Debug, PartialEq, Eq)]
+pub enum CheckpointCause {
+    /// The file is no checkpoint. The offset of its first item that isn't there, in bytes.
+    Damaged { at: u64 },
+    /// It is of another policy.
+    Policy,
+    /// No server of the policy has such a state.
+    Unfit,
+}
+
 /// An ending that is told by a line on the audit stream.
 #[derive(Debug, Drop)]
 pub enum Ending {
@@ -48,6 +59,8 @@ pub enum Ending {
     ScriptRefused { line: u64 },
     /// No further reply can come over the link of a client, and one is awaited.
     LinkClosed,
+    /// The checkpoint is refused.
+    CheckpointRefused { cause: CheckpointCause },
 }
 
 impl Ending {
@@ -63,6 +76,7 @@ impl Ending {
             Ending::Untranslated { cause: _ } => 10,
             Ending::ScriptRefused { line: _ } => 12,
             Ending::LinkClosed => 13,
+            Ending::CheckpointRefused { cause: _ } => 14,
         }
     }
 
@@ -90,7 +104,20 @@ impl Ending {
             }
             Ending::ScriptRefused { line } => format!(in alloc; "fault 12 script line {line}\n"),
             Ending::LinkClosed => format!(in alloc; "fault 13 link closed\n"),
+            Ending::CheckpointRefused { cause } => checkpoint_line(alloc, *cause),
         }
+    }
+}
+
+fn checkpoint_line(alloc: Global, cause: CheckpointCause) -> Result<String, AllocError>
+    ensures { IfOk result (λ line. string_bytes line ≡ checkpoint_line cause) }
+{
+    match cause {
+        CheckpointCause::Damaged { at } => {
+            format!(in alloc; "fault 14 checkpoint damaged at {at}\n")
+        }
+        CheckpointCause::Policy => format!(in alloc; "fault 14 checkpoint policy\n"),
+        CheckpointCause::Unfit => format!(in alloc; "fault 14 checkpoint unfit\n"),
     }
 }
 

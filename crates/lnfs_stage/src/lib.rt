@@ -13,7 +13,7 @@ mod status;
 mod stop;
 mod world;
 
-pub use ending::{Ending, MapCause};
+pub use ending::{CheckpointCause, Ending, MapCause};
 pub use finish::{close, tell};
 pub use outside::Outside;
 pub use status::Status;

@@ -37,7 +37,7 @@ impl Status {
         }
     }
 
-    /// The exit status of the program: 0 for `Ok`, and from 2 to 13 for the others.
+    /// The exit status of the program: 0 for `Ok`, and from 2 to 14 for the others.
     pub fn number(&self) -> u8
         ensures { result ≡ number_of self.now }
     {

@@ -2,6 +2,10 @@
 #![tactic(auto)]
 
 #[cfg(test)]
+mod cells;
+#[cfg(test)]
+mod checkpoints;
+#[cfg(test)]
 mod commands;
 #[cfg(test)]
 mod streams;

@@ -2,13 +2,14 @@
 ghost use Rattle.std.specs.Prelude.{◌≤◌, length};
 
 use crate::codecs::codecs_of;
-use crate::site::{POLICY, policy_of};
+use crate::site::policy_of;
 use crate::talked::{Talked, talk};
 use lnfs_format::Codecs;
 use lnfs_gss3::TestMechanism;
 use lnfs_outside::MemLink;
 use lnfs_policy::Policy;
 use lnfs_test_support::flaw::{Flaw, demand};
+use lnfs_test_support::site::POLICY;
 use std::alloc::{AllocError, Global};
 use std::sync::Wait;
 

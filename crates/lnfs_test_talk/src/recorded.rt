@@ -4,11 +4,10 @@ ghost use Rattle.std.specs.Prelude.{IfOk};
 ghost use Rattle.lnfs_outside.specs.Deals.{IsUnused};
 
 use crate::served::{Driven, ORDINARY, Visit, drive};
-use crate::site::POLICY;
 use lnfs_outside::{MemDeal, MemFile, MemLink, MemNet, MemSink};
 use lnfs_test_support::flaw::{Flaw, demand};
 use lnfs_test_support::runs::{NONE, Ran, Runtime, run_files, run_net, run_under};
-use lnfs_test_support::site::file;
+use lnfs_test_support::site::{POLICY, file};
 use std::alloc::{AllocError, Global};
 
 /// How the links of the session end. A guest mounts by three requests and leaves by two, and the

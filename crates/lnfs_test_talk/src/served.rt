@@ -4,7 +4,7 @@ ghost use Rattle.std.specs.Prelude.{◌≡◌, ◌≤◌, None, [], length, refl
 use crate::acting::{act, guest_of, path_of};
 use crate::codecs::codecs_of;
 use crate::server::{Server, vault_of};
-use crate::site::{POLICY, policy_of};
+use crate::site::policy_of;
 use crate::talked::talk;
 use lnfs_calipso::Level;
 use lnfs_format::Codecs;
@@ -13,6 +13,7 @@ use lnfs_outside::{Failed, Link, Sink, Source};
 use lnfs_policy::Policy;
 use lnfs_script::Action;
 use lnfs_test_support::flaw::{Flaw, demand};
+use lnfs_test_support::site::POLICY;
 use lnfs_vault::Vault;
 use std::alloc::{AllocError, Global};
 use std::process::Abort;

@@ -1,0 +1,19 @@
+use Rattle.lnfs_stage.proofs.Telling.{becomes_then, handed_later}
+use Rattle.lnfs_checkpointing.proofs.Verdicts.{judged_later}
+use Rattle.lnfs_checkpointing.proofs.resuming.run_resumption.Goals as goal
+
+pub returns-clause-resumes : goal.returns-clause-resumes
+returns-clause-resumes g c =
+    let j = c.judge-judged.ensures in
+    let f = j.follows in
+    let t = c.tell-told.ensures.does 0 0 _ _ f.does in
+    record {
+      verdict = j.verdict;
+      follows = record { contents = f.contents; held = f.held; does = c.close.ensures.does 0 0 _ _ t };
+      judged = judged_later _ _ _ _ (becomes_then _ _ _ c.tell-told.ensures.becomes c.close.ensures.becomes) j.judged;
+    }
+
+pub returns-clause-handed : goal.returns-clause-handed
+returns-clause-handed g c =
+    let t = c.tell-told.ensures.does 0 0 _ _ c.judge-judged.ensures.follows.does in
+    handed_later t.stays c.close.ensures.handed
