@@ -1,0 +1,3 @@
+pub mod SidesLaws
+pub mod SidesCarried
+pub mod Telling

@@ -1,0 +1,15 @@
+pub mod GrammarLaws
+pub mod Conclusions
+pub mod SeenLocks
+pub mod LockViews
+pub mod KeptRows
+pub mod LockLevels
+pub mod LockErasure
+pub mod Totals
+pub mod KeptFacts
+pub mod LockBefore
+pub mod ReadOwner
+pub mod LockSound
+pub mod LockBears
+pub mod LockLaws
+pub mod LockCarried

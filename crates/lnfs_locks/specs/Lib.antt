@@ -1,0 +1,11 @@
+pub mod Arguments
+pub mod Locks
+pub mod Denial
+pub mod StateIds
+pub mod Ranges
+pub mod Effects
+pub mod Lock
+pub mod LockT
+pub mod LockU
+pub mod Facts
+pub mod Outcome
