@@ -1,0 +1,11 @@
+pub mod Dropping
+pub mod Entries
+pub mod Finding
+pub mod Going
+pub mod Keeping
+pub mod LevelRuns
+pub mod Naming
+pub mod Places
+pub mod Runs
+pub mod Settled
+pub mod Totals

@@ -1,0 +1,5 @@
+//! Locks as they are kept: one comes, is found, stands in the way, gets another state, and goes.
+#![tactic(auto)]
+
+#[cfg(test)]
+mod calls;
