@@ -1,10 +1,9 @@
 -- What is served behind a break, and what would have been served without it.
-use Rattle.std.proofs.Common.{◌≡◌, ◌+◌, ℕ, List, [], ◌∷◌, ◌++◌, length, refl, sym, ap, ◌∙◌, arith, unwrap_or}
+use Rattle.std.proofs.Common.{◌≡◌, ◌+◌, ℕ, List, [], ◌∷◌, ◌++◌, length, refl, sym, ap, ◌∙◌, unwrap_or}
 use Rattle.std.specs.declared.option.Option.{Option}
 use Rattle.std.proofs.lemmas.List.{length-append}
 use Rattle.lnfs_types.specs.declared.event.Event.{Event}
 use Rattle.lnfs_policy.specs.Policy.{Policy}
-use Rattle.lnfs_world.specs.World.{World}
 use Rattle.lnfs_world.specs.Both.{Both}
 use Rattle.lnfs_operations.specs.Extra.{no_extra}
 use Rattle.lnfs_gss3.specs.Mechanism.{keyed_digest}
@@ -12,9 +11,8 @@ use Rattle.lnfs_step.specs.Step.{step_with}
 use Rattle.lnfs_step.specs.Journal.{first_state, state_from, state_after, reply_with, line_with, answer_with}
 use Rattle.lnfs_step.proofs.Steps.{state_from-append}
 use Rattle.lnfs_traffic.specs.Parts.{recorded}
-use Rattle.lnfs_checkpoint.specs.Resumed.{Got, got_from, state_of}
+use Rattle.lnfs_checkpoint.specs.Resumed.{got_from, state_of}
 use Rattle.lnfs_stage.specs.Writes.{Write, on_out, on_audit}
-use Rattle.lnfs_stage.specs.Due.{Due}
 use Rattle.lnfs_commands.specs.Commands.{replayed}
 use Rattle.lnfs_commands.specs.Events.{audit_with, writes_after, lines_after}
 use Rattle.lnfs_checkpointing.specs.Checkpoints.{line_alone, reply_and_line, writes_of, ending_after, resumed}

@@ -1,7 +1,6 @@
 -- A recording in memory that is served while it is fed.
-use Rattle.std.proofs.Common.{◌≡◌, ◌≤◌, ◌<◌, ◌+◌, ◌*◌, ◌^◌, ℕ, true, false, List, [], ◌∷◌, ◌++◌, length, take, drop, refl, sym, ap, ◌∙◌, subst, arith, append-nil, append_assoc}
+use Rattle.std.proofs.Common.{◌≡◌, ◌≤◌, ◌<◌, ◌+◌, ◌*◌, ◌^◌, ℕ, false, List, [], ◌∷◌, ◌++◌, length, take, drop, refl, sym, ap, ◌∙◌, subst, arith, append-nil}
 use Rattle.std.specs.Prelude.{Result, Ok, Err}
-use Rattle.std.specs.declared.option.Option.{Option}
 use Rattle.std.specs.declared.option.Option.TheVariants.{Some, None}
 use Rattle.std.proofs.lemmas.List.{length-take-le, take-append-drop, take_all}
 use Rattle.lnfs_types.specs.declared.event.Event.{Event}
@@ -16,7 +15,6 @@ use Rattle.lnfs_traffic.specs.declared.error.TrafficError.TheVariants as error
 use Rattle.lnfs_traffic.proofs.Fed.{more_fed}
 use Rattle.lnfs_traffic.proofs.Whole.{whole_again}
 use Rattle.lnfs_layout.specs.declared.numbers.TheConstants.{MOST_EVENTS}
-use Rattle.lnfs_stage.specs.declared.ending.Ending.{Ending}
 use Rattle.lnfs_stage.specs.declared.ending.Ending.TheVariants.{TrafficDamaged}
 use Rattle.lnfs_stage.specs.declared.stop.Stop.{Stop}
 use Rattle.lnfs_stage.specs.declared.stop.Stop.TheVariants.{Ends, Memory}
@@ -30,7 +28,7 @@ use Rattle.lnfs_commands.proofs.Replaying.{Firsts, firsts, last_fits, whole_endi
 use Rattle.lnfs_checkpoint.specs.Resumed.{Resumed, Got, got_from, state_of}
 use Rattle.lnfs_checkpointing.specs.Checkpoints.{served, writes_of, ending_after}
 use Rattle.lnfs_checkpointing.specs.Servings.{got_of, IsBehind, IsFedOn}
-use Rattle.lnfs_checkpointing.proofs.Served.{got_at, written_of, written_join, written_more, next_got, behind_none, behind_more}
+use Rattle.lnfs_checkpointing.proofs.Served.{written_of, written_join, written_more, next_got, behind_none, behind_more}
 use Rattle.lnfs_checkpointing.proofs.Bounds.{reads_long}
 
 -- The events that were given so far, of what was fed so far; what was done of what they are due; and the server behind them.

@@ -1,10 +1,9 @@
 -- A checkpoint's events are few.
-use Rattle.std.proofs.Common.{◌≡◌, ◌≤◌, ◌<◌, ℕ, Bool, true, false, List, [], ◌++◌, length, sym, ap, subst, ◌∙◌, inl, inr, arith}
+use Rattle.std.proofs.Common.{◌≡◌, ◌≤◌, ℕ, Bool, true, false, List, ap, subst, inl, inr}
 use Rattle.std.proofs.lemmas.Bool.{leb-true}
 use Rattle.std.specs.Str.{bytes_eq}
-use Rattle.std.specs.declared.option.Option.{Option}
 use Rattle.std.specs.declared.option.Option.TheVariants.{Some, None}
-use Rattle.lnfs_xdr.specs.Message.{Message, Tells, Next, Unread, Closed}
+use Rattle.lnfs_xdr.specs.Message.{Tells, Next, Unread, Closed}
 use Rattle.lnfs_xdr.specs.Format.{Spells}
 use Rattle.lnfs_layout.specs.declared.numbers.TheConstants.{MOST_EVENTS}
 use Rattle.lnfs_layout.specs.Whole.{Told, body, layout, chosen}

@@ -5,3 +5,5 @@ pub mod Breaking
 pub mod Verdicts
 pub mod Few
 pub mod Written
+pub mod Keeping
+pub mod Joining

@@ -1,12 +1,11 @@
 -- A verdict on a checkpoint, and what is due by it.
 use Rattle.std.proofs.Common.{◌≡◌, ℕ, List, [], ◌∷◌, refl, sym, ap, subst, ◌∙◌, inl, inr}
-use Rattle.std.specs.Prelude.{Result, Ok, Err, IfSome, IsSome}
+use Rattle.std.specs.Prelude.{Result, Ok, Err, IsSome}
 use Rattle.std.specs.Global.{Vec}
 use Rattle.std.specs.declared.option.Option.{Option}
 use Rattle.std.specs.declared.option.Option.TheVariants.{Some, None}
 use Rattle.lnfs_policy.specs.Policy.{Policy}
 use Rattle.lnfs_policy.specs.PolicyText.{Refused, policy_of}
-use Rattle.lnfs_layout.specs.Whole.{Told}
 use Rattle.lnfs_checkpoint.specs.declared.errors.CheckpointError.{CheckpointError}
 use Rattle.lnfs_checkpoint.specs.declared.errors.CheckpointError.TheVariants as errors
 use Rattle.lnfs_checkpoint.specs.Resumed.{Resumed}
@@ -19,15 +18,15 @@ use Rattle.lnfs_stage.specs.declared.stop.Stop.TheVariants.{Ends, ReadFault, Wri
 use Rattle.lnfs_stage.specs.declared.status.Status.{Status}
 use Rattle.lnfs_stage.specs.Ending.{status_of, told_by}
 use Rattle.lnfs_stage.specs.Seen.{Seen}
-use Rattle.lnfs_stage.specs.Due.{Due, written, given, ends}
+use Rattle.lnfs_stage.specs.Due.{Due, written, given}
 use Rattle.lnfs_stage.specs.Does.{Does, Becomes, ReadsIn}
-use Rattle.lnfs_stage.specs.Contents.{Contents, first, others, AllHold, Follows}
+use Rattle.lnfs_stage.specs.Contents.{Contents, first, AllHold, Follows}
 use Rattle.lnfs_stage.proofs.Doing.{does_end, does_short, does_then}
 use Rattle.lnfs_stage.proofs.Reading.{unread, unread_held, stopped, follows_over}
 use Rattle.lnfs_commands.specs.Commands.{judged, ends_by}
 use Rattle.lnfs_commands.specs.Rules.{IsTaken, RulesIn}
 use Rattle.lnfs_commands.proofs.Ruling.{stopped_rules, under_rules, was_ruled}
-use Rattle.lnfs_checkpointing.specs.Checkpoints.{behind, stop_of, resumed, resumption_behind, resumption_under, resumption_due, IsSaid, IsGiven, IsJudged, Resumes}
+use Rattle.lnfs_checkpointing.specs.Checkpoints.{stop_of, resumed, resumption_behind, resumption_under, resumption_due, IsSaid, IsGiven, IsJudged, Resumes}
 
 -- ---- a call that stopped told an ending that was due, or it gave up
 
@@ -48,10 +47,10 @@ said_later p bytes before after None (inr late) s = let no : IsSome {T = Option 
 pub judged_later : (files : Contents) (before after : Status) (verdict : Option Verdict) → Becomes before after → IsJudged files before verdict → IsJudged files after verdict
 judged_later files before after verdict b j = record { said = λ text bytes p is_text is_policy is_bytes. said_later p bytes before after verdict b (j.said text bytes p is_text is_policy is_bytes) }
 
-same_items : (a b : List ℕ) (found : Option (List ℕ)) → found ≡ Some a → found ≡ Some b → a ≡ b
+pub same_items : (a b : List ℕ) (found : Option (List ℕ)) → found ≡ Some a → found ≡ Some b → a ≡ b
 same_items a b found p q = let e : Some a ≡ Some b = sym p ∙ q in cc
 
-same_policy : (found : Option (List ℕ)) (p other : Policy) → IsTaken found (λ spelled. spelled ≡ p) → (text : List ℕ) → found ≡ Some text → policy_of text ≡ Ok other → p ≡ other
+pub same_policy : (found : Option (List ℕ)) (p other : Policy) → IsTaken found (λ spelled. spelled ≡ p) → (text : List ℕ) → found ≡ Some text → policy_of text ≡ Ok other → p ≡ other
 same_policy found p other t text is_text is_policy =
     let e : Ok t.rules ≡ Ok other = sym t.is_rules ∙ ap policy_of (same_items t.text text found t.is_text is_text) ∙ is_policy in
     let same : t.rules ≡ other = cc in

@@ -1,8 +1,8 @@
 -- The checkpoint of a new server, behind the lines of a recording.
-use Rattle.std.proofs.Common.{◌≡◌, ◌+◌, ℕ, List, [], ◌∷◌, length, sym, ap, subst, ◌∙◌, arith}
+use Rattle.std.proofs.Common.{◌≡◌, ◌+◌, ℕ, List, [], ◌∷◌, length, ap, subst, ◌∙◌, arith}
 use Rattle.std.specs.Prelude.{Result, Ok, Err}
+use Rattle.lnfs_policy.specs.Policy.{Policy}
 use Rattle.lnfs_types.specs.declared.event.Event.{Event}
-use Rattle.lnfs_world.specs.World.{World}
 use Rattle.lnfs_world.specs.Both.{Both}
 use Rattle.lnfs_operations.specs.Extra.{no_extra}
 use Rattle.lnfs_gss3.specs.Mechanism.{keyed_digest}
@@ -10,25 +10,41 @@ use Rattle.lnfs_step.specs.Journal.{first_state, state_from, state_after}
 use Rattle.lnfs_traffic.specs.Parts.{recorded}
 use Rattle.lnfs_checkpoint.specs.Checkpoint.{checkpoint_text}
 use Rattle.lnfs_checkpoint.specs.Resumed.{Resumed, state_of}
+use Rattle.lnfs_checkpoint.specs.Takes.{IsVerdict, AreBytes, told_of}
+use Rattle.lnfs_layout.specs.Whole.{Told}
 use Rattle.lnfs_stage.specs.declared.stop.Stop.{Stop}
 use Rattle.lnfs_stage.specs.declared.stop.Stop.TheVariants.{Memory}
 use Rattle.lnfs_stage.specs.Seen.{Seen}
-use Rattle.lnfs_stage.specs.Writes.{Write, to_out}
+use Rattle.lnfs_stage.specs.Writes.{to_out}
 use Rattle.lnfs_stage.specs.Due.{Due, written}
 use Rattle.lnfs_stage.specs.Does.{Does}
 use Rattle.lnfs_stage.proofs.Doing.{does_short, does_first, does_then}
-use Rattle.lnfs_checkpointing.specs.Checkpoints.{line_alone, served, saved, text_behind}
+use Rattle.lnfs_checkpointing.specs.Checkpoints.{line_alone, served, saved, text_behind, told_behind, IsTakenAgain}
 use Rattle.lnfs_checkpointing.specs.Servings.{IsNew, IsBehind}
 
 none_before : (n m k : ℕ) → n ≡ 0 → k ≡ n + m → k ≡ m
 none_before n m k e f = omega (arith, e, f)
 
+-- the state behind the events
+told_is : (r now : Resumed) (events : List Event) → IsNew r → IsBehind r now events → told_of now ≡ told_behind r.policy events
+told_is r now events n b =
+    let count : now.events ≡ length events = none_before r.events (length events) now.events n.events b.count in
+    let state : state_of now.world ≡ state_after no_extra keyed_digest r.policy events = b.state ∙ ap (λ (x : Both (no_extra).Row). state_from no_extra keyed_digest r.policy x events) n.state in
+    λ i. record { events = count i; world = (state i).world }
+
 -- the bytes that are due
 text_is : (r now : Resumed) (events : List Event) → IsNew r → IsBehind r now events → checkpoint_text now.policy now.events now.world ≡ text_behind r.policy events
 text_is r now events n b =
-    let count : now.events ≡ length events = none_before r.events (length events) now.events n.events b.count in
-    let state : state_of now.world ≡ state_after no_extra keyed_digest r.policy events = b.state ∙ ap (λ (x : Both (no_extra).Row). state_from no_extra keyed_digest r.policy x events) n.state in
-    λ i. checkpoint_text (b.policy i) (count i) (state i).world
+    let told : told_of now ≡ told_behind r.policy events = told_is r now events n b in
+    λ i. checkpoint_text (b.policy i) (told i).events (told i).world
+
+-- they are taken again
+pub again : (r now : Resumed) (events : List Event) → IsNew r → IsBehind r now events → (text : List ℕ) → text ≡ checkpoint_text now.policy now.events now.world → AreBytes text → IsVerdict now.policy text (Ok (told_of now)) → IsTakenAgain r.policy events
+again r now events n b text is fits taken =
+    let due : text ≡ text_behind r.policy events = is ∙ text_is r now events n b in
+    let of_policy : IsVerdict r.policy text (Ok (told_of now)) = subst (λ (p : Policy). IsVerdict p text (Ok (told_of now))) b.policy taken in
+    let of_state : IsVerdict r.policy text (Ok (told_behind r.policy events)) = subst (λ (t : Told). IsVerdict r.policy text (Ok t)) (told_is r now events n b) of_policy in
+    record { bytes = subst AreBytes due fits; verdict = subst (λ (l : List ℕ). IsVerdict r.policy l (Ok (told_behind r.policy events))) due of_state }
 
 abbrev lines : Resumed → (traffic : List ℕ) → Due
 lines r traffic = served line_alone r.policy 0 (first_state no_extra r.policy) traffic

@@ -15,11 +15,12 @@ use Rattle.lnfs_checkpoint.specs.declared.errors.CheckpointError.{CheckpointErro
 use Rattle.lnfs_checkpoint.specs.declared.errors.CheckpointError.TheVariants as errors
 use Rattle.lnfs_checkpoint.specs.Checkpoint.{checkpoint_text}
 use Rattle.lnfs_checkpoint.specs.Resumed.{Got, got_from, state_of}
-use Rattle.lnfs_checkpoint.specs.Takes.{Verdict, IsVerdict}
+use Rattle.lnfs_checkpoint.specs.Takes.{Verdict, IsVerdict, AreBytes}
 use Rattle.lnfs_stage.specs.declared.ending.Ending.{Ending}
 use Rattle.lnfs_stage.specs.declared.ending.Ending.TheVariants.{TrafficDamaged, CheckpointRefused}
 use Rattle.lnfs_stage.specs.declared.ending.CheckpointCause.TheVariants as causes
 use Rattle.lnfs_stage.specs.declared.status.Status.{Status}
+use Rattle.lnfs_stage.specs.declared.status.Status.TheVariants as status
 use Rattle.lnfs_stage.specs.declared.stop.Stop.{Stop}
 use Rattle.lnfs_stage.specs.declared.stop.Stop.TheVariants.{Ends, Memory}
 use Rattle.lnfs_stage.specs.Ending.{status_of, told_by}
@@ -72,6 +73,28 @@ saved p traffic = and_then (served line_alone p 0 (first_state no_extra p) traff
 abbrev pub saving_due : (policy traffic : List ℕ) → Contents → Due
 saving_due policy traffic files = given (first files) policy (λ text. judged (policy_of text) (λ p.
     given (first (others files)) traffic (saved p)))
+
+-- what these bytes tell: how many events there were, and the world after them
+abbrev pub told_behind : Policy → List Event → Told
+told_behind p events = record { events = length events; world = (state_after no_extra keyed_digest p events).world }
+
+-- they are taken again, as that state
+pub record IsTakenAgain (p : Policy) (events : List Event) : Type 0 where
+  pub bytes : AreBytes (text_behind p events)
+  pub verdict : IsVerdict p (text_behind p events) (Ok (told_behind p events))
+
+-- where all went well: those behind the recording of the first file
+pub record IsKept (p : Policy) (files : Contents) (ending : Status) : Type 0 where
+  pub again : (traffic : List ℕ) → ending ≡ status.Ok → first files ≡ Some traffic → IsTakenAgain p (recorded traffic)
+
+-- those behind the recording of the second file, under the policy that the text of the first one spells
+pub record IsSaved (files : Contents) (ending : Status) : Type 0 where
+  pub again : (text traffic : List ℕ) (p : Policy) → ending ≡ status.Ok → first files ≡ Some text → policy_of text ≡ Ok p → first (others files) ≡ Some traffic → IsTakenAgain p (recorded traffic)
+
+-- The call did what is due for what the files hold, and that holds of its checkpoint.
+pub record Saves {T : Type 0} (result : Result T Stop) (before after : Seen) (names : List (List ℕ)) (Kept : Contents → Status → Type 0) (due : Contents → Due) : Type 0 where
+  pub follows : Follows result before after names due
+  pub kept : Kept follows.contents (status_of result)
 
 -- ---- `resume`: the replies and lines of the events, behind the state of the checkpoint
 

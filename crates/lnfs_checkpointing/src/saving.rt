@@ -1,9 +1,12 @@
 //! The checkpoint of a new server behind a recording.
-ghost use Rattle.std.specs.Prelude.{◌≡◌, ◌∷◌, []};
-ghost use Rattle.lnfs_stage.specs.Due.{given, told};
+ghost use Rattle.std.specs.Prelude.{◌≡◌, ◌∷◌, [], OnOk};
+ghost use Rattle.lnfs_traffic.specs.Parts.{recorded};
+ghost use Rattle.lnfs_stage.specs.Writes.{to_out};
+ghost use Rattle.lnfs_stage.specs.Due.{given, told, written};
 ghost use Rattle.lnfs_stage.specs.Does.{Does, HandedOn};
-ghost use Rattle.lnfs_stage.specs.Contents.{first, Follows};
-ghost use Rattle.lnfs_checkpointing.specs.Checkpoints.{saved, saving_due};
+ghost use Rattle.lnfs_stage.specs.Contents.{first};
+ghost use Rattle.lnfs_checkpoint.specs.Takes.{AreBytes};
+ghost use Rattle.lnfs_checkpointing.specs.Checkpoints.{saved, saving_due, IsKept, IsSaved, IsTakenAgain, Saves};
 ghost use Rattle.lnfs_checkpointing.specs.Servings.{IsNew};
 
 use crate::serving::{Shown, serve_all};
@@ -15,6 +18,15 @@ use lnfs_policy::Policy;
 use lnfs_stage::{Outside, Stop, close, tell};
 use std::alloc::Global;
 
+/// Writes a checkpoint. What a slice of it has are bytes.
+fn put_checkpoint<O: Outside>(bytes: &[u8], outside: &mut O) -> Result<(), Stop>
+    ensures does { Does result (O.seen outside.old) (O.seen outside.new)
+        (written (to_out bytes.now ∷ [])) }
+    ensures bytes { AreBytes bytes.now }
+{
+    outside.put_text(bytes)
+}
+
 /// Serves the events of a recording in a new server, and writes its checkpoint behind all of them.
 fn save<O: Outside>(
     alloc: Global,
@@ -24,12 +36,13 @@ fn save<O: Outside>(
     outside: &mut O,
 ) -> Result<(), Stop>
     requires { IsNew server.old }
-    ensures { Does result (O.seen outside.old) (O.seen outside.new)
+    ensures does { Does result (O.seen outside.old) (O.seen outside.new)
         (saved server.old.policy traffic.now) }
+    ensures again { OnOk result (IsTakenAgain server.old.policy (recorded traffic.now)) }
 {
     serve_all(alloc, codecs, server, traffic, Shown::LineAlone, outside)?;
     let bytes = server.write(alloc)?;
-    outside.put_text(&bytes)
+    put_checkpoint(&bytes, outside)
 }
 
 /// The same of the recording of a name, under a policy that was read.
@@ -40,8 +53,8 @@ fn under<O: Outside>(
     traffic: &str,
     outside: &mut O,
 ) -> Result<(), Stop>
-    ensures { Follows result (O.seen outside.old) (O.seen outside.new) (traffic.now ∷ [])
-        (λ files. given (first files) traffic.now (saved policy)) }
+    ensures { Saves result (O.seen outside.old) (O.seen outside.new) (traffic.now ∷ [])
+        (IsKept policy) (λ files. given (first files) traffic.now (saved policy)) }
 {
     let traffic = outside.read_file(alloc, traffic)?;
     let mut server = Resumed::new(alloc, policy, codecs, KeyedDigest)?;
@@ -55,24 +68,24 @@ fn judge<O: Outside>(
     asked: &Saving<'_>,
     outside: &mut O,
 ) -> Result<(), Stop>
-    ensures { Follows result (O.seen outside.old) (O.seen outside.new)
-        (asked.now.policy.now ∷ asked.now.traffic.now ∷ [])
+    ensures { Saves result (O.seen outside.old) (O.seen outside.new)
+        (asked.now.policy.now ∷ asked.now.traffic.now ∷ []) IsSaved
         (saving_due asked.now.policy.now asked.now.traffic.now) }
 {
     let policy = rules_of(alloc, codecs, asked.policy, outside)?;
     under(alloc, codecs, policy, asked.traffic, outside)
 }
 
-/// Serves a recording in a new server and writes its lines, and behind all events the checkpoint of the server. Then it tells the
-/// ending, and hands all on.
+/// Serves a recording in a new server and writes its lines, and behind all events the checkpoint of the server, which is taken
+/// again. Then it tells the ending, and hands all on.
 pub fn run_saving<O: Outside>(
     alloc: Global,
     asked: &Saving<'_>,
     codecs: &Codecs,
     outside: &mut O,
 ) -> Result<(), Stop>
-    ensures saves { Follows result (O.seen outside.old) (O.seen outside.new)
-        (asked.now.policy.now ∷ asked.now.traffic.now ∷ [])
+    ensures saves { Saves result (O.seen outside.old) (O.seen outside.new)
+        (asked.now.policy.now ∷ asked.now.traffic.now ∷ []) IsSaved
         (λ files. told (saving_due asked.now.policy.now asked.now.traffic.now files)) }
     ensures handed { HandedOn result (O.seen outside.old) (O.seen outside.new) }
 {

@@ -31,7 +31,7 @@ use Rattle.lnfs_service.proofs.Handing.{idle_same as idle_before}
 use Rattle.lnfs_dialling.specs.Visits.{Visits, IsIdleFor, IsIdleTill}
 use Rattle.lnfs_program.specs.Runs.{Met, Runs, RunsAsked, WithoutNet, HasReason, counts, streams, due_asked}
 use Rattle.lnfs_auditing.specs.Audits.{audit_due}
-use Rattle.lnfs_checkpointing.specs.Checkpoints.{saving_due, resumption_due, IsJudged, Resumes}
+use Rattle.lnfs_checkpointing.specs.Checkpoints.{saving_due, resumption_due, IsJudged, IsSaved, Resumes, Saves}
 use Rattle.lnfs_program.specs.Idle.{IsIdle}
 
 -- nothing was met
@@ -41,6 +41,10 @@ nobody = record { session = None; records = None; verdict = None }
 -- no verdict where there was no memory to judge
 none_judged : (files : Contents) → IsJudged files status.Memory None
 none_judged files = record { said = λ text bytes p is_text is_policy is_bytes. refl }
+
+-- and no checkpoint where there was none to write it
+none_saved : (files : Contents) → IsSaved files status.Memory
+none_saved files = record { again = λ text traffic p e is_text is_policy is_traffic. let h : ⊥ = cc in absurd h }
 
 -- a call that isn't given the net doesn't say that it failed
 without_net : (result : Result (Unit {0}) Stop) (s t : Seen) → IfErr result (λ stop. IsExcused 0 0 stop s t) → WithoutNet (status_of result)
@@ -108,7 +112,7 @@ module _ (may : Moment → Type 0) (result : Result (Unit {0}) Stop) (s t : Seen
     held = unread_held s.content names;
     does = record { whole = tt; begun = front_first [] (told (due_asked (Some (save policy traffic)) (unread s.content names) nobody)).writes p.begun; stays = p.stays; excused = tt };
     links = untouched dealt backs (tt, nothing);
-    judged = tt;
+    judged = none_saved (unread s.content names);
     later = omega arith;
   }
 
@@ -124,14 +128,14 @@ module _ (may : Moment → Type 0) (result : Result (Unit {0}) Stop) (s t : Seen
   }
 
   -- a checkpoint that was asked for
-  pub saved_asked : {asked : Option Asked} {policy traffic : List ℕ} → asked ≡ Some (save policy traffic) → Follows result s t (policy ∷ traffic ∷ []) (λ files. told (saving_due policy traffic files)) → RunsAsked may result asked s t n n (dealings dealt dealt backs backs)
+  pub saved_asked : {asked : Option Asked} {policy traffic : List ℕ} → asked ≡ Some (save policy traffic) → Saves result s t (policy ∷ traffic ∷ []) IsSaved (λ files. told (saving_due policy traffic files)) → RunsAsked may result asked s t n n (dealings dealt dealt backs backs)
   saved_asked is p = rw is (record {
-    contents = p.contents;
+    contents = p.follows.contents;
     met = nobody;
-    held = p.held;
-    does = beside_net n n p.does;
-    links = untouched dealt backs (without_net result s t p.does.excused, nothing);
-    judged = tt;
+    held = p.follows.held;
+    does = beside_net n n p.follows.does;
+    links = untouched dealt backs (without_net result s t p.follows.does.excused, nothing);
+    judged = p.kept;
     later = omega arith;
   })
 

@@ -22,7 +22,7 @@ use Rattle.lnfs_service.specs.Serves.{Remains, service_due}
 use Rattle.lnfs_service.specs.Session.{Session, Nothing}
 use Rattle.lnfs_dialling.specs.Visits.{AreVisited, IsVisit, MayVisit, visit_due}
 use Rattle.lnfs_auditing.specs.Audits.{audit_due}
-use Rattle.lnfs_checkpointing.specs.Checkpoints.{Ruling, saving_due, resumption_due, IsJudged}
+use Rattle.lnfs_checkpointing.specs.Checkpoints.{Ruling, saving_due, resumption_due, IsJudged, IsSaved}
 
 -- What a run met: what a service came to, if it began, the records that came over the link of a client, if it was dialled, and the verdict on a checkpoint, if it was judged.
 pub record Met : Type 0 where
@@ -69,8 +69,9 @@ Handed may files met ending (Some (judge policy traffic replies purged)) deals b
 Handed may files met ending (Some (save policy traffic)) deals backs = AreNone ending deals backs
 Handed may files met ending (Some (resume policy checkpoint traffic)) deals backs = AreNone ending deals backs
 
--- the verdict is that on the checkpoint, where one is asked for
+-- of the checkpoint: one that was written is taken again, and the verdict is that on one that was read
 abbrev pub Judged : Contents → Met → Status → Option Asked → Type 0
+Judged files met ending (Some (save policy traffic)) = IsSaved files ending
 Judged files met ending (Some (resume policy checkpoint traffic)) = IsJudged files ending met.verdict
 Judged files met ending asked = Unit {0}
 
@@ -78,7 +79,7 @@ Judged files met ending asked = Unit {0}
 abbrev pub streams : Option (List ℕ) → Option (List ℕ) → Seen
 streams out audit = world None None 0 (stream out [] 0) (stream audit [] 0) (0, 0, 0)
 
--- The run tells the ending that is due, and the streams took what is due; or it gave up, and they took a front of it. The links that were dealt are those that the words ask for, and the verdict is that on the checkpoint that they name.
+-- The run tells the ending that is due, and the streams took what is due; or it gave up, and they took a front of it. The links that were dealt are those that the words ask for. A checkpoint that was written is taken again, and the verdict is that on the one that the words name.
 pub record Runs (content : Told) (may : Moment → Type 0) (asked : Option Asked) (ending : Status) (before after : Seen) (net : Dealings) : Type 0 where
   pub contents : Contents
   pub met : Met

@@ -5,6 +5,7 @@
 //! given ones. What waits for nobody is in `lnfs_commands`, and the service in `lnfs_service`.
 #![tactic(auto)]
 
+pub mod laws;
 pub mod run;
 pub mod start;
 

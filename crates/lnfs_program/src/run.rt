@@ -131,7 +131,8 @@ where
     N::L: Send,
     // the status and the writes are those that are due; where the run gave up, a front of the writes
     // was taken; the links that were dealt are those of a service or of a client, and each was handed
-    // back; a checkpoint gets the verdict that its bytes and the policy determine
+    // back; a checkpoint that was written is taken again, and one that is read gets the verdict that
+    // its bytes and the policy determine
     ensures runs { Runs (F.content files.old) (C.may clock.now) (form_of (texts words.now)) result
         (streams (K.taken out.old) (A.taken audit.old))
         (streams (K.taken out.new) (A.taken audit.new))

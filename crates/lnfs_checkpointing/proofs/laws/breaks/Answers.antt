@@ -1,4 +1,3 @@
-use Rattle.std.proofs.Common.{[]}
 use Rattle.lnfs_operations.specs.Extra.{no_extra}
 use Rattle.lnfs_step.specs.Journal.{first_state}
 use Rattle.lnfs_checkpointing.proofs.Breaking.{resumed_is, lines_are, silent}
