@@ -6,6 +6,7 @@ pub mod Keeping
 pub mod LevelRuns
 pub mod Naming
 pub mod Places
+pub mod Remade
 pub mod Runs
 pub mod Settled
 pub mod Totals

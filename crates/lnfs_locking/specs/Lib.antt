@@ -5,3 +5,4 @@ pub mod Indexed
 pub mod Asking
 pub mod Walks
 pub mod Usage
+pub mod Makes

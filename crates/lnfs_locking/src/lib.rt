@@ -12,10 +12,12 @@ mod keys;
 mod lasts;
 mod locks;
 mod lookups;
+mod making;
 mod rivals;
 mod rows;
 mod search;
 mod tests;
+mod told;
 mod usage;
 mod walks;
 

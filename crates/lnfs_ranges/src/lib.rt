@@ -8,8 +8,10 @@ mod joining;
 mod laws;
 mod list;
 mod range;
+mod runs;
 mod tally;
 
 pub use laws::runs_are_told_by_their_modes;
 pub use list::RangeList;
 pub use range::LockRange;
+pub use runs::are_runs;

@@ -41,6 +41,17 @@ impl RangeList {
         }
     }
 
+    /// The list of ranges that are runs, copied.
+    pub fn from_runs(alloc: Global, ranges: &[LockRange]) -> Result<RangeList, AllocError>
+        requires { AreRuns ranges.now }
+        ensures { IfOk result (λ list. list ≡ ranges.now) }
+    {
+        Ok(RangeList {
+            alloc,
+            ranges: Vec::from_slice(alloc, ranges)?,
+        })
+    }
+
     /// How many ranges there are.
     pub fn len(&self) -> usize
         ensures { result ≡ length self.now }

@@ -1,0 +1,14 @@
+pub mod LiveLocks
+pub mod Room
+pub mod AskedFiles
+pub mod NamedLocks
+pub mod NamedOpenings
+pub mod OwnLocks
+pub mod InTheWay
+pub mod LockTests
+pub mod LockAsks
+pub mod LockEnds
+pub mod LockSteps
+pub mod TakenLocks
+pub mod Unlocks
+pub mod Concluded

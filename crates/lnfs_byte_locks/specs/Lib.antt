@@ -1,0 +1,11 @@
+pub mod Standing
+pub mod Answers
+pub mod Files
+pub mod Naming
+pub mod Unlocking
+pub mod Openings
+pub mod Holders
+pub mod Asks
+pub mod Taking
+pub mod Going
+pub mod Locking

@@ -1,0 +1,3 @@
+mod RangeEnds
+pub mod OwnRows
+mod BoundLocks

@@ -1,0 +1,15 @@
+use Rattle.std.proofs.Common.{ap, ◌∙◌, arith}
+use Rattle.std.proofs.lemmas.List.{length-map}
+use Rattle.lnfs_rows.specs.Told.{open_of}
+use Rattle.lnfs_fit.specs.RowsOf.{ids_of}
+use Rattle.lnfs_sound.specs.RowsOf.{no_open, opens_of}
+use Rattle.lnfs_sound.proofs.Listed.{one_more_id, all_ids}
+use Rattle.lnfs_lock_fit.proofs.openings.ids_of_opens.Goals as goal
+
+pub loop-place-preserved : goal.loop-place-preserved
+loop-place-preserved c =
+    ap ids_of c.in_ok-push.ensures.items
+    ∙ one_more_id (λ x. x.id) (opens_of c.args.rows.now) no_open c.loop-place.ids.items c.loop-place.place c.id_at.result (omega (arith, length-map c.args.rows.now open_of, c.loop-place-test.true)) c.id_at.ensures c.loop-place.invariant
+
+pub returns : goal.returns
+returns c = all_ids (λ x. x.id) (opens_of c.args.rows.now) c.loop-place.ids.items c.loop-place.place (omega (arith, length-map c.args.rows.now open_of, c.loop-place.auto.place-end, c.loop-place-test.false)) c.loop-place.invariant
