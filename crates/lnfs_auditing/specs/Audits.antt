@@ -8,7 +8,6 @@ use Rattle.lnfs_policy.specs.Policy.{Policy}
 use Rattle.lnfs_policy.specs.PolicyText.{policy_of}
 use Rattle.lnfs_policy.specs.declared.mode.Mode.{Mode}
 use Rattle.lnfs_policy.specs.declared.mode.Mode.TheVariants.{Enforcing, Limited}
-use Rattle.lnfs_operations.specs.Extra.{no_extra}
 use Rattle.lnfs_gss3.specs.Mechanism.{keyed_digest}
 use Rattle.lnfs_traffic.specs.Parts.{recorded, is_recording, place_of}
 use Rattle.lnfs_audit.specs.declared.finding.Finding.{Finding}
@@ -21,6 +20,7 @@ use Rattle.lnfs_stage.specs.declared.stop.Stop.TheVariants as stop
 use Rattle.lnfs_stage.specs.Due.{Due, ends, given}
 use Rattle.lnfs_stage.specs.Contents.{Contents, first, others}
 use Rattle.lnfs_commands.specs.Commands.{judged, shown}
+use Rattle.lnfs_commands.specs.Further.{further}
 
 -- ---- what is shown
 
@@ -33,7 +33,7 @@ finding_line (Surplus at) = codes "surplus " ++ decimal at ++ 10 ∷ []
 -- What is found of recorded replies to events, by the answers that are due: each is the reply that its requester would get
 -- with every event outside its dominance purged. It is the finding of the laws `one_finding` and `some_finding`.
 abbrev pub finding_of : Policy → List Event → (records : List ℕ) → Finding
-finding_of p events records = found_of (answers_to no_extra keyed_digest p events) records
+finding_of p events records = found_of (answers_to further keyed_digest p events) records
 
 abbrev pub found_due : Policy → List Event → (records : List ℕ) → Due
 found_due p events records = shown (finding_line (finding_of p events records))

@@ -6,8 +6,9 @@ ghost use Rattle.lnfs_stage.specs.Does.{Does, HandedOn};
 ghost use Rattle.lnfs_stage.specs.Contents.{Follows};
 ghost use Rattle.lnfs_auditing.specs.Audits.{audit_due, audited, compared, finding_line, finding_of, found_due, is_permitted, IsFound, IsRead};
 
-use lnfs_audit::{AuditError, Finding, audit, audit_purged, some_finding};
-use lnfs_commands::{Audit, rules_of};
+use crate::anew::Anew;
+use lnfs_audit::{AuditError, Finding, audit_purged_with_extra, audit_with_extra, some_finding};
+use lnfs_commands::{Audit, new_further, rules_of};
 use lnfs_format::Codecs;
 use lnfs_gss3::KeyedDigest;
 use lnfs_policy::{Mode, Policy};
@@ -65,9 +66,10 @@ fn find(
 {
     some_finding(records);
     if !purged {
-        return Ok(audit(alloc, policy, codecs, KeyedDigest, events, records)?);
+        let further = new_further(alloc);
+        return Ok(audit_with_extra(alloc, policy, codecs, KeyedDigest, further, events, records)?);
     }
-    match audit_purged(alloc, policy, codecs, KeyedDigest, events, records) {
+    match audit_purged_with_extra(alloc, policy, codecs, KeyedDigest, &Anew, events, records) {
         Ok(finding) => Ok(finding),
         Err(AuditError::Memory) => Err(Stop::Memory),
         // the mode was judged before

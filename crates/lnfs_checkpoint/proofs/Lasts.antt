@@ -1,4 +1,4 @@
--- The last numbers of a sound world are those of the levels of its site, and have room.
+-- The last numbers of a sound world and of its locks are those of the levels of its site, and have room.
 use Rattle.std.proofs.Common.{◌≡◌, ◌<◌, ◌^◌, ℕ, zero, suc, Bool, true, false, cond, List, Option, Some, None, length, refl, sym, ap, ◌∙◌, arith}
 use Rattle.std.specs.Prelude.{◌==◌, nat_lt, find}
 use Rattle.std.specs.List.{AllByRecursion}
@@ -13,7 +13,9 @@ use Rattle.lnfs_rows.specs.Lasts.{given_of, each_from, each_of}
 use Rattle.lnfs_rows.specs.World.{AreOf}
 use Rattle.lnfs_rows.specs.declared.lists.Lasts.{Lasts}
 use Rattle.lnfs_layout.specs.Fits.{NumbersFit, WorldLastsFit}
-use Rattle.lnfs_layout.specs.Lasts.{AreOfLevels}
+use Rattle.lnfs_layout.specs.Lasts.{AreEach, AreOfLevels}
+use Rattle.lnfs_locks.specs.Locks.{Locks}
+use Rattle.lnfs_lock_rows.specs.Bounds.{LocksFit}
 use Rattle.lnfs_decide.specs.Lasts.{IsOfLevels}
 use Rattle.lnfs_decide.proofs.LastNumbers.{forth}
 use Rattle.lnfs_checkpoint.specs.Telling.{AreLastsOf}
@@ -38,6 +40,9 @@ lasts_are site w some sound = record {
   opens = each_again site w.lasts.opens some sound.facts.opens.lasts_rise sound.bounds.rows.lasts.opens;
 }
 
+pub lock_lasts_are : (site : Site) (w : World) (own : Locks) → 0 < site.levels → LocksFit site w own → AreEach site.levels own.lasts
+lock_lasts_are site w own some fit = each_again site own.lasts some fit.facts.lasts_rise fit.bounds.lasts
+
 -- ---- room
 
 number_fits : (site : Site) (o : Option Id) → ((i : Id) → o ≡ Some i → IsGivenBy site i) → number_in o < 2 ^ 64
@@ -56,13 +61,16 @@ lasts_fit site w sound = record {
   opens = last_fits site w.lasts.opens sound.bounds.rows.lasts.opens;
 }
 
+pub lock_lasts_fit : (site : Site) (w : World) (own : Locks) → LocksFit site w own → NumbersFit own.lasts
+lock_lasts_fit site w own fit = last_fits site own.lasts fit.bounds.lasts
+
 -- ---- told one for each level
 
 length_each : (level levels : ℕ) (lasts : List Id) → length (each_from level levels lasts) ≡ levels
 length_each level zero lasts = refl
 length_each level (suc levels) lasts = ap suc (length_each (suc level) levels lasts)
 
-each_length : (levels : ℕ) (ns : List ℕ) (lasts : List Id) → ns ≡ each_of levels lasts → length ns ≡ levels
+pub each_length : (levels : ℕ) (ns : List ℕ) (lasts : List Id) → ns ≡ each_of levels lasts → length ns ≡ levels
 each_length levels ns lasts e = ap length e ∙ length_each 0 levels lasts
 
 pub are_of : (levels : ℕ) (w : world.Lasts) (l : Lasts) → AreLastsOf levels w l → AreOf levels l

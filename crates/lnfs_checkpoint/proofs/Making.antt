@@ -28,6 +28,7 @@ use Rattle.lnfs_tree.specs.Makes.{HoldsBy, IsStorable, MakesTree}
 use Rattle.lnfs_tree.specs.Rows.{rows_of}
 use Rattle.lnfs_open.specs.Makes.{MakesOpens}
 use Rattle.lnfs_gss3.specs.Makes.{MakesContexts}
+use Rattle.lnfs_locks.specs.Locks.{Locks}
 use Rattle.lnfs_checkpoint.specs.Checkpoint.{IsFit}
 use Rattle.lnfs_checkpoint.specs.Made.{CanBeMade}
 use Rattle.lnfs_checkpoint.proofs.ParentNumbers.{parent_is_short}
@@ -159,7 +160,7 @@ module _ (site : Site) (few : site.levels ≤ MAX_LEVELS) where
     counted : AllByRecursion IsInBounds w.nodes
     counted = all_weaker _ _ in_bounds w.nodes sound.bounds.rows.nodes
 
-module _ (p : Policy) (is : IsPolicy p) (few : length p.labels ≤ MAX_LEVELS) (w : World) (fit : IsFit p w) where
+module _ (p : Policy) (is : IsPolicy p) (few : length p.labels ≤ MAX_LEVELS) (w : World) (own : Locks) (fit : IsFit p w own) where
   makes_contexts : MakesContexts w.contexts w.lasts.contexts
   makes_contexts = record {
     numbered = numbered (site_of p) few (λ x. x.id) w.contexts w.lasts.contexts fit.sound.facts.contexts.rise fit.sound.facts.contexts.given fit.sound.bounds.rows.contexts fit.sound.bounds.rows.lasts.contexts;

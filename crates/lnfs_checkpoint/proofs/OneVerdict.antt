@@ -1,41 +1,18 @@
 -- Bytes have one verdict.
-use Rattle.std.proofs.Common.{◌≡◌, ℕ, Bool, true, false, List, ◌++◌, length, Option, Some, None, Result, Ok, Err, refl, sym, ap, ◌∙◌, subst, arith, inl}
-use Rattle.std.specs.Str.{bytes_eq}
-use Rattle.std.proofs.lemmas.Slice.Eq.{bytes_eq-Decides}
+use Rattle.std.proofs.Common.{◌≡◌, ℕ, List, length, Option, Some, None, Result, Ok, Err, refl, sym, ap, ◌∙◌, subst, arith}
 use Rattle.lnfs_policy.specs.Policy.{Policy}
 use Rattle.lnfs_site.specs.Site.{site_of}
-use Rattle.lnfs_xdr.specs.Format.{Spells}
-use Rattle.lnfs_xdr.specs.Canon.{long}
-use Rattle.lnfs_xdr.specs.Message.{Closed, Unread, Next, Tells, RefusesAt, parse}
+use Rattle.lnfs_xdr.specs.Message.{Tells, RefusesAt, parse}
 use Rattle.lnfs_xdr.proofs.Fields.{IsBytes}
 use Rattle.lnfs_xdr.proofs.Messages.{told, refused}
-use Rattle.lnfs_layout.specs.declared.numbers.TheConstants.{MAGIC, DIGEST}
-use Rattle.lnfs_layout.specs.Whole.{Told, head, body, chosen, layout, IsOfAnother}
+use Rattle.lnfs_layout.specs.Whole.{Told, IsOfAnother}
+use Rattle.lnfs_layout.proofs.Alone.{told_alone}
+use Rattle.lnfs_layout.proofs.Exact.{is_another}
 use Rattle.lnfs_checkpoint.specs.declared.errors.CheckpointError.{CheckpointError}
 use Rattle.lnfs_checkpoint.specs.declared.errors.CheckpointError.TheVariants as errors
 use Rattle.lnfs_checkpoint.specs.Checkpoint.{checkpoint, digest_of, IsFit}
 use Rattle.lnfs_checkpoint.specs.Resumed.{Resumed}
 use Rattle.lnfs_checkpoint.specs.Takes.{Verdict, IsVerdict, told_of, Takes, IsTaken}
-
--- ---- the bytes of another policy tell nothing
-
-is_head : (given : List ℕ) → length given ≡ DIGEST → Spells head given (long MAGIC ++ given)
-unfolding head long
-is_head given size = (MAGIC, long MAGIC, given, (refl, omega arith, refl), (size, refl), refl)
-
-tells_nothing : (levels : ℕ) (same : Bool) (bytes : List ℕ) → same ≡ false → Tells (chosen same (Next (body levels) (λ t. Closed (Some t)) (λ e. absurd e)) (Unread {B = Option Told} None)) None bytes
-tells_nothing levels true bytes is = absurd cc
-tells_nothing levels false bytes is = refl
-
-differs : (same : Bool) → (same ≡ true → ⊥) → same ≡ false
-differs true never = absurd (never refl)
-differs false never = refl
-
-another : (levels : ℕ) (digest bytes : List ℕ) → IsOfAnother digest bytes → Tells (layout levels digest) None bytes
-unfolding layout
-another levels digest bytes of =
-    let off : bytes_eq of.0 digest ≡ false = differs (bytes_eq of.0 digest) (λ on. of.3 ((bytes_eq-Decides of.0 digest).0 on)) in
-    inl (of.0, long MAGIC ++ of.0, of.1, is_head of.0 of.2, of.4, tells_nothing levels (bytes_eq of.0 digest) of.1 off)
 
 -- ---- what reading the bytes gives, by each verdict
 
@@ -47,13 +24,13 @@ module _ (p : Policy) (bytes : List ℕ) (fits : IsBytes bytes) where
   gives_told t tells = told (checkpoint p) bytes (Some t) fits tells
 
   gives_none : IsOfAnother (digest_of p) bytes → given ≡ Ok None
-  gives_none of = told (checkpoint p) bytes None fits (another (site_of p).levels (digest_of p) bytes of)
+  gives_none of = told (checkpoint p) bytes None fits (is_another (site_of p).levels (digest_of p) bytes of)
 
   gives_stuck : (at : ℕ) (is : RefusesAt (checkpoint p) bytes at) → given ≡ Err is.0
   gives_stuck at is = refused (checkpoint p) bytes is.0 fits is.1
 
-  pub told_alone : (t u : Told) → Tells (checkpoint p) (Some t) bytes → Tells (checkpoint p) (Some u) bytes → t ≡ u
-  told_alone t u a b = let same : Ok (Some t) ≡ Ok (Some u) = sym (gives_told t a) ∙ gives_told u b in cc
+  one_told : (t u : Told) → Tells (checkpoint p) (Some t) bytes → Tells (checkpoint p) (Some u) bytes → t ≡ u
+  one_told t u a b = told_alone (site_of p).levels (digest_of p) bytes t u a b
 
   told_or_other : (t : Told) → Tells (checkpoint p) (Some t) bytes → IsOfAnother (digest_of p) bytes → ⊥
   told_or_other t a b = let same : Ok (Some t) ≡ Ok None = sym (gives_told t a) ∙ gives_none b in cc
@@ -72,11 +49,11 @@ module _ (p : Policy) (bytes : List ℕ) (fits : IsBytes bytes) where
 
   -- ---- two verdicts
 
-  fit_or_not : (t u : Told) → Tells (checkpoint p) (Some t) bytes → Tells (checkpoint p) (Some u) bytes → IsFit p t.world → (IsFit p u.world → ⊥) → ⊥
-  fit_or_not t u a b fit unfit = unfit (subst (λ (s : Told). IsFit p s.world) (told_alone t u a b) fit)
+  fit_or_not : (t u : Told) → Tells (checkpoint p) (Some t) bytes → Tells (checkpoint p) (Some u) bytes → IsFit p t.world t.locks → (IsFit p u.world u.locks → ⊥) → ⊥
+  fit_or_not t u a b fit unfit = unfit (subst (λ (s : Told). IsFit p s.world s.locks) (one_told t u a b) fit)
 
   one_ok : (t : Told) (v : Verdict) → IsVerdict p bytes (Ok t) → IsVerdict p bytes v → Ok t ≡ v
-  one_ok t (Ok u) a b = ap Ok (told_alone t u a.0 b.0)
+  one_ok t (Ok u) a b = ap Ok (one_told t u a.0 b.0)
   one_ok t (Err errors.Policy) a b = absurd (told_or_other t a.0 b)
   one_ok t (Err (errors.Damaged at)) a b = absurd (told_or_stuck t at a.0 b)
   one_ok t (Err errors.Unfit) a b = absurd (fit_or_not t b.0 a.0 b.1 a.1 b.2)
@@ -112,10 +89,10 @@ module _ (p : Policy) (bytes : List ℕ) (fits : IsBytes bytes) where
 
 -- ---- a state that the bytes are
 
-module _ (p : Policy) (bytes : List ℕ) (fits : IsBytes bytes) (t : Told) (tells : Tells (checkpoint p) (Some t) bytes) (fit : IsFit p t.world) where
+module _ (p : Policy) (bytes : List ℕ) (fits : IsBytes bytes) (t : Told) (tells : Tells (checkpoint p) (Some t) bytes) (fit : IsFit p t.world t.locks) where
   -- an answer by the verdict is of no other state, and isn't refused
   pub taken_by : (r : Result Resumed CheckpointError) → Takes p bytes r → IsTaken t r
-  taken_by (Ok r) takes = told_alone p bytes fits (told_of r) t takes.0 tells
+  taken_by (Ok r) takes = one_told p bytes fits (told_of r) t takes.0 tells
   taken_by (Err errors.Policy) takes = told_or_other p bytes fits t tells takes
   taken_by (Err (errors.Damaged at)) takes = told_or_stuck p bytes fits t at tells takes
   taken_by (Err errors.Unfit) takes = fit_or_not p bytes fits t takes.0 tells takes.1 fit takes.2

@@ -1,16 +1,16 @@
--- The step of an event leaves a fit world.
-use Rattle.std.proofs.Common.{◌≡◌, Bool, true, false, refl, sym, subst}
-use Rattle.lnfs_types.specs.declared.event.Event.{Event}
+-- A server has a fit state before all events, and the step of an event leaves one.
+use Rattle.std.proofs.Common.{◌≡◌, Bool, true, false, refl, sym, ap, subst}
 use Rattle.lnfs_policy.specs.Policy.{Policy}
-use Rattle.lnfs_gss3.specs.Mechanism.{Signing}
 use Rattle.lnfs_world.specs.World.{World}
 use Rattle.lnfs_world.specs.Both.{Both}
 use Rattle.lnfs_site.specs.Site.{site_of}
-use Rattle.lnfs_operations.specs.Bounds.{IsSound}
-use Rattle.lnfs_operations.specs.Extra.{no_extra}
+use Rattle.lnfs_beside.proofs.SidesLaws.{lefts-both, rights-both}
+use Rattle.lnfs_locks.specs.Facts.{LockFacts, AreKept}
+use Rattle.lnfs_locks.specs.Locks.{Locks, rows_of, locks_of}
+use Rattle.lnfs_locks.specs.Outcome.{locking}
+use Rattle.lnfs_lock_rows.specs.Bounds.{LocksBounded}
 use Rattle.lnfs_step.specs.ContextBounds.{ContextsFit}
-use Rattle.lnfs_step.specs.Step.{step_with}
-use Rattle.lnfs_step.specs.Journal.{Holds}
+use Rattle.lnfs_step.specs.Journal.{Holds, IsKept}
 use Rattle.lnfs_checkpoint.specs.Checkpoint.{IsFit}
 use Rattle.lnfs_checkpoint.specs.Resumed.{state_of}
 
@@ -19,12 +19,38 @@ pub going : (stopped : Bool) → (stopped ≡ true → false ≡ true) → stopp
 going true never = sym (never refl)
 going false never = refl
 
-pub holds_of_fit : (p : Policy) (w : World) → IsFit p w → Holds no_extra p (state_of w)
-holds_of_fit p w fit = record { facts = fit.sound.facts; own = tt }
+-- the locks of the rows of locks are these
+pub locks_again : (own : Locks) → locks_of (rows_of own) ≡ own
+locks_again own = λ i. record { lasts = lefts-both own.lasts own.locks i; locks = rights-both own.lasts own.locks i }
 
--- w before, under p, and v behind, under q
-pub fit_after : (m : Signing) (p q : Policy) (w v : World) (event : Event) → q ≡ p → state_of v ≡ (step_with no_extra m p (state_of w) event).state → IsSound (site_of q) v
-    → ContextsFit p (step_with no_extra m p (state_of w) event).state.world → IsFit q v
-fit_after m p q w v event policy state sound fit =
-    let contexts : ContextsFit p v = subst (λ (b : Both (no_extra).Row). ContextsFit p b.world) (sym state) fit in
-    record { sound = sound; contexts = subst (λ (r : Policy). ContextsFit r v) (sym policy) contexts }
+-- a kept state is that of its world and its locks
+pub state_again : (b : Both (locking).Row) → AreKept b.world b.own → state_of b.world (locks_of b.own) ≡ b
+state_again b kept = λ i. record { world = b.world; own = sym kept.order i }
+
+module _ (p : Policy) (w : World) (own : Locks) where
+  -- a kept state whose contexts and locks are within their bounds is fit
+  pub fit_of_kept : IsKept locking p (state_of w own) → ContextsFit p w → LocksBounded (site_of p) (locks_of (rows_of own)) → IsFit p w own
+  fit_of_kept kept contexts bounds = record {
+    sound = kept.sound;
+    contexts = contexts;
+    locks = record { facts = subst (LockFacts w) (locks_again own) kept.own.facts; bounds = subst (LocksBounded (site_of p)) (locks_again own) bounds };
+  }
+
+  pub kept_of_fit : IsFit p w own → IsKept locking p (state_of w own)
+  kept_of_fit fit = record {
+    sound = fit.sound;
+    own = record { facts = subst (LockFacts w) (sym (locks_again own)) fit.locks.facts; order = ap rows_of (sym (locks_again own)) };
+  }
+
+  pub holds_of_fit : IsFit p w own → Holds locking p (state_of w own)
+  holds_of_fit fit = let kept = kept_of_fit fit in record { facts = kept.sound.facts; own = kept.own }
+
+  pub bounds_of_fit : IsFit p w own → LocksBounded (site_of p) (locks_of (rows_of own))
+  bounds_of_fit fit = subst (LocksBounded (site_of p)) (sym (locks_again own)) fit.locks.bounds
+
+-- v and now are a state b of p, and are kept under q
+pub fit_of_state : (p q : Policy) (b : Both (locking).Row) (v : World) (now : Locks) → q ≡ p → state_of v now ≡ b → IsKept locking q (state_of v now) → ContextsFit p b.world → LocksBounded (site_of p) (locks_of b.own) → IsFit q v now
+fit_of_state p q b v now policy state kept contexts bounds =
+    let contexts_now : ContextsFit p v = subst (λ (c : Both (locking).Row). ContextsFit p c.world) (sym state) contexts in
+    let bounds_now : LocksBounded (site_of p) (locks_of (rows_of now)) = subst (λ (c : Both (locking).Row). LocksBounded (site_of p) (locks_of c.own)) (sym state) bounds in
+    fit_of_kept q v now kept (subst (λ (r : Policy). ContextsFit r v) (sym policy) contexts_now) (subst (λ (r : Policy). LocksBounded (site_of r) (locks_of (rows_of now))) (sym policy) bounds_now)

@@ -5,20 +5,23 @@ use Rattle.lnfs_policy.specs.Policy.{Policy}
 use Rattle.lnfs_gss3.specs.Mechanism.{Signing}
 use Rattle.lnfs_world.specs.World.{World}
 use Rattle.lnfs_world.specs.Both.{Both, both}
-use Rattle.lnfs_operations.specs.Extra.{Extra, no_extra}
+use Rattle.lnfs_operations.specs.Extra.{Extra}
+use Rattle.lnfs_locks.specs.Locks.{Locks, rows_of}
+use Rattle.lnfs_locks.specs.Outcome.{locking}
 use Rattle.lnfs_step.specs.Step.{Line, step_with}
 use Rattle.lnfs_step.specs.Journal.{line_with, answer_with}
 
--- its policy, how many events there were, those before the checkpoint among them, the world after them, and whether want of memory has stopped it
+-- its policy, how many events there were, those before the checkpoint among them, the world and the locks after them, and whether want of memory has stopped it
 pub record Resumed : Type 0 where
   pub policy : Policy
   pub events : ℕ
   pub world : World
+  pub locks : Locks
   pub stopped : Bool
 
--- the state that stands
-abbrev pub state_of : World → Both (no_extra).Row
-state_of w = both w []
+-- the state that stands: the further rows are those of the locks
+abbrev pub state_of : World → Locks → Both (locking).Row
+state_of w own = both w (rows_of own)
 
 -- what an event gets: its reply, its line, and its number
 pub record Got : Type 0 where

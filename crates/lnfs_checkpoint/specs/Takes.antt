@@ -12,17 +12,17 @@ abbrev pub Verdict : Type 0
 Verdict = Result Told CheckpointError
 
 -- The state that the bytes are is taken where a server of this policy may have it. The causes come in this order: another
--- policy, bytes that are no checkpoint, a world that no server of this policy has.
+-- policy, bytes that are no checkpoint, a world or locks that no server of this policy has.
 abbrev pub IsVerdict : Policy → List ℕ → Verdict → Type 0
-IsVerdict p bytes (Ok t) = Tells (checkpoint p) (Some t) bytes × IsFit p t.world
+IsVerdict p bytes (Ok t) = Tells (checkpoint p) (Some t) bytes × IsFit p t.world t.locks
 IsVerdict p bytes (Err errors.Policy) = IsOfAnother (digest_of p) bytes
 IsVerdict p bytes (Err (errors.Damaged at)) = RefusesAt (checkpoint p) bytes at
-IsVerdict p bytes (Err errors.Unfit) = (t : Told) × Tells (checkpoint p) (Some t) bytes × (IsFit p t.world → ⊥)
+IsVerdict p bytes (Err errors.Unfit) = (t : Told) × Tells (checkpoint p) (Some t) bytes × (IsFit p t.world t.locks → ⊥)
 IsVerdict p bytes (Err errors.Memory) = ⊥
 
 -- what is told of a server that goes on
 abbrev pub told_of : Resumed → Told
-told_of r = record { events = r.events; world = r.world }
+told_of r = record { events = r.events; world = r.world; locks = r.locks }
 
 -- reading gives the verdict, unless memory runs out
 abbrev pub Takes : Policy → List ℕ → Result Resumed CheckpointError → Type 0

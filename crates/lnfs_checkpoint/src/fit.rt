@@ -1,4 +1,4 @@
-//! Whether lists are those of a world that a server of a policy may have.
+//! Whether rows are those of a world and of locks that a server of a policy may have.
 ghost use Rattle.std.specs.Prelude.{◌≡◌, ◌<◌, ◌≤◌, ◌==◌, ◌↔◌, ℕ, true, length, count_by, IfOk};
 ghost use Rattle.std.specs.List.{AllByRecursion};
 ghost use Rattle.lnfs_operations.specs.Bounds.{ContextBounds, IsSound};
@@ -9,11 +9,14 @@ ghost use Rattle.lnfs_rows.specs.Told.{id_of, context_of};
 ghost use Rattle.lnfs_rows.specs.World.{AreOf, world_of};
 ghost use Rattle.lnfs_fit.specs.RowsOf.{AreIdsOf};
 ghost use Rattle.lnfs_sound.specs.RowsOf.{contexts_of, nth_context};
+ghost use Rattle.lnfs_lock_rows.specs.Told.{locks_told};
 ghost use Rattle.lnfs_checkpoint.specs.Checkpoint.{IsFit};
 
 use lnfs_fit::few_of_a_level;
 use lnfs_format::Codecs;
 use lnfs_gss3::numbers::CONTEXTS_OF_A_LEVEL;
+use lnfs_lock_fit::locks_fit;
+use lnfs_lock_rows::LockRows;
 use lnfs_policy::Policy;
 use lnfs_rows::{ContextRow, Id, Lists};
 use lnfs_site::{Labels, Site};
@@ -111,29 +114,35 @@ fn fit_at(
     policy: &Policy,
     site: &Site<'_>,
     lists: &Lists<'_>,
+    locks: &LockRows<'_>,
 ) -> Result<bool, AllocError>
     requires { site.now ≡ policy.now }
     ensures { IfOk result (λ fit. (fit ≡ true) ↔ AreOf (site_of policy.now).levels lists.now.lasts
-        × IsFit policy.now (world_of lists.now)) }
+        × IsFit policy.now (world_of lists.now) (locks_told locks.now)) }
 {
     let sound = are_sound(alloc, site, lists)?;
     if !sound {
         return Ok(false);
     }
-    contexts_fit(alloc, policy, site, lists)
+    let contexts = contexts_fit(alloc, policy, site, lists)?;
+    if !contexts {
+        return Ok(false);
+    }
+    locks_fit(alloc, site, lists, locks)
 }
 
-/// Whether lists are those of a world that a server of a policy may have. The codecs write the labels of its levels.
+/// Whether rows are those of a world and of locks that a server of a policy may have. The codecs write the labels of its levels.
 pub(crate) fn are_fit(
     alloc: Global,
     policy: &Policy,
     codecs: &Codecs,
     lists: &Lists<'_>,
+    locks: &LockRows<'_>,
 ) -> Result<bool, AllocError>
     ensures { IfOk result (λ fit. (fit ≡ true) ↔ AreOf (site_of policy.now).levels lists.now.lasts
-        × IsFit policy.now (world_of lists.now)) }
+        × IsFit policy.now (world_of lists.now) (locks_told locks.now)) }
 {
     let labels = Labels::new(alloc, policy, codecs)?;
     let site = Site::new(policy, &labels);
-    fit_at(alloc, policy, &site, lists)
+    fit_at(alloc, policy, &site, lists, locks)
 }

@@ -1,8 +1,8 @@
 //! Checkpoints: a server's state as bytes, and a server that goes on from them.
 //!
-//! `write_checkpoint` tells a state, with all levels' data, in the layout of `lnfs_layout`; `read_checkpoint` takes bytes that are
-//! the layout of a world that a server of the policy may have. What is served then is what would have been served without the
-//! break: the law `laws::resumed`.
+//! `write_checkpoint` tells a state, with all levels' data and locks, in the layout of `lnfs_layout`; `read_checkpoint` takes bytes
+//! that are the layout of a state that a server of the policy may have. What is served then is what would have been served without
+//! the break: the law `laws::resumed`.
 #![tactic(auto)]
 
 mod errors;

@@ -1,4 +1,4 @@
-//! The lists of a server, made of rows.
+//! The lists of a server and its locks, made of rows.
 ghost use Rattle.std.specs.Prelude.{◌≡◌, map, IfOk};
 ghost use Rattle.lnfs_rows.specs.World.{world_of};
 ghost use Rattle.lnfs_session.specs.Makes.{MakesClients};
@@ -9,11 +9,16 @@ ghost use Rattle.lnfs_open.specs.Makes.{MakesOpens};
 ghost use Rattle.lnfs_open.specs.Lists as opens;
 ghost use Rattle.lnfs_gss3.specs.Makes.{MakesContexts};
 ghost use Rattle.lnfs_gss3.specs.Contexts as contexts;
+ghost use Rattle.lnfs_locking.specs.Makes.{MakesLocks};
+ghost use Rattle.lnfs_lock_rows.specs.Told.{locks_told};
 ghost use Rattle.lnfs_checkpoint.specs.Checkpoint.{IsFit};
 ghost use Rattle.lnfs_checkpoint.specs.Made.{CanBeMade};
 
+use lnfs_byte_locks::Ranges;
 use lnfs_engine::Store;
 use lnfs_gss3::Contexts;
+use lnfs_lock_rows::LockRows;
+use lnfs_locking::Locks;
 use lnfs_open::Opens;
 use lnfs_policy::Policy;
 use lnfs_rows::Lists;
@@ -68,17 +73,27 @@ fn made_of(alloc: Global, lists: &Lists<'_>) -> Result<Store, AllocError>
     Store::from_parts(alloc, clients, tree, opens, contexts, &lists.nodes)
 }
 
-/// The store of a world that a server of a policy may have.
-pub(crate) fn store_of(
+/// Locks of rows of which they can be made.
+fn locks_of(alloc: Global, rows: &LockRows<'_>) -> Result<Ranges, AllocError>
+    requires { MakesLocks (locks_told rows.now) }
+    ensures { IfOk result (λ made. made ≡ locks_told rows.now) }
+{
+    Ok(Ranges::from_locks(Locks::from_rows(alloc, rows)?))
+}
+
+/// The store of a world and the locks that a server of a policy may have.
+pub(crate) fn parts_of(
     alloc: Global,
     policy: &Policy,
     lists: &Lists<'_>,
-) -> Result<Store, AllocError>
-    requires { IsFit policy.now (world_of lists.now) }
-    ensures { IfOk result (λ made. made ≡ world_of lists.now) }
+    rows: &LockRows<'_>,
+) -> Result<(Store, Ranges), AllocError>
+    requires { IsFit policy.now (world_of lists.now) (locks_told rows.now) }
+    ensures world { IfOk result (λ made. made.0 ≡ world_of lists.now) }
+    ensures locks { IfOk result (λ made. made.1 ≡ locks_told rows.now) }
 {
     // A policy has few levels, and the numbers of its parents have 32 bits.
     policy.law_policy();
     let _levels = policy.lattice().len();
-    made_of(alloc, lists)
+    Ok((made_of(alloc, lists)?, locks_of(alloc, rows)?))
 }

@@ -2,6 +2,7 @@
 ghost use Rattle.std.specs.Prelude.{◌≡◌, false, Some, IfOk};
 ghost use Rattle.lnfs_xdr.specs.Message.{Tells};
 ghost use Rattle.lnfs_rows.specs.World.{world_of};
+ghost use Rattle.lnfs_lock_rows.specs.Told.{locks_told};
 ghost use Rattle.lnfs_layout.specs.Whole.{Told};
 ghost use Rattle.lnfs_layout.specs.Parsing.{told_of};
 ghost use Rattle.lnfs_checkpoint.specs.Checkpoint.{checkpoint, IsFit};
@@ -10,10 +11,9 @@ ghost use Rattle.lnfs_checkpoint.specs.Takes.{Takes, IsTaken};
 
 use crate::errors::CheckpointError;
 use crate::fit::are_fit;
-use crate::lists::store_of;
+use crate::lists::parts_of;
 use crate::resumed::Resumed;
 use crate::telling::{digest_of, levels_of};
-use lnfs_engine::NoExtra;
 use lnfs_format::Codecs;
 use lnfs_gss3::Mechanism;
 use lnfs_layout::{Laid, LayoutError, read_layout};
@@ -21,7 +21,7 @@ use lnfs_policy::Policy;
 use lnfs_vault::Core;
 use std::alloc::Global;
 
-/// The rows that bytes are under a policy, whatever world they stand for.
+/// The rows that bytes are under a policy, whatever state they stand for.
 fn laid_of<'a>(alloc: Global, policy: &Policy, bytes: &'a [u8]) -> Result<Laid<'a>, CheckpointError>
     ensures { IsLaid policy.now bytes.now result }
 {
@@ -34,7 +34,7 @@ fn laid_of<'a>(alloc: Global, policy: &Policy, bytes: &'a [u8]) -> Result<Laid<'
     }
 }
 
-/// The rows that bytes are, of a world that a server of the policy may have.
+/// The rows that bytes are, of a state that a server of the policy may have.
 fn judged<'a>(
     alloc: Global,
     policy: &Policy,
@@ -44,14 +44,14 @@ fn judged<'a>(
     ensures { IsJudged policy.now bytes.now result }
 {
     let laid = laid_of(alloc, policy, bytes)?;
-    let fit = are_fit(alloc, policy, codecs, &laid.lists)?;
+    let fit = are_fit(alloc, policy, codecs, &laid.lists, &laid.locks)?;
     if !fit {
         return Err(CheckpointError::Unfit);
     }
     Ok(laid)
 }
 
-/// A server that goes on from rows of a world that a server of the policy may have.
+/// A server that goes on from rows of a state that a server of the policy may have.
 fn resumed_from<M: Mechanism + Drop>(
     alloc: Global,
     policy: Policy,
@@ -59,13 +59,13 @@ fn resumed_from<M: Mechanism + Drop>(
     mechanism: M,
     laid: &Laid<'_>,
 ) -> Result<Resumed<M>, CheckpointError>
-    requires { IsFit policy (world_of laid.now.lists) }
+    requires { IsFit policy (world_of laid.now.lists) (locks_told laid.now.locks) }
     ensures taken { IsTaken (told_of laid.now) result }
     ensures policy { IfOk result (λ r. r.policy ≡ policy) }
     ensures running { IfOk result (λ r. r.stopped ≡ false) }
 {
-    let store = store_of(alloc, &policy, &laid.lists)?;
-    let core = Core::from_parts(alloc, policy, codecs, mechanism, store, NoExtra)?;
+    let (store, ranges) = parts_of(alloc, &policy, &laid.lists, &laid.locks)?;
+    let core = Core::from_parts(alloc, policy, codecs, mechanism, store, ranges)?;
     Ok(Resumed {
         core,
         events: laid.events,
@@ -104,8 +104,8 @@ pub fn read_checkpoint<M: Mechanism + Drop>(
 ) -> Result<Resumed<M>, CheckpointError>
     ensures takes { Takes policy bytes.now result }
     // What a checkpoint is of that a server of the policy may have is taken, unless memory runs out.
-    ensures only { (t : Told) → Tells (checkpoint policy) (Some t) bytes.now → IsFit policy t.world →
-        IsTaken t result }
+    ensures only { (t : Told) → Tells (checkpoint policy) (Some t) bytes.now → IsFit policy t.world t.locks
+        → IsTaken t result }
     ensures policy { IfOk result (λ r. r.policy ≡ policy) }
     ensures running { IfOk result (λ r. r.stopped ≡ false) }
 {

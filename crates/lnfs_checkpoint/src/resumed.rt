@@ -2,7 +2,7 @@
 ghost use Rattle.std.specs.Prelude.{◌≡◌, ◌+◌, ◌<◌, ◌≤◌, ◌^◌, Some, true, false, IfOk, IfSome, OnOk, OnErr, IsErr, length};
 ghost use Rattle.lnfs_types.specs.declared.limits.TheConstants.{RECORD_LIMIT};
 ghost use Rattle.lnfs_types.specs.Moments.{Fits};
-ghost use Rattle.lnfs_operations.specs.Extra.{no_extra};
+ghost use Rattle.lnfs_locks.specs.Outcome.{locking};
 ghost use Rattle.lnfs_xdr.specs.Message.{Tells};
 ghost use Rattle.lnfs_layout.specs.declared.numbers.TheConstants.{MOST_EVENTS};
 ghost use Rattle.lnfs_layout.specs.Whole.{Told};
@@ -13,9 +13,10 @@ ghost use Rattle.lnfs_checkpoint.specs.Checkpoint.{checkpoint, checkpoint_text, 
 ghost use Rattle.lnfs_checkpoint.specs.Resumed.{state_of};
 
 use crate::telling::write_checkpoint;
-use lnfs_engine::NoExtra;
+use lnfs_byte_locks::Ranges;
 use lnfs_format::Codecs;
 use lnfs_gss3::Mechanism;
+use lnfs_lock_bounds::locks_are_bounded;
 use lnfs_policy::Policy;
 use lnfs_step::contexts_fit;
 use lnfs_types::Event;
@@ -23,10 +24,10 @@ use lnfs_vault::{Core, Served};
 use std::alloc::{AllocError, Global};
 use std::marker::Model;
 
-/// A server's lists after events that were served elsewhere, and how many there were.
+/// A server's lists and locks after events that were served elsewhere, and how many there were.
 #[derive(Drop)]
 pub struct Resumed<M: Mechanism + Drop> {
-    pub(crate) core: Core<M, NoExtra>,
+    pub(crate) core: Core<M, Ranges>,
     pub(crate) events: u64,
 }
 
@@ -37,10 +38,10 @@ impl<M: Mechanism + Drop> Model for Resumed<M> {
 
     ghost Value = { Resumed };
 
-    ghost view = { λ r. record { policy = r.core.policy; events = r.events; world = r.core.world; stopped = r.core.stopped } };
+    ghost view = { λ r. record { policy = r.core.policy; events = r.events; world = r.core.world; locks = r.core.extra; stopped = r.core.stopped } };
 
-    // the world is one that a server of this policy may have
-    ghost invariant = { λ r. r.core.stopped ≡ false → IsFit r.core.policy r.core.world };
+    // the state is one that a server of this policy may have
+    ghost invariant = { λ r. r.core.stopped ≡ false → IsFit r.core.policy r.core.world r.core.extra };
 }
 
 impl<M: Mechanism + Drop> Resumed<M> {
@@ -57,11 +58,13 @@ impl<M: Mechanism + Drop> Resumed<M> {
     ) -> Result<Resumed<M>, AllocError>
         ensures policy { IfOk result (λ r. r.policy ≡ policy) }
         ensures events { IfOk result (λ r. r.events ≡ 0) }
-        ensures world { IfOk result (λ r. r.world ≡ (first_state no_extra policy).world) }
+        ensures state { IfOk result (λ r. state_of r.world r.locks ≡ first_state locking policy) }
         ensures running { IfOk result (λ r. r.stopped ≡ false) }
     {
-        contexts_fit::<NoExtra, M>();
-        let core = Core::new(alloc, policy, codecs, mechanism)?;
+        contexts_fit::<Ranges, M>();
+        locks_are_bounded::<M>();
+        policy.law_policy();
+        let core = Core::with_extra(alloc, policy, codecs, mechanism, Ranges::new(alloc))?;
         Ok(Resumed { core, events: 0 })
     }
 
@@ -79,14 +82,15 @@ impl<M: Mechanism + Drop> Resumed<M> {
     pub fn serve(&mut self, codecs: &Codecs, event: &Event) -> Result<Served, AllocError>
         requires event { Fits event.now }
         requires few { self.old.events < 2 ^ 63 }
-        ensures reply { IfOk result (λ served. served.reply ≡ (step_with no_extra M.signing
-            self.old.policy (state_of self.old.world) event.now).reply) }
+        ensures reply { IfOk result (λ served. served.reply ≡ (step_with locking M.signing
+            self.old.policy (state_of self.old.world self.old.locks) event.now).reply) }
         ensures line { IfOk result (λ served. IsLineOf (self.old.events + 1)
-            (step_with no_extra M.signing self.old.policy (state_of self.old.world)
-            event.now).line served.line) }
+            (step_with locking M.signing self.old.policy
+            (state_of self.old.world self.old.locks) event.now).line served.line) }
         ensures at { IfOk result (λ served. served.at ≡ self.old.events + 1) }
-        ensures state { OnOk result (state_of self.new.world ≡ (step_with no_extra M.signing
-            self.old.policy (state_of self.old.world) event.now).state) }
+        ensures state { OnOk result (state_of self.new.world self.new.locks
+            ≡ (step_with locking M.signing self.old.policy
+            (state_of self.old.world self.old.locks) event.now).state) }
         ensures events { OnOk result (self.new.events ≡ self.old.events + 1) }
         ensures ok { OnOk result (self.new.stopped ≡ false) }
         ensures policy { self.new.policy ≡ self.old.policy }
@@ -96,7 +100,9 @@ impl<M: Mechanism + Drop> Resumed<M> {
         ensures short { IfOk result (λ served. IfSome served.reply (λ reply. length reply
             ≤ RECORD_LIMIT)) }
     {
-        contexts_fit::<NoExtra, M>();
+        contexts_fit::<Ranges, M>();
+        locks_are_bounded::<M>();
+        self.core.policy().law_policy();
         let number = self.events + 1;
         let served = self.core.step(codecs, number, event)?;
         self.events = number;
@@ -111,11 +117,12 @@ impl<M: Mechanism + Drop> Resumed<M> {
     pub fn write(&self, alloc: Global) -> Result<Vec<u8>, AllocError>
         requires { self.now.events ≤ MOST_EVENTS }
         ensures text { IfOk result (λ bytes. bytes.items
-            ≡ checkpoint_text self.now.policy self.now.events self.now.world) }
+            ≡ checkpoint_text self.now.policy self.now.events self.now.world self.now.locks) }
         // It is taken again, as that state.
         ensures again { IfOk result (λ bytes. Tells (checkpoint self.now.policy)
-            (Some (record { events = self.now.events; world = self.now.world })) bytes.items) }
-        ensures fit { IfOk result (λ bytes. IsFit self.now.policy self.now.world) }
+            (Some (record { events = self.now.events; world = self.now.world; locks = self.now.locks }))
+            bytes.items) }
+        ensures fit { IfOk result (λ bytes. IsFit self.now.policy self.now.world self.now.locks) }
         ensures stopped { self.now.stopped ≡ true → IsErr result }
     {
         write_checkpoint(alloc, &self.core, self.events)

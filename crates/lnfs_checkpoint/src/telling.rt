@@ -1,19 +1,24 @@
 //! A server's state, told.
-ghost use Rattle.std.specs.Prelude.{◌≡◌, ◌<◌, ◌≤◌, Some, true, false, IfOk, IsErr};
+ghost use Rattle.std.specs.Prelude.{◌≡◌, ◌<◌, ◌≤◌, Some, true, false, IfOk, IsErr, length};
 ghost use Rattle.sha2.specs.Sha256.{sha256};
 ghost use Rattle.lnfs_site.specs.Site.{site_of};
 ghost use Rattle.lnfs_operations.specs.Bounds.{IsSound};
 ghost use Rattle.lnfs_rows.specs.World.{AreOf, world_of};
 ghost use Rattle.lnfs_xdr.specs.Message.{Tells};
 ghost use Rattle.lnfs_layout.specs.declared.numbers.TheConstants.{MOST_EVENTS};
-ghost use Rattle.lnfs_layout.specs.Lasts.{AreOfLevels};
+ghost use Rattle.lnfs_lock_rows.specs.Bounds.{LocksFit};
+ghost use Rattle.lnfs_lock_rows.specs.Told.{locks_told};
+ghost use Rattle.lnfs_layout.specs.Lasts.{AreEach, AreOfLevels};
 ghost use Rattle.lnfs_layout.specs.Whole.{Told};
 ghost use Rattle.lnfs_checkpoint.specs.Checkpoint.{checkpoint, checkpoint_text, digest_of};
 ghost use Rattle.lnfs_checkpoint.specs.Telling.{AreLastsOf};
 
-use lnfs_engine::{NoExtra, Store};
+use lnfs_byte_locks::Ranges;
+use lnfs_engine::Store;
 use lnfs_gss3::Mechanism;
 use lnfs_layout::write_layout;
+use lnfs_lock_rows::LockRows;
+use lnfs_locking::Locks;
 use lnfs_policy::{Policy, write_policy};
 use lnfs_rows::{Lasts, Lists};
 use lnfs_vault::Core;
@@ -73,25 +78,40 @@ fn lists_of(alloc: Global, store: &Store, levels: u32) -> Result<Lists<'_>, Allo
     })
 }
 
+/// The rows of all locks, which lend what they are long of. The last numbers are those of so many levels.
+fn lock_rows_of(locks: &Locks, levels: u32) -> Result<LockRows<'_>, AllocError>
+    requires { AreEach levels locks.now.lasts }
+    ensures locks { IfOk result (λ rows. locks_told rows ≡ locks.now) }
+    ensures each { IfOk result (λ rows. length rows.lasts.items ≡ levels) }
+{
+    Ok(LockRows {
+        locks: locks.rows()?,
+        lasts: locks.last_numbers(levels)?,
+    })
+}
+
 /// A state after so many events, as bytes.
 #[tactic(auto, unfolding(crate::specs::Checkpoint::checkpoint_text))]
 fn bytes_of(
     alloc: Global,
     policy: &Policy,
     store: &Store,
+    locks: &Locks,
     events: u64,
 ) -> Result<Vec<u8>, AllocError>
     requires events { events ≤ MOST_EVENTS }
     requires sound { IsSound (site_of policy.now) store.now }
+    requires locks { LocksFit (site_of policy.now) store.now locks.now }
     ensures text { IfOk result (λ bytes. bytes.items
-        ≡ checkpoint_text policy.now events store.now) }
+        ≡ checkpoint_text policy.now events store.now locks.now) }
     ensures again { IfOk result (λ bytes. Tells (checkpoint policy.now)
-        (Some (record { events = events; world = store.now })) bytes.items) }
+        (Some (record { events = events; world = store.now; locks = locks.now })) bytes.items) }
 {
     let digest = digest_of(alloc, policy)?;
     let levels = levels_of(policy);
     let lists = lists_of(alloc, store, levels)?;
-    write_layout(alloc, levels, &digest, events, &lists)
+    let rows = lock_rows_of(locks, levels)?;
+    write_layout(alloc, levels, &digest, events, &lists, &rows)
 }
 
 /// A server's state after so many events, as bytes.
@@ -101,20 +121,23 @@ fn bytes_of(
 /// `AllocError` where there is no memory, and where want of memory has stopped the core.
 pub fn write_checkpoint<M: Mechanism + Drop>(
     alloc: Global,
-    core: &Core<M, NoExtra>,
+    core: &Core<M, Ranges>,
     events: u64,
 ) -> Result<Vec<u8>, AllocError>
     requires events { events ≤ MOST_EVENTS }
     requires kept { core.now.stopped ≡ false → IsSound (site_of core.now.policy) core.now.world }
+    requires locks { core.now.stopped ≡ false →
+        LocksFit (site_of core.now.policy) core.now.world core.now.extra }
     ensures text { IfOk result (λ bytes. bytes.items
-        ≡ checkpoint_text core.now.policy events core.now.world) }
+        ≡ checkpoint_text core.now.policy events core.now.world core.now.extra) }
     // It is read again, as that state.
     ensures again { IfOk result (λ bytes. Tells (checkpoint core.now.policy)
-        (Some (record { events = events; world = core.now.world })) bytes.items) }
+        (Some (record { events = events; world = core.now.world; locks = core.now.extra }))
+        bytes.items) }
     ensures stopped { core.now.stopped ≡ true → IsErr result }
 {
     let Some(store) = core.store() else {
         return Err(AllocError);
     };
-    bytes_of(alloc, core.policy(), store, events)
+    bytes_of(alloc, core.policy(), store, core.extra().locks(), events)
 }

@@ -6,10 +6,10 @@ use Rattle.lnfs_types.specs.declared.event.Event.{Event}
 use Rattle.lnfs_policy.specs.Policy.{Policy}
 use Rattle.lnfs_policy.specs.PolicyText.{policy_of}
 use Rattle.lnfs_world.specs.Both.{Both}
-use Rattle.lnfs_operations.specs.Extra.{no_extra}
 use Rattle.lnfs_gss3.specs.Mechanism.{keyed_digest}
 use Rattle.lnfs_step.specs.Journal.{first_state, state_after, text_of}
 use Rattle.lnfs_traffic.specs.Parts.{recorded, is_recording, place_of}
+use Rattle.lnfs_locks.specs.Locks.{locks_of}
 use Rattle.lnfs_layout.specs.Whole.{Told}
 use Rattle.lnfs_checkpoint.specs.declared.errors.CheckpointError.{CheckpointError}
 use Rattle.lnfs_checkpoint.specs.declared.errors.CheckpointError.TheVariants as errors
@@ -30,6 +30,7 @@ use Rattle.lnfs_stage.specs.Due.{Due, written, given, and_then}
 use Rattle.lnfs_stage.specs.Contents.{Contents, first, others, Follows}
 use Rattle.lnfs_commands.specs.Commands.{judged, ends_by}
 use Rattle.lnfs_commands.specs.Events.{framed}
+use Rattle.lnfs_commands.specs.Further.{further}
 
 -- ---- what is written for events that are served, one after another
 
@@ -54,31 +55,33 @@ abbrev pub ending_after : (traffic : List ℕ) → Option Ending
 ending_after traffic = cond (is_recording traffic) None (Some (TrafficDamaged (place_of traffic)))
 
 -- the events of a recording, in a server of this state that so many events led to
-abbrev pub served : (each : Got → List Write) → Policy → (before : ℕ) → Both (no_extra).Row → (traffic : List ℕ) → Due
+abbrev pub served : (each : Got → List Write) → Policy → (before : ℕ) → Both (further).Row → (traffic : List ℕ) → Due
 served each p before b traffic = record {
-  writes = writes_of each (got_from no_extra keyed_digest p before b (recorded traffic));
+  writes = writes_of each (got_from further keyed_digest p before b (recorded traffic));
   ending = ending_after traffic;
 }
 
 -- ---- `checkpoint`: the lines of the events, and then the checkpoint of the server that served them
 
--- of a new server behind these events
+-- what the checkpoint of a new server behind these events tells: how many there were, and the world and the locks after them
+abbrev pub told_behind : Policy → List Event → Told
+told_behind p events =
+    let b = state_after further keyed_digest p events in
+    record { events = length events; world = b.world; locks = locks_of b.own }
+
+-- its bytes
 abbrev pub text_behind : Policy → List Event → List ℕ
-text_behind p events = checkpoint_text p (length events) (state_after no_extra keyed_digest p events).world
+text_behind p events = let t = told_behind p events in checkpoint_text p t.events t.world t.locks
 
 -- the lines alone where the recording is damaged
 abbrev pub saved : Policy → (traffic : List ℕ) → Due
-saved p traffic = and_then (served line_alone p 0 (first_state no_extra p) traffic) (written (to_out (text_behind p (recorded traffic)) ∷ []))
+saved p traffic = and_then (served line_alone p 0 (first_state further p) traffic) (written (to_out (text_behind p (recorded traffic)) ∷ []))
 
 abbrev pub saving_due : (policy traffic : List ℕ) → Contents → Due
 saving_due policy traffic files = given (first files) policy (λ text. judged (policy_of text) (λ p.
     given (first (others files)) traffic (saved p)))
 
--- what these bytes tell: how many events there were, and the world after them
-abbrev pub told_behind : Policy → List Event → Told
-told_behind p events = record { events = length events; world = (state_after no_extra keyed_digest p events).world }
-
--- they are taken again, as that state
+-- these bytes are taken again, as that state
 pub record IsTakenAgain (p : Policy) (events : List Event) : Type 0 where
   pub bytes : AreBytes (text_behind p events)
   pub verdict : IsVerdict p (text_behind p events) (Ok (told_behind p events))
@@ -99,7 +102,7 @@ pub record Saves {T : Type 0} (result : Result T Stop) (before after : Seen) (na
 -- ---- `resume`: the replies and lines of the events, behind the state of the checkpoint
 
 abbrev pub resumed : Policy → Told → (traffic : List ℕ) → Due
-resumed p t traffic = served reply_and_line p t.events (state_of t.world) traffic
+resumed p t traffic = served reply_and_line p t.events (state_of t.world t.locks) traffic
 
 -- how a run stops whose checkpoint isn't taken
 abbrev pub stop_of : CheckpointError → Stop

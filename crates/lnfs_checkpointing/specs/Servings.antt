@@ -3,7 +3,6 @@ use Rattle.std.specs.Prelude.{◌≡◌, ◌+◌, ◌≤◌, ℕ, List, [], ◌�
 use Rattle.std.specs.declared.option.Option.{Option}
 use Rattle.lnfs_types.specs.declared.event.Event.{Event}
 use Rattle.lnfs_policy.specs.Policy.{Policy}
-use Rattle.lnfs_operations.specs.Extra.{no_extra}
 use Rattle.lnfs_gss3.specs.Mechanism.{keyed_digest}
 use Rattle.lnfs_step.specs.Step.{step_with}
 use Rattle.lnfs_traffic.specs.Pieces.{Unread, fed_to}
@@ -14,6 +13,7 @@ use Rattle.lnfs_checkpoint.specs.Takes.{Takes}
 use Rattle.lnfs_stage.specs.declared.stop.Stop.{Stop}
 use Rattle.lnfs_stage.specs.Writes.{Write, to_out, to_audit}
 use Rattle.lnfs_commands.specs.Events.{framed}
+use Rattle.lnfs_commands.specs.Further.{further}
 use Rattle.lnfs_checkpointing.specs.declared.serving.Shown.{Shown}
 use Rattle.lnfs_checkpointing.specs.declared.serving.Shown.TheVariants.{LineAlone, ReplyAndLine}
 use Rattle.lnfs_checkpointing.specs.Checkpoints.{line_alone, reply_and_line, stop_of}
@@ -31,19 +31,19 @@ each_of ReplyAndLine = reply_and_line
 -- what a server gives to an event
 abbrev pub got_of : Resumed → Event → Got
 got_of r event =
-    let step = step_with no_extra keyed_digest r.policy (state_of r.world) event in
+    let step = step_with further keyed_digest r.policy (state_of r.world r.locks) event in
     record { reply = step.reply; line = step.line; number = r.events + 1 }
 
 -- a server before all events
 pub record IsNew (r : Resumed) : Type 0 where
   pub events : r.events ≡ 0
-  pub state : state_of r.world ≡ first_state no_extra r.policy
+  pub state : state_of r.world r.locks ≡ first_state further r.policy
 
 -- the same server, behind further events
 pub record IsBehind (old new : Resumed) (events : List Event) : Type 0 where
   pub policy : new.policy ≡ old.policy
   pub count : new.events ≡ old.events + length events
-  pub state : state_of new.world ≡ state_from no_extra keyed_digest old.policy (state_of old.world) events
+  pub state : state_of new.world new.locks ≡ state_from further keyed_digest old.policy (state_of old.world old.locks) events
 
 -- more of a recording was fed, in one piece
 pub record IsFedOn (traffic : List ℕ) (fed now : ℕ) (old new : Unread) : Type 0 where

@@ -1,12 +1,11 @@
 //! The laws of a break: a resume writes what `replay` writes behind the events before it, and goes on from what `checkpoint` wrote.
-ghost use Rattle.std.specs.Prelude.{◌≡◌, ℕ, List, [], length, Some, None, Ok, IsSome};
+ghost use Rattle.std.specs.Prelude.{◌≡◌, ℕ, List, [], Some, None, Ok, IsSome};
 ghost use Rattle.lnfs_calipso.specs.Label.{IsPreorderWithBottom};
 ghost use Rattle.lnfs_types.specs.declared.event.Event.{Event};
 ghost use Rattle.lnfs_policy.specs.Policy.{Policy, dominance};
 ghost use Rattle.lnfs_policy.specs.PolicyText.{policy_of};
-ghost use Rattle.lnfs_operations.specs.Extra.{no_extra};
 ghost use Rattle.lnfs_gss3.specs.Mechanism.{keyed_digest};
-ghost use Rattle.lnfs_step.specs.Journal.{first_state, state_after};
+ghost use Rattle.lnfs_step.specs.Journal.{first_state};
 ghost use Rattle.lnfs_traffic.specs.Parts.{recorded};
 ghost use Rattle.lnfs_checkpoint.specs.Resumed.{got_from};
 ghost use Rattle.lnfs_checkpoint.specs.Takes.{Verdict, IsVerdict};
@@ -17,10 +16,11 @@ ghost use Rattle.lnfs_stage.specs.Ending.{told_by};
 ghost use Rattle.lnfs_stage.specs.Writes.{on_out, on_audit};
 ghost use Rattle.lnfs_commands.specs.Commands.{replayed};
 ghost use Rattle.lnfs_commands.specs.Events.{audit_with, lines_after};
+ghost use Rattle.lnfs_commands.specs.Further.{further};
 ghost use Rattle.lnfs_checkpointing.specs.Checkpoints.{Ruling, line_alone, resumed, resumption_due, saved, text_behind, told_behind, writes_of, IsJudged, IsTakenAgain};
 
 use lnfs_checkpoint::one_verdict;
-use lnfs_engine::NoExtra;
+use lnfs_commands::Further;
 use lnfs_gss3::KeyedDigest;
 use lnfs_step::purge;
 
@@ -29,18 +29,16 @@ use lnfs_step::purge;
 pub fn breaks()
     ensures resumed { (p : Policy) → IsPreorderWithBottom (dominance p) →
         (a : List Event) (traffic : List ℕ) →
-        resumed p
-        (record { events = length a; world = (state_after no_extra keyed_digest p a).world }) traffic
-        ≡ replayed no_extra keyed_digest p a traffic }
+        resumed p (told_behind p a) traffic ≡ replayed further keyed_digest p a traffic }
     ensures lines { (p : Policy) (events : List Event) →
         on_audit (writes_of line_alone
-        (got_from no_extra keyed_digest p 0 (first_state no_extra p) events))
-        ≡ lines_after (audit_with no_extra keyed_digest p) [] events }
+        (got_from further keyed_digest p 0 (first_state further p) events))
+        ≡ lines_after (audit_with further keyed_digest p) [] events }
     ensures silent { (p : Policy) (events : List Event) →
         on_out (writes_of line_alone
-        (got_from no_extra keyed_digest p 0 (first_state no_extra p) events)) ≡ [] }
+        (got_from further keyed_digest p 0 (first_state further p) events)) ≡ [] }
 {
-    purge::<NoExtra, KeyedDigest>();
+    purge::<Further, KeyedDigest>();
 }
 
 /// What a resume writes behind the checkpoint that another run wrote, under the same policy. That its bytes are taken again
@@ -60,8 +58,8 @@ pub fn joined()
         first files ≡ Some text → first (others files) ≡ Some (text_behind p a) →
         (policy checkpoint traffic : List ℕ) →
         resumption_due policy checkpoint traffic verdict files
-        ≡ given (first (others (others files))) traffic (replayed no_extra keyed_digest p a) }
+        ≡ given (first (others (others files))) traffic (replayed further keyed_digest p a) }
 {
     one_verdict();
-    purge::<NoExtra, KeyedDigest>();
+    purge::<Further, KeyedDigest>();
 }

@@ -12,7 +12,7 @@ ghost use Rattle.lnfs_checkpointing.specs.Servings.{each_of, got_of, shown_of, I
 
 use lnfs_checkpoint::Resumed;
 use lnfs_commands::frame::frame;
-use lnfs_commands::replay::{ending_of, text_of};
+use lnfs_commands::replay::{PIECE, ending_of, text_of};
 use lnfs_format::Codecs;
 use lnfs_gss3::KeyedDigest;
 use lnfs_rpc::ReplyRecord;
@@ -20,9 +20,6 @@ use lnfs_stage::{Outside, Stop};
 use lnfs_traffic::TrafficReader;
 use lnfs_types::Event;
 use std::alloc::{AllocError, Global};
-
-/// The length of a piece that is fed at once, in bytes.
-const PIECE: usize = 65_536;
 
 /// What is written of an event that is served.
 #[derive(Clone, Copy, Debug, PartialEq, Eq)]
@@ -108,7 +105,7 @@ pub(crate) fn serve_all<O: Outside>(
 ) -> Result<(), Stop>
     requires { server.old.events ≤ MOST_EVENTS }
     ensures does { Does result (O.seen outside.old) (O.seen outside.new)
-        (served (each_of shown) server.old.policy server.old.events (state_of server.old.world)
+        (served (each_of shown) server.old.policy server.old.events (state_of server.old.world server.old.locks)
         traffic.now) }
     ensures behind { OnOk result (IsBehind server.old server.new (recorded traffic.now)) }
     ensures few { OnOk result (length (recorded traffic.now) < 2 ^ 60) }

@@ -10,7 +10,7 @@ use Rattle.lnfs_map.specs.Translated.{translated}
 use Rattle.lnfs_map.specs.declared.table.MapError.{MapError}
 use Rattle.lnfs_map.specs.declared.table.MapError.TheVariants as error
 use Rattle.lnfs_types.specs.declared.event.Event.{Event}
-use Rattle.lnfs_operations.specs.Extra.{Extra, no_extra}
+use Rattle.lnfs_operations.specs.Extra.{Extra}
 use Rattle.lnfs_gss3.specs.Mechanism.{Signing, keyed_digest}
 use Rattle.lnfs_step.specs.Journal.{answer_with}
 use Rattle.lnfs_traffic.specs.Parts.{recorded, is_recording, place_of}
@@ -24,6 +24,7 @@ use Rattle.lnfs_stage.specs.Due.{Due, written, ends, given}
 use Rattle.lnfs_stage.specs.Contents.{Contents, first, others}
 use Rattle.lnfs_commands.specs.Events.{audit_with, writes_after}
 use Rattle.lnfs_commands.specs.Summary.{summary}
+use Rattle.lnfs_commands.specs.Further.{further}
 use Rattle.lnfs_commands.specs.Words.{Task, check, migrate, replay, translate, generate, Form, help, version, under, help_text, version_text}
 
 -- a text on standard output
@@ -65,7 +66,7 @@ spelled (Err error) = ends_by (stop_of error)
 abbrev pub generation_due : (X : Extra) → Signing → Policy → (before : List Event) → (seed count : ℕ) → Due
 generation_due X m policy before seed count = shown (summary X m policy before (generated policy seed count))
 
--- ---- the table: with the operations of the table alone, in a server that was given no event
+-- ---- the table: in a server that was given no event
 
 abbrev pub files_under : Task → List (List ℕ)
 files_under check = []
@@ -77,8 +78,8 @@ files_under (translate source target bytes) = []
 abbrev pub due_under : Policy → Task → Contents → Due
 due_under policy check files = shown policy.text
 due_under policy migrate files = shown (in_version_2 policy.text)
-due_under policy (replay traffic) files = given (first files) traffic (replayed no_extra keyed_digest policy [])
-due_under policy (generate seed count) files = generation_due no_extra keyed_digest policy [] seed count
+due_under policy (replay traffic) files = given (first files) traffic (replayed further keyed_digest policy [])
+due_under policy (generate seed count) files = generation_due further keyed_digest policy [] seed count
 due_under policy (translate source target bytes) files = spelled (translated policy.formats policy.labels source target bytes)
 
 -- the files that a form names

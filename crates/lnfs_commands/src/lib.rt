@@ -8,6 +8,7 @@
 mod alone;
 mod command;
 pub mod frame;
+mod further;
 pub mod laws;
 mod perform;
 pub mod replay;
@@ -19,5 +20,6 @@ mod words;
 
 pub use alone::run_alone;
 pub use command::{Asked, Audit, Command, Resumption, Saving, Service, Task, Visit, Work};
+pub use further::{Further, Server, new_further, new_server};
 pub use rules::rules_of;
 pub use team::Team;

@@ -1,15 +1,16 @@
 //! The table of the commands.
 ghost use Rattle.std.specs.Prelude.{Some, []};
 ghost use Rattle.std.specs.Option.{option_map};
-ghost use Rattle.lnfs_operations.specs.Extra.{no_extra};
 ghost use Rattle.lnfs_gss3.specs.Mechanism.{keyed_digest};
 ghost use Rattle.lnfs_stage.specs.Contents.{Follows};
 ghost use Rattle.lnfs_stage.specs.Does.{Does};
 ghost use Rattle.lnfs_commands.specs.Commands.{due, due_under, files_of, files_under, generation_due};
+ghost use Rattle.lnfs_commands.specs.Further.{further};
 ghost use Rattle.lnfs_commands.specs.Runs.{IsUntouched};
 ghost use Rattle.lnfs_commands.specs.Words.{named, replay, task_of, under};
 
 use crate::command::{Command, Task};
+use crate::further::new_server;
 use crate::replay::replay;
 use crate::rules::rules_of;
 use crate::summary::sum_up;
@@ -20,7 +21,6 @@ use lnfs_gss3::KeyedDigest;
 use lnfs_policy::Policy;
 use lnfs_stage::{Ending, Outside, Stop};
 use lnfs_traffic::generate;
-use lnfs_vault::Vault;
 use std::alloc::Global;
 
 /// Replays the recording of a name in a new server.
@@ -35,7 +35,7 @@ fn replay_file<O: Outside>(
         (files_under (replay traffic.now)) (due_under policy (replay traffic.now)) }
 {
     outside.open(alloc, traffic)?;
-    let mut vault = Vault::new(alloc, policy, codecs, KeyedDigest)?;
+    let mut vault = new_server(alloc, policy, codecs, KeyedDigest)?;
     replay(alloc, codecs, &mut vault, outside)
 }
 
@@ -49,10 +49,10 @@ fn serve_generated<O: Outside>(
     outside: &mut O,
 ) -> Result<(), Stop>
     ensures { Does result (O.seen outside.old) (O.seen outside.new)
-        (generation_due no_extra keyed_digest policy [] seed count) }
+        (generation_due further keyed_digest policy [] seed count) }
 {
     let events = generate(alloc, &policy, seed, count)?;
-    let mut vault = Vault::new(alloc, policy, codecs, KeyedDigest)?;
+    let mut vault = new_server(alloc, policy, codecs, KeyedDigest)?;
     sum_up(alloc, codecs, &mut vault, events, outside)
 }
 

@@ -19,8 +19,8 @@ use lnfs_types::Event;
 use lnfs_vault::{AuditLine, VaultOf, write_line};
 use std::alloc::{AllocError, Global};
 
-/// The length of a piece that is read at once, in bytes.
-const PIECE: usize = 65_536;
+/// The length of a piece of a recording that is fed at once, in bytes.
+pub const PIECE: usize = 65_536;
 
 /// The text of an audit line, or nothing.
 pub fn text_of(alloc: Global, line: &Option<AuditLine>) -> Result<Vec<u8>, AllocError>

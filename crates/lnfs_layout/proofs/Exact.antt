@@ -62,7 +62,7 @@ another levels digest bytes t =
       | inr p ↦ absurd p.0
     ]
 
-is_another : (levels : ℕ) (digest bytes : List ℕ) → IsOfAnother digest bytes → Tells (layout levels digest) None bytes
+pub is_another : (levels : ℕ) (digest bytes : List ℕ) → IsOfAnother digest bytes → Tells (layout levels digest) None bytes
 unfolding layout
 is_another levels digest bytes o =
     let off : bytes_eq o.0 digest ≡ false = fails (bytes_eq o.0 digest) (λ on. o.3 ((bytes_eq-Decides o.0 digest).0 on)) in

@@ -1,7 +1,7 @@
 -- A row more, as a loop writes it.
 use Rattle.std.proofs.Common.{◌≡◌, ℕ, zero, suc, ◌+◌, ◌-◌, ◌<◌, ◌≤◌, ◌^◌, List, [], ◌∷◌, ◌++◌, length, map, take, get_or, sym, ap, subst, ◌∙◌, append_assoc, arith}
 use Rattle.std.specs.List.{flat_map, AllByRecursion}
-use Rattle.std.proofs.lemmas.List.{append-nil, length-map, map-append, take_all, take_more}
+use Rattle.std.proofs.lemmas.List.{append-nil, length-map, map-append, map-id, take_all, take_more}
 use Rattle.std.proofs.lemmas.List.Concat.{flat_map-cons}
 use Rattle.std.proofs.lemmas.List.Elements.{All-from_recursion}
 use Rattle.std.proofs.lemmas.Grind.{flat_map-append}
@@ -61,20 +61,28 @@ rows_fit P view rows i small le fits = record {
   each = All-from_recursion P (map view rows) (subst (λ (l : List _). AllByRecursion P (map view l)) (take_all i rows le) fits);
 }
 
+-- ---- rows that are the items themselves
+
+pub items_put : {A : Type 0} (text : A → List ℕ) (items : List A) (i : ℕ) (old out : List ℕ) → length items ≤ i → out ≡ old ++ (long (length items) ++ flat_map text (map (λ x. x) (take i items))) → out ≡ old ++ many_text text items
+items_put text items i old out le so_far = rows_put text (λ x. x) items i old out le so_far ∙ ap (λ (l : List _). old ++ many_text text l) (map-id items)
+
+pub items_fit : {A : Type 0} (P : A → Type 0) (items : List A) (i : ℕ) → length items < 2 ^ 64 → length items ≤ i → AllByRecursion P (map (λ x. x) (take i items)) → ListFits P items
+items_fit P items i small le fits = subst (ListFits P) (map-id items) (rows_fit P (λ x. x) items i small le fits)
+
 -- ---- last numbers
 
-pub lasts_more : (level levels : ℕ) (l : world.Lasts) (out new total : List ℕ) → level < levels → new ≡ out ++ last_text level l → out ++ lasts_text level (levels - level) l ≡ total → new ++ lasts_text (level + 1) (levels - (level + 1)) l ≡ total
+pub lasts_more : (level levels : ℕ) (l : world.Lasts) (locks : List world.Id) (out new total : List ℕ) → level < levels → new ≡ out ++ last_text level l locks → out ++ lasts_text level (levels - level) l locks ≡ total → new ++ lasts_text (level + 1) (levels - (level + 1)) l locks ≡ total
 unfolding lasts_text
-lasts_more level levels l out new total lt put so_far =
+lasts_more level levels l locks out new total lt put so_far =
     let k : levels - level ≡ suc (levels - (level + 1)) = omega arith in
     let n : level + 1 ≡ suc level = omega arith in
-    let later : List ℕ = lasts_text (suc level) (levels - (level + 1)) l in
-    let here : out ++ lasts_text level (levels - level) l ≡ out ++ (last_text level l ++ later) = ap (λ (m : ℕ). out ++ lasts_text level m l) k in
-    ap (λ (i : ℕ). new ++ lasts_text i (levels - (level + 1)) l) n ∙ ap (λ (b : List ℕ). b ++ later) put ∙ append_assoc out (last_text level l) later ∙ sym here ∙ so_far
+    let later : List ℕ = lasts_text (suc level) (levels - (level + 1)) l locks in
+    let here : out ++ lasts_text level (levels - level) l locks ≡ out ++ (last_text level l locks ++ later) = ap (λ (m : ℕ). out ++ lasts_text level m l locks) k in
+    ap (λ (i : ℕ). new ++ lasts_text i (levels - (level + 1)) l locks) n ∙ ap (λ (b : List ℕ). b ++ later) put ∙ append_assoc out (last_text level l locks) later ∙ sym here ∙ so_far
 
-pub lasts_end : (level levels : ℕ) (l : world.Lasts) (out total : List ℕ) → levels ≤ level → out ++ lasts_text level (levels - level) l ≡ total → out ≡ total
+pub lasts_end : (level levels : ℕ) (l : world.Lasts) (locks : List world.Id) (out total : List ℕ) → levels ≤ level → out ++ lasts_text level (levels - level) l locks ≡ total → out ≡ total
 unfolding lasts_text
-lasts_end level levels l out total le so_far =
+lasts_end level levels l locks out total le so_far =
     let k : levels - level ≡ zero = omega arith in
-    let none : out ++ lasts_text level (levels - level) l ≡ out ++ [] = ap (λ (m : ℕ). out ++ lasts_text level m l) k in
+    let none : out ++ lasts_text level (levels - level) l locks ≡ out ++ [] = ap (λ (m : ℕ). out ++ lasts_text level m l locks) k in
     sym (append-nil out) ∙ sym none ∙ so_far

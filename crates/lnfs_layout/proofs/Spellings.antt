@@ -4,12 +4,14 @@ use Rattle.std.proofs.lemmas.List.Elements.{recursion_from_All}
 use Rattle.lnfs_types.specs.declared.event.Moment.{Moment}
 use Rattle.lnfs_xdr.specs.Format.{Long}
 use Rattle.lnfs_xdr.specs.Canon.{word, long}
-use Rattle.lnfs_xdr.proofs.Spelled.{Spelled, word_spelled, long_spelled, among_spelled, long_among_spelled, byte_spelled, raw_spelled, done_spelled, ◌▸◌, last, grouped, on_true, on_false, times_spelled}
+use Rattle.lnfs_xdr.proofs.Spelled.{Spelled, word_spelled, long_spelled, among_spelled, byte_spelled, raw_spelled, done_spelled, ◌▸◌, last, grouped, on_true, on_false, times_spelled}
 use Rattle.lnfs_world.specs.World.{Id, Kept, Client, Channel, Slot, Session, Context, Kind, File, Directory, SymbolicLink, Stored, Node, Entry, Open}
-use Rattle.lnfs_layout.specs.declared.numbers.TheConstants.{VERIFIER, NF4REG, NF4DIR, NF4LNK, NO_LOCKS}
-use Rattle.lnfs_layout.specs.Grammar.{Rows, run, flag, present, many, verifier_bytes, moment, identifier, kept_parts, client_row, channel_row, slot_row, session_row, context_row, kind, stored_label, node_head, node_moments, node_row, entry_row, open_row, no_locks}
-use Rattle.lnfs_layout.specs.Texts.{run_text, flag_text, present_text, many_text, moment_text, id_text, kept_text, client_text, channel_text, slot_text, session_text, context_text, kind_number, stored_text, head_text, moments_text, node_text, entry_text, open_text}
-use Rattle.lnfs_layout.specs.Fits.{IsLong, IsRun, IfThere, ListFits, IdFits, MomentFits, KeptFits, ClientFits, ChannelFits, SlotFits, SessionFits, ContextFits, StoredFits, HeadFits, MomentsFit, NodeFits, EntryFits, OpenFits}
+use Rattle.lnfs_ranges.specs.declared.range.LockRange.{LockRange}
+use Rattle.lnfs_locks.specs.Locks.{Lock}
+use Rattle.lnfs_layout.specs.declared.numbers.TheConstants.{VERIFIER, NF4REG, NF4DIR, NF4LNK}
+use Rattle.lnfs_layout.specs.Grammar.{Rows, run, flag, present, many, verifier_bytes, moment, identifier, kept_parts, client_row, channel_row, slot_row, session_row, context_row, kind, stored_label, node_head, node_moments, node_row, entry_row, open_row, range_row, lock_row}
+use Rattle.lnfs_layout.specs.Texts.{run_text, flag_text, present_text, many_text, moment_text, id_text, kept_text, client_text, channel_text, slot_text, session_text, context_text, kind_number, stored_text, head_text, moments_text, node_text, entry_text, open_text, range_text, lock_text}
+use Rattle.lnfs_layout.specs.Fits.{IsLong, IsRun, IfThere, ListFits, IdFits, MomentFits, KeptFits, ClientFits, ChannelFits, SlotFits, SessionFits, ContextFits, StoredFits, HeadFits, MomentsFit, NodeFits, EntryFits, OpenFits, RangeFits, LockFits}
 
 -- ---- columns
 
@@ -104,7 +106,7 @@ pub entry_spelled : (e : Entry) → EntryFits e → Spelled entry_row e (entry_t
 unfolding entry_row entry_text
 entry_spelled e fits = grouped (id_spelled e.directory fits.directory ▸ long_spelled e.cookie fits.cookie ▸ run_spelled e.name fits.name ▸ last (id_spelled e.node fits.node) (done_spelled e)) (simp append_assoc)
 
--- ---- opens, and no locks
+-- ---- opens and locks
 
 pub open_spelled : (o : Open) → OpenFits o → Spelled open_row o (open_text o)
 unfolding open_row open_text
@@ -112,5 +114,12 @@ open_spelled o fits =
     grouped (id_spelled o.id fits.id ▸ long_spelled o.client fits.client ▸ run_spelled o.owner fits.owner ▸ id_spelled o.node fits.node ▸ word_spelled o.access fits.access ▸ word_spelled o.deny fits.deny
     ▸ last (word_spelled o.sequence fits.sequence) (done_spelled o)) (simp append_assoc)
 
-pub no_locks_spelled : Spelled no_locks NO_LOCKS (long NO_LOCKS)
-no_locks_spelled = long_among_spelled _ NO_LOCKS refl (omega arith)
+range_spelled : (r : LockRange) → RangeFits r → Spelled range_row r (range_text r)
+unfolding range_row range_text
+range_spelled r fits = grouped (long_spelled r.first fits.first ▸ long_spelled r.last fits.last ▸ last (flag_spelled r.write) (done_spelled r)) (simp append_assoc)
+
+pub lock_spelled : (l : Lock) → LockFits l → Spelled lock_row l (lock_text l)
+unfolding lock_row lock_text
+lock_spelled l fits =
+    grouped (id_spelled l.id fits.id ▸ long_spelled l.client fits.client ▸ long_spelled l.opening fits.opening ▸ run_spelled l.owner fits.owner ▸ id_spelled l.node fits.node ▸ word_spelled l.sequence fits.sequence
+    ▸ last (many_spelled range_row range_text RangeFits range_spelled l.ranges fits.ranges) (done_spelled l)) (simp append_assoc)

@@ -16,24 +16,27 @@ use Rattle.lnfs_rows.specs.declared.lists.Lasts.{Lasts}
 use Rattle.lnfs_rows.specs.declared.lists.Lists.{Lists}
 use Rattle.lnfs_rows.specs.Lasts.{given_of, each_from, each_of}
 use Rattle.lnfs_rows.specs.World.{AreOf, lasts_of, world_of}
+use Rattle.lnfs_locks.specs.Locks.{Locks}
+use Rattle.lnfs_lock_rows.specs.declared.LockRows.{LockRows}
+use Rattle.lnfs_lock_rows.specs.Told.{locks_told}
 use Rattle.lnfs_layout.specs.declared.numbers.TheConstants.{MAGIC, MOST_EVENTS, DIGEST}
 use Rattle.lnfs_layout.specs.declared.lasts.LastRow.{LastRow}
-use Rattle.lnfs_layout.specs.Grammar.{last_row, client_row, session_row, context_row, node_row, entry_row, open_row}
-use Rattle.lnfs_layout.specs.Texts.{last_text, lasts_text, lists_text, layout_text, client_text, session_text, context_text, node_text, entry_text, open_text, many_text}
-use Rattle.lnfs_layout.specs.Lasts.{AreOfLevels}
-use Rattle.lnfs_layout.specs.Fits.{IsLong, AreLongs, NumbersFit, WorldLastsFit, ClientFits, SessionFits, ContextFits, NodeFits, EntryFits, OpenFits, LastsFit, RowsFit}
-use Rattle.lnfs_layout.specs.Whole.{Told, head, lasts_told, last_numbers, people, files, body, chosen, layout}
+use Rattle.lnfs_layout.specs.Grammar.{last_row, client_row, session_row, context_row, node_row, entry_row, open_row, lock_row}
+use Rattle.lnfs_layout.specs.Texts.{last_text, lasts_text, lists_text, layout_text, client_text, session_text, context_text, node_text, entry_text, open_text, lock_text, many_text}
+use Rattle.lnfs_layout.specs.Lasts.{AreEach, AreOfLevels}
+use Rattle.lnfs_layout.specs.Fits.{IsLong, AreLongs, NumbersFit, WorldLastsFit, ClientFits, SessionFits, ContextFits, NodeFits, EntryFits, OpenFits, LockFits, LastsFit, RowsFit, LockRowsFit}
+use Rattle.lnfs_layout.specs.Whole.{Told, head, lasts_told, lock_lasts_told, last_numbers, people, files, body, chosen, layout}
 use Rattle.lnfs_layout.proofs.LastNumbers.{last_at, each_given}
-use Rattle.lnfs_layout.proofs.Spellings.{many_spelled, client_spelled, session_spelled, context_spelled, node_spelled, entry_spelled, open_spelled, no_locks_spelled}
+use Rattle.lnfs_layout.proofs.Spellings.{many_spelled, client_spelled, session_spelled, context_spelled, node_spelled, entry_spelled, open_spelled, lock_spelled}
 
--- ---- last numbers
+-- ---- last numbers, of a world and of locks
 
-abbrev row_of : (level : ℕ) → world.Lasts → LastRow
-row_of level l = record { clients = last_of level l.clients; sessions = last_of level l.sessions; contexts = last_of level l.contexts; nodes = last_of level l.nodes; opens = last_of level l.opens }
+abbrev row_of : (level : ℕ) → world.Lasts → (locks : List world.Id) → LastRow
+row_of level l locks = record { clients = last_of level l.clients; sessions = last_of level l.sessions; contexts = last_of level l.contexts; nodes = last_of level l.nodes; opens = last_of level l.opens; locks = last_of level locks }
 
-abbrev rows_of : (level levels : ℕ) → world.Lasts → List LastRow
-rows_of level zero l = []
-rows_of level (suc levels) l = row_of level l ∷ rows_of (suc level) levels l
+abbrev rows_of : (level levels : ℕ) → world.Lasts → (locks : List world.Id) → List LastRow
+rows_of level zero l locks = []
+rows_of level (suc levels) l locks = row_of level l locks ∷ rows_of (suc level) levels l locks
 
 -- each number of a level has room
 record RowFits (r : LastRow) : Type 0 where
@@ -42,41 +45,51 @@ record RowFits (r : LastRow) : Type 0 where
   contexts : IsLong r.contexts
   nodes : IsLong r.nodes
   opens : IsLong r.opens
+  locks : IsLong r.locks
 
-row_spelled : (level : ℕ) (l : world.Lasts) → RowFits (row_of level l) → Spelled last_row (row_of level l) (last_text level l)
+row_fits : (l : world.Lasts) (locks : List world.Id) → WorldLastsFit l → NumbersFit locks → (i : ℕ) → RowFits (row_of i l locks)
+row_fits l locks fits own i = record { clients = fits.clients i; sessions = fits.sessions i; contexts = fits.contexts i; nodes = fits.nodes i; opens = fits.opens i; locks = own i }
+
+row_spelled : (level : ℕ) (l : world.Lasts) (locks : List world.Id) → RowFits (row_of level l locks) → Spelled last_row (row_of level l locks) (last_text level l locks)
 unfolding last_row last_text
-row_spelled level l fits =
-    grouped (long_spelled _ fits.clients ▸ long_spelled _ fits.sessions ▸ long_spelled _ fits.contexts ▸ long_spelled _ fits.nodes ▸ long_spelled _ fits.opens ▸ last no_locks_spelled (done_spelled (row_of level l))) (simp append_assoc)
+row_spelled level l locks fits =
+    grouped (long_spelled _ fits.clients ▸ long_spelled _ fits.sessions ▸ long_spelled _ fits.contexts ▸ long_spelled _ fits.nodes ▸ long_spelled _ fits.opens ▸ last (long_spelled _ fits.locks) (done_spelled (row_of level l locks))) (simp append_assoc)
 
-rows_spelled : (level levels : ℕ) (l : world.Lasts) → ((i : ℕ) → RowFits (row_of i l)) → Spelled (times levels last_row) (rows_of level levels l) (lasts_text level levels l)
+rows_spelled : (level levels : ℕ) (l : world.Lasts) (locks : List world.Id) → ((i : ℕ) → RowFits (row_of i l locks)) → Spelled (times levels last_row) (rows_of level levels l locks) (lasts_text level levels l locks)
 unfolding lasts_text
-rows_spelled level zero l fits = done_spelled []
-rows_spelled level (suc levels) l fits = row_spelled level l (fits level) ▸ last (rows_spelled (suc level) levels l fits) (done_spelled (rows_of level (suc levels) l))
-
-numbers_spelled : (levels : ℕ) (l : world.Lasts) → ((i : ℕ) → RowFits (row_of i l)) → Spelled (last_numbers levels) (lasts_told (rows_of 0 levels l)) (lasts_text 0 levels l)
-unfolding last_numbers
-numbers_spelled levels l fits = last (rows_spelled 0 levels l fits) (done_spelled (lasts_told (rows_of 0 levels l)))
+rows_spelled level zero l locks fits = done_spelled []
+rows_spelled level (suc levels) l locks fits = row_spelled level l locks (fits level) ▸ last (rows_spelled (suc level) levels l locks fits) (done_spelled (rows_of level (suc levels) l locks))
 
 -- a column of the rows has the numbers of its levels
-column : (c : LastRow → ℕ) (p : world.Lasts → List world.Id) (each : (i : ℕ) (l : world.Lasts) → c (row_of i l) ≡ last_of i (p l)) (level levels : ℕ) (l : world.Lasts) → map c (rows_of level levels l) ≡ each_from level levels (p l)
-column c p each level zero l = refl
-column c p each level (suc levels) l = rw (each level l, column c p each (suc level) levels l) refl
+column : (c : LastRow → ℕ) (lasts : List world.Id) (l : world.Lasts) (locks : List world.Id) (each : (i : ℕ) → c (row_of i l locks) ≡ last_of i lasts) (level levels : ℕ) → map c (rows_of level levels l locks) ≡ each_from level levels lasts
+column c lasts l locks each level zero = refl
+column c lasts l locks each level (suc levels) = rw (each level, column c lasts l locks each (suc level) levels) refl
 
 again : (ns : List ℕ) (levels : ℕ) → length ns ≡ levels → given_of (each_of levels (given_of ns)) ≡ given_of ns
 again ns levels e = ap (λ (n : ℕ). given_of (each_of n (given_of ns))) (sym e) ∙ ap given_of (each_given ns)
 
-lasts_again : (levels : ℕ) (l : world.Lasts) → AreOfLevels levels l → lasts_told (rows_of 0 levels l) ≡ l
-lasts_again levels l each =
+lasts_again : (levels : ℕ) (l : world.Lasts) (locks : List world.Id) → AreOfLevels levels l → lasts_told (rows_of 0 levels l locks) ≡ l
+lasts_again levels l locks each =
     rw (
-      column (λ r. r.clients) (λ x. x.clients) (λ i x. refl) 0 levels l,
-      column (λ r. r.sessions) (λ x. x.sessions) (λ i x. refl) 0 levels l,
-      column (λ r. r.contexts) (λ x. x.contexts) (λ i x. refl) 0 levels l,
-      column (λ r. r.nodes) (λ x. x.nodes) (λ i x. refl) 0 levels l,
-      column (λ r. r.opens) (λ x. x.opens) (λ i x. refl) 0 levels l,
+      column (λ r. r.clients) l.clients l locks (λ i. refl) 0 levels,
+      column (λ r. r.sessions) l.sessions l locks (λ i. refl) 0 levels,
+      column (λ r. r.contexts) l.contexts l locks (λ i. refl) 0 levels,
+      column (λ r. r.nodes) l.nodes l locks (λ i. refl) 0 levels,
+      column (λ r. r.opens) l.opens l locks (λ i. refl) 0 levels,
     ) (λ i. record { clients = each.clients i; sessions = each.sessions i; contexts = each.contexts i; nodes = each.nodes i; opens = each.opens i })
 
-row_fits : (l : world.Lasts) → WorldLastsFit l → (i : ℕ) → RowFits (row_of i l)
-row_fits l fits i = record { clients = fits.clients i; sessions = fits.sessions i; contexts = fits.contexts i; nodes = fits.nodes i; opens = fits.opens i }
+locks_again : (levels : ℕ) (l : world.Lasts) (locks : List world.Id) → AreEach levels locks → lock_lasts_told (rows_of 0 levels l locks) ≡ locks
+locks_again levels l locks each = ap given_of (column (λ r. r.locks) locks l locks (λ i. refl) 0 levels) ∙ each
+
+numbers_spelled : (levels : ℕ) (l : world.Lasts) (locks : List world.Id) → AreOfLevels levels l → AreEach levels locks → WorldLastsFit l → NumbersFit locks → Spelled (last_numbers levels) (l, locks) (lasts_text 0 levels l locks)
+unfolding last_numbers
+numbers_spelled levels l locks each own lasts numbers =
+    let rows : List LastRow = rows_of 0 levels l locks in
+    let told : Spelled (last_numbers levels) (lasts_told rows, lock_lasts_told rows) (lasts_text 0 levels l locks) = last (rows_spelled 0 levels l locks (row_fits l locks lasts numbers)) (done_spelled (lasts_told rows, lock_lasts_told rows)) in
+    let first : Spelled (last_numbers levels) (l, lock_lasts_told rows) (lasts_text 0 levels l locks) =
+    subst (λ (x : world.Lasts). Spelled (last_numbers levels) (x, lock_lasts_told rows) (lasts_text 0 levels l locks)) (lasts_again levels l locks each) told
+    in
+    subst (λ (x : List world.Id). Spelled (last_numbers levels) (l, x) (lasts_text 0 levels l locks)) (locks_again levels l locks own) first
 
 -- those that a list has of each level
 of_levels : (levels : ℕ) (l : Lasts) → AreOf levels l → AreOfLevels levels (lasts_of l)
@@ -117,16 +130,12 @@ files_spelled w fits =
 within : (n m : ℕ) → n ≤ m → nat_le n m ≡ true
 within n m le = grind (arith, nat_tests)
 
--- the world with other last numbers
-abbrev with_lasts : ℕ → World → world.Lasts → Told
-with_lasts events w l = record { events = events; world = record { clients = w.clients; sessions = w.sessions; contexts = w.contexts; nodes = w.nodes; entries = w.entries; opens = w.opens; lasts = l } }
-
-body_spelled : (levels events : ℕ) (w : World) → events ≤ MOST_EVENTS → ((i : ℕ) → RowFits (row_of i w.lasts)) → RowsFit w
-    → Spelled (body levels) (with_lasts events w (lasts_told (rows_of 0 levels w.lasts))) (long events ++ lasts_text 0 levels w.lasts ++ lists_text w)
+body_spelled : (levels events : ℕ) (w : World) (own : Locks) → events ≤ MOST_EVENTS → AreOfLevels levels w.lasts → AreEach levels own.lasts → WorldLastsFit w.lasts → NumbersFit own.lasts → RowsFit w → LockRowsFit own
+    → Spelled (body levels) (record { events = events; world = w; locks = own }) (long events ++ lasts_text 0 levels w.lasts own.lasts ++ lists_text w ++ many_text lock_text own.locks)
 unfolding body lists_text
-body_spelled levels events w few lasts fits =
-    grouped (long_among_spelled _ events (within events MOST_EVENTS few) (omega (arith, few)) ▸ numbers_spelled levels w.lasts lasts ▸ people_spelled w fits ▸ files_spelled w fits
-    ▸ last no_locks_spelled (done_spelled (with_lasts events w (lasts_told (rows_of 0 levels w.lasts))))) (simp append_assoc)
+body_spelled levels events w own few each own_each lasts numbers fits locks =
+    grouped (long_among_spelled _ events (within events MOST_EVENTS few) (omega (arith, few)) ▸ numbers_spelled levels w.lasts own.lasts each own_each lasts numbers ▸ people_spelled w fits ▸ files_spelled w fits
+    ▸ last (many_spelled lock_row lock_text LockFits lock_spelled own.locks locks) (done_spelled (record { events = events; world = w; locks = own }))) (simp append_assoc)
 
 head_spelled : (digest : List ℕ) → length digest ≡ DIGEST → Spelled head digest (long MAGIC ++ digest)
 unfolding head
@@ -136,13 +145,14 @@ on_same : {B : Type 0} (b : Bool) (m n : Message B) (x : B) (bytes : List ℕ) �
 on_same true m n x bytes e t = t
 on_same false m n x bytes e t = absurd cc
 
-pub world_again : (levels : ℕ) (digest : List ℕ) (events : ℕ) (w : World) → length digest ≡ DIGEST → events ≤ MOST_EVENTS → AreOfLevels levels w.lasts → WorldLastsFit w.lasts → RowsFit w
-    → Tells (layout levels digest) (Some (record { events = events; world = w })) (layout_text levels digest events w)
+pub world_again : (levels : ℕ) (digest : List ℕ) (events : ℕ) (w : World) (own : Locks) → length digest ≡ DIGEST → events ≤ MOST_EVENTS → AreOfLevels levels w.lasts → AreEach levels own.lasts → WorldLastsFit w.lasts → NumbersFit own.lasts
+    → RowsFit w → LockRowsFit own → Tells (layout levels digest) (Some (record { events = events; world = w; locks = own })) (layout_text levels digest events w own)
 unfolding layout layout_text
-world_again levels digest events w size few each lasts fits =
-    let back : List ℕ = long events ++ lasts_text 0 levels w.lasts ++ lists_text w in
-    let read : Spelled (body levels) (with_lasts events w w.lasts) back = subst (λ (l : world.Lasts). Spelled (body levels) (with_lasts events w l) back) (lasts_again levels w.lasts each) (body_spelled levels events w few (row_fits w.lasts lasts) fits) in
-    let parts : long MAGIC ++ digest ++ long events ++ lasts_text 0 levels w.lasts ++ lists_text w ≡ (long MAGIC ++ digest) ++ back = simp append_assoc in
+world_again levels digest events w own size few each own_each lasts numbers fits locks =
+    let told : Told = record { events = events; world = w; locks = own } in
+    let back : List ℕ = long events ++ lasts_text 0 levels w.lasts own.lasts ++ lists_text w ++ many_text lock_text own.locks in
+    let read : Spelled (body levels) told back = body_spelled levels events w own few each own_each lasts numbers fits locks in
+    let parts : long MAGIC ++ digest ++ long events ++ lasts_text 0 levels w.lasts own.lasts ++ lists_text w ++ many_text lock_text own.locks ≡ (long MAGIC ++ digest) ++ back = simp append_assoc in
     let same : bytes_eq digest digest ≡ true = (bytes_eq-Decides digest digest).1 refl in
     inl (
       digest,
@@ -150,14 +160,21 @@ world_again levels digest events w size few each lasts fits =
       back,
       (head_spelled digest size).is,
       parts,
-      on_same (bytes_eq digest digest) _ _ (Some (with_lasts events w w.lasts)) back same (inl (with_lasts events w w.lasts, back, [], read.is, sym (append-nil back), (refl, refl))),
+      on_same (bytes_eq digest digest) _ _ (Some told) back same (inl (told, back, [], read.is, sym (append-nil back), (refl, refl))),
     )
 
-pub written_again : (levels : ℕ) (digest : List ℕ) (events : ℕ) (s : Lists) → length digest ≡ DIGEST → events ≤ MOST_EVENTS → AreOf levels s.lasts → LastsFit s.lasts → RowsFit (world_of s)
-    → Tells (layout levels digest) (Some (record { events = events; world = world_of s })) (layout_text levels digest events (world_of s))
-written_again levels digest events s size few each lasts fits = world_again levels digest events (world_of s) size few (of_levels levels s.lasts each) (lasts_fit s.lasts lasts) fits
+-- what lists and rows of locks stand for
+abbrev told_by : (events : ℕ) → Lists → LockRows → Told
+told_by events s rows = record { events = events; world = world_of s; locks = locks_told rows }
 
-pub is_again : {W : Type 0} (levels : ℕ) (digest : List ℕ) (events : ℕ) (s : Lists) (r : Result (Vec ℕ) W) → length digest ≡ DIGEST → IfOk r (λ v. v.items ≡ layout_text levels digest events (world_of s)) → IfOk r (λ v. LastsFit s.lasts × RowsFit (world_of s))
-    → events ≤ MOST_EVENTS → AreOf levels s.lasts → IfOk r (λ v. Tells (layout levels digest) (Some (record { events = events; world = world_of s })) v.items)
-is_again levels digest events s (Ok v) size text fits few each = subst (λ (b : List ℕ). Tells (layout levels digest) (Some (record { events = events; world = world_of s })) b) (sym text) (written_again levels digest events s size few each fits.0 fits.1)
-is_again levels digest events s (Err e) size text fits few each = tt
+pub written_again : (levels : ℕ) (digest : List ℕ) (events : ℕ) (s : Lists) (rows : LockRows) → length digest ≡ DIGEST → events ≤ MOST_EVENTS → AreOf levels s.lasts → length rows.lasts.items ≡ levels → LastsFit s.lasts → AreLongs rows.lasts.items
+    → RowsFit (world_of s) → LockRowsFit (locks_told rows) → Tells (layout levels digest) (Some (told_by events s rows)) (layout_text levels digest events (world_of s) (locks_told rows))
+written_again levels digest events s rows size few each own_each lasts numbers fits locks =
+    world_again levels digest events (world_of s) (locks_told rows) size few (of_levels levels s.lasts each) (again rows.lasts.items levels own_each) (lasts_fit s.lasts lasts) (last_fits rows.lasts.items numbers) fits locks
+
+pub is_again : {W : Type 0} (levels : ℕ) (digest : List ℕ) (events : ℕ) (s : Lists) (rows : LockRows) (r : Result (Vec ℕ) W) → length digest ≡ DIGEST → IfOk r (λ v. v.items ≡ layout_text levels digest events (world_of s) (locks_told rows))
+    → IfOk r (λ v. LastsFit s.lasts × RowsFit (world_of s)) → IfOk r (λ v. AreLongs rows.lasts.items × LockRowsFit (locks_told rows))
+    → events ≤ MOST_EVENTS → AreOf levels s.lasts → length rows.lasts.items ≡ levels → IfOk r (λ v. Tells (layout levels digest) (Some (told_by events s rows)) v.items)
+is_again levels digest events s rows (Ok v) size text fits own_fits few each own_each =
+    subst (λ (b : List ℕ). Tells (layout levels digest) (Some (told_by events s rows)) b) (sym text) (written_again levels digest events s rows size few each own_each fits.0 own_fits.0 fits.1 own_fits.1)
+is_again levels digest events s rows (Err e) size text fits own_fits few each own_each = tt

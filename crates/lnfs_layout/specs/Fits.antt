@@ -4,6 +4,8 @@ use Rattle.lnfs_types.specs.declared.event.Moment.{Moment}
 use Rattle.lnfs_world.specs.World as world
 use Rattle.lnfs_world.specs.World.{Id, Kept, Client, Channel, Slot, Session, Context, Stored, Node, Entry, Open, World, last_of}
 use Rattle.lnfs_rows.specs.declared.lists.Lasts.{Lasts}
+use Rattle.lnfs_ranges.specs.declared.range.LockRange.{LockRange}
+use Rattle.lnfs_locks.specs.Locks.{Lock, Locks}
 use Rattle.lnfs_layout.specs.declared.numbers.TheConstants.{VERIFIER}
 
 abbrev pub IsWord : ℕ → Type 0
@@ -105,6 +107,19 @@ pub record OpenFits (o : Open) : Type 0 where
   pub deny : IsWord o.deny
   pub sequence : IsWord o.sequence
 
+pub record RangeFits (r : LockRange) : Type 0 where
+  pub first : IsLong r.first
+  pub last : IsLong r.last
+
+pub record LockFits (l : Lock) : Type 0 where
+  pub id : IdFits l.id
+  pub client : IsLong l.client
+  pub opening : IsLong l.opening
+  pub owner : IsRun l.owner
+  pub node : IdFits l.node
+  pub sequence : IsWord l.sequence
+  pub ranges : ListFits RangeFits l.ranges
+
 -- each number of a list has room
 abbrev pub AreLongs : List ℕ → Type 0
 AreLongs ns = (i : ℕ) → slice_index_or ns i 0 < 2 ^ 64
@@ -135,3 +150,7 @@ pub record RowsFit (w : World) : Type 0 where
   pub nodes : ListFits NodeFits w.nodes
   pub entries : ListFits EntryFits w.entries
   pub opens : ListFits OpenFits w.opens
+
+-- all locks
+abbrev pub LockRowsFit : Locks → Type 0
+LockRowsFit own = ListFits LockFits own.locks

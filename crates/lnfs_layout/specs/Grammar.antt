@@ -2,9 +2,11 @@
 use Rattle.std.specs.Prelude.{ℕ, Bool, ◌==◌, List, [], ◌∷◌, Option, Some, None, nat_le}
 use Rattle.std.specs.List.{list_any}
 use Rattle.lnfs_types.specs.declared.event.Moment.{Moment}
-use Rattle.lnfs_xdr.specs.Format.{Format, Word, Long, Among, LongAmong, Byte, Raw, Done, ◌>>=◌, when◌then◌else◌, times}
+use Rattle.lnfs_xdr.specs.Format.{Format, Word, Long, Among, Byte, Raw, Done, ◌>>=◌, when◌then◌else◌, times}
 use Rattle.lnfs_world.specs.World.{Id, Kept, Client, Channel, Slot, Session, Context, Kind, File, Directory, SymbolicLink, Stored, Node, Entry, Open}
-use Rattle.lnfs_layout.specs.declared.numbers.TheConstants.{VERIFIER, NF4REG, NF4DIR, NF4LNK, NO_LOCKS}
+use Rattle.lnfs_ranges.specs.declared.range.LockRange.{LockRange}
+use Rattle.lnfs_locks.specs.Locks.{Lock}
+use Rattle.lnfs_layout.specs.declared.numbers.TheConstants.{VERIFIER, NF4REG, NF4DIR, NF4LNK}
 use Rattle.lnfs_layout.specs.declared.lasts.LastRow.{LastRow}
 
 -- A format of the layout. It never leaves bytes unread.
@@ -157,7 +159,7 @@ entry_row = do
   node ← identifier
   Done (record { directory = directory; cookie = cookie; name = name; node = node })
 
--- ---- opens, and what there is none of
+-- ---- opens
 
 unfoldable pub open_row : Rows Open
 open_row = do
@@ -170,11 +172,28 @@ open_row = do
   sequence ← Word
   Done (record { id = id; client = client; owner = owner; node = node; access = access; deny = deny; sequence = sequence })
 
--- no lock
-abbrev pub no_locks : Rows ℕ
-no_locks = LongAmong (λ n. n == NO_LOCKS)
+-- ---- locks
 
--- ---- last numbers, and that of locks
+-- offsets, the last one included, and whether they are locked for write
+unfoldable pub range_row : Rows LockRange
+range_row = do
+  first ← Long
+  last ← Long
+  write ← flag
+  Done (record { first = first; last = last; write = write })
+
+unfoldable pub lock_row : Rows Lock
+lock_row = do
+  id ← identifier
+  client ← Long
+  opening ← Long
+  owner ← run
+  node ← identifier
+  sequence ← Word
+  ranges ← many range_row
+  Done (record { id = id; client = client; opening = opening; owner = owner; node = node; sequence = sequence; ranges = ranges })
+
+-- ---- last numbers
 
 unfoldable pub last_row : Rows LastRow
 last_row = do
@@ -183,5 +202,5 @@ last_row = do
   contexts ← Long
   nodes ← Long
   opens ← Long
-  locks ← no_locks
-  Done (record { clients = clients; sessions = sessions; contexts = contexts; nodes = nodes; opens = opens })
+  locks ← Long
+  Done (record { clients = clients; sessions = sessions; contexts = contexts; nodes = nodes; opens = opens; locks = locks })

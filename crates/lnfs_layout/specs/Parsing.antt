@@ -4,6 +4,7 @@ use Rattle.std.specs.Option.{option_map}
 use Rattle.lnfs_xdr.specs.Reading.{Read, Fault}
 use Rattle.lnfs_xdr.specs.Cursor.{Cursor}
 use Rattle.lnfs_rows.specs.World.{AreOf, world_of}
+use Rattle.lnfs_lock_rows.specs.Told.{locks_told}
 use Rattle.lnfs_layout.specs.declared.errors.Halt.{Halt}
 use Rattle.lnfs_layout.specs.declared.errors.Halt.TheVariants as halts
 use Rattle.lnfs_layout.specs.declared.errors.LayoutError.{LayoutError}
@@ -19,7 +20,7 @@ ParsesInMemory view (Err (halts.Fault c)) old new r = (r ≡ Err (Fault c new.re
 
 -- what a state that was read stands for
 abbrev pub told_of : Laid → Told
-told_of l = record { events = l.events; world = world_of l.lists }
+told_of l = record { events = l.events; world = world_of l.lists; locks = locks_told l.locks }
 
 -- The same of the whole layout: nothing where the policy is another.
 abbrev pub Completes : Result (Option Laid) Halt → Cursor → Cursor → Result (Option Told) (List ℕ) → Type 0
@@ -44,7 +45,11 @@ abbrev pub IfPolicy : Result Laid LayoutError → Type 0 → Type 0
 IfPolicy (Err errors.Policy) P = P
 IfPolicy r P = Unit {0}
 
--- a last number for each level, of a state that was read
+-- a last number for each level, of the world's identifiers and of locks
+abbrev pub HasLasts : (levels : ℕ) → Laid → Type 0
+HasLasts levels l = AreOf levels l.lists.lasts × (length l.locks.lasts.items ≡ levels)
+
+-- the same of a state that was read
 abbrev pub EachLevel : (levels : ℕ) → Result (Option Laid) Halt → Type 0
-EachLevel levels (Ok (Some x)) = AreOf levels x.lists.lasts
+EachLevel levels (Ok (Some x)) = HasLasts levels x
 EachLevel levels r = Unit {0}

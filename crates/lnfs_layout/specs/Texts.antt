@@ -5,7 +5,9 @@ use Rattle.lnfs_types.specs.declared.event.Moment.{Moment}
 use Rattle.lnfs_xdr.specs.Format.{number_of}
 use Rattle.lnfs_xdr.specs.Canon.{word, long, byte}
 use Rattle.lnfs_world.specs.World.{Id, Kept, Client, Channel, Slot, Session, Context, Kind, File, Directory, SymbolicLink, Stored, Node, Entry, Open, Lasts, World, last_of}
-use Rattle.lnfs_layout.specs.declared.numbers.TheConstants.{MAGIC, NF4REG, NF4DIR, NF4LNK, YES, NO, NO_LOCKS}
+use Rattle.lnfs_ranges.specs.declared.range.LockRange.{LockRange}
+use Rattle.lnfs_locks.specs.Locks.{Lock, Locks}
+use Rattle.lnfs_layout.specs.declared.numbers.TheConstants.{MAGIC, NF4REG, NF4DIR, NF4LNK, YES, NO}
 
 -- ---- columns
 
@@ -75,20 +77,28 @@ entry_text e = id_text e.directory ++ long e.cookie ++ run_text e.name ++ id_tex
 unfoldable pub open_text : Open → List ℕ
 open_text o = id_text o.id ++ long o.client ++ run_text o.owner ++ id_text o.node ++ word o.access ++ word o.deny ++ word o.sequence
 
--- ---- last numbers of a level, and of so many levels from one on
+-- ---- locks
 
-unfoldable pub last_text : (level : ℕ) → Lasts → List ℕ
-last_text level l = long (last_of level l.clients) ++ long (last_of level l.sessions) ++ long (last_of level l.contexts) ++ long (last_of level l.nodes) ++ long (last_of level l.opens) ++ long NO_LOCKS
+unfoldable pub range_text : LockRange → List ℕ
+range_text r = long r.first ++ long r.last ++ flag_text r.write
 
-unfoldable pub lasts_text : (level levels : ℕ) → Lasts → List ℕ
-lasts_text level zero l = []
-lasts_text level (suc levels) l = last_text level l ++ lasts_text (suc level) levels l
+unfoldable pub lock_text : Lock → List ℕ
+lock_text l = id_text l.id ++ long l.client ++ long l.opening ++ run_text l.owner ++ id_text l.node ++ word l.sequence ++ many_text range_text l.ranges
+
+-- ---- last numbers of a level, those of locks beside those of a world; and of so many levels from one on
+
+unfoldable pub last_text : (level : ℕ) → Lasts → (locks : List Id) → List ℕ
+last_text level l locks = long (last_of level l.clients) ++ long (last_of level l.sessions) ++ long (last_of level l.contexts) ++ long (last_of level l.nodes) ++ long (last_of level l.opens) ++ long (last_of level locks)
+
+unfoldable pub lasts_text : (level levels : ℕ) → Lasts → (locks : List Id) → List ℕ
+lasts_text level zero l locks = []
+lasts_text level (suc levels) l locks = last_text level l locks ++ lasts_text (suc level) levels l locks
 
 -- ---- the whole
 
 unfoldable pub lists_text : World → List ℕ
-lists_text w = many_text client_text w.clients ++ many_text session_text w.sessions ++ many_text context_text w.contexts ++ many_text node_text w.nodes ++ many_text entry_text w.entries ++ many_text open_text w.opens ++ long NO_LOCKS
+lists_text w = many_text client_text w.clients ++ many_text session_text w.sessions ++ many_text context_text w.contexts ++ many_text node_text w.nodes ++ many_text entry_text w.entries ++ many_text open_text w.opens
 
--- of a world under a policy of so many levels and of this digest, after so many events
-unfoldable pub layout_text : (levels : ℕ) → (digest : List ℕ) → (events : ℕ) → World → List ℕ
-layout_text levels digest events w = long MAGIC ++ digest ++ long events ++ lasts_text 0 levels w.lasts ++ lists_text w
+-- of a world and of the locks beside it, under a policy of so many levels and of this digest, after so many events
+unfoldable pub layout_text : (levels : ℕ) → (digest : List ℕ) → (events : ℕ) → World → Locks → List ℕ
+layout_text levels digest events w own = long MAGIC ++ digest ++ long events ++ lasts_text 0 levels w.lasts own.lasts ++ lists_text w ++ many_text lock_text own.locks

@@ -5,16 +5,18 @@ use Rattle.lnfs_xdr.specs.Format.{LongAmong, Raw, Done, ◌>>=◌, times}
 use Rattle.std.specs.Prelude.{◌==◌}
 use Rattle.lnfs_xdr.specs.Canon.{long}
 use Rattle.lnfs_xdr.specs.Message.{Message, Closed, Unread, Next}
-use Rattle.lnfs_world.specs.World.{World, Client, Session, Context, Node, Entry, Open, Lasts}
+use Rattle.lnfs_world.specs.World.{Id, World, Client, Session, Context, Node, Entry, Open, Lasts}
 use Rattle.lnfs_rows.specs.Lasts.{given_of}
+use Rattle.lnfs_locks.specs.Locks.{Locks}
 use Rattle.lnfs_layout.specs.declared.numbers.TheConstants.{MAGIC, MOST_EVENTS, DIGEST}
 use Rattle.lnfs_layout.specs.declared.lasts.LastRow.{LastRow}
-use Rattle.lnfs_layout.specs.Grammar.{Rows, many, last_row, client_row, session_row, context_row, node_row, entry_row, open_row, no_locks}
+use Rattle.lnfs_layout.specs.Grammar.{Rows, many, last_row, client_row, session_row, context_row, node_row, entry_row, open_row, lock_row}
 
--- how many events a state has taken, and the world after them
+-- how many events a state has taken, and the world and the locks after them
 pub record Told : Type 0 where
   pub events : ℕ
   pub world : World
+  pub locks : Locks
 
 -- the name of the layout, and the digest of a policy
 unfoldable pub head : Rows (List ℕ)
@@ -31,11 +33,14 @@ lasts_told rows = record {
   opens = given_of (map (λ r. r.opens) rows);
 }
 
--- the last numbers of so many levels
-unfoldable pub last_numbers : (levels : ℕ) → Rows Lasts
+abbrev pub lock_lasts_told : List LastRow → List Id
+lock_lasts_told rows = given_of (map (λ r. r.locks) rows)
+
+-- the last numbers of so many levels: those of the world, and those of locks
+unfoldable pub last_numbers : (levels : ℕ) → Rows (Lasts × List Id)
 last_numbers levels = do
   rows ← times levels last_row
-  Done (lasts_told rows)
+  Done (lasts_told rows, lock_lasts_told rows)
 
 unfoldable pub people : Rows (List Client × List Session × List Context)
 people = do
@@ -57,10 +62,11 @@ body levels = do
   lasts ← last_numbers levels
   those ← people
   these ← files
-  locks ← no_locks
+  locks ← many lock_row
   Done (record {
     events = events;
-    world = record { clients = those.0; sessions = those.1; contexts = those.2; nodes = these.0; entries = these.1; opens = these.2; lasts = lasts };
+    world = record { clients = those.0; sessions = those.1; contexts = those.2; nodes = these.0; entries = these.1; opens = these.2; lasts = lasts.0 };
+    locks = record { lasts = lasts.1; locks = locks };
   })
 
 abbrev pub chosen : {B : Type 0} → Bool → Message B → Message B → Message B

@@ -1,5 +1,5 @@
 //! Readers and writers of the last numbers, level by level.
-ghost use Rattle.std.specs.Prelude.{◌≡◌, ◌++◌, map, IfOk, OnOk};
+ghost use Rattle.std.specs.Prelude.{◌≡◌, ◌++◌, length, map, IfOk, OnOk};
 ghost use Rattle.lnfs_xdr.specs.Format.{times};
 ghost use Rattle.lnfs_xdr.specs.Reading.{read};
 ghost use Rattle.lnfs_xdr.specs.Cursor.{Parses};
@@ -14,7 +14,6 @@ ghost use Rattle.lnfs_layout.specs.Fits.{AreLongs, LastsFit};
 ghost use Rattle.lnfs_layout.specs.Whole.{last_numbers};
 
 use crate::errors::Halt;
-use crate::numbers::NO_LOCKS;
 use lnfs_rows::Lasts;
 use lnfs_xdr::{XdrError, XdrReader, XdrWriter};
 use std::alloc::{AllocError, Global};
@@ -27,7 +26,11 @@ pub(crate) struct LastRow {
     pub contexts: u64,
     pub nodes: u64,
     pub opens: u64,
+    pub locks: u64,
 }
+
+/// The last numbers of a world's identifiers, and those of locks, by level.
+pub type Numbers = (Lasts, Vec<u64>);
 
 #[tactic(auto, unfolding(crate::specs::Grammar::last_row))]
 fn read_last(reader: &mut XdrReader<'_>) -> Result<LastRow, XdrError>
@@ -38,13 +41,14 @@ fn read_last(reader: &mut XdrReader<'_>) -> Result<LastRow, XdrError>
     let contexts = reader.u64()?;
     let nodes = reader.u64()?;
     let opens = reader.u64()?;
-    reader.long_constant(NO_LOCKS)?;
+    let locks = reader.u64()?;
     Ok(LastRow {
         clients,
         sessions,
         contexts,
         nodes,
         opens,
+        locks,
     })
 }
 
@@ -60,8 +64,8 @@ fn read_rows(alloc: Global, reader: &mut XdrReader<'_>, levels: u32) -> Result<V
 }
 
 /// The columns of the rows.
-fn split_rows(alloc: Global, rows: &[LastRow]) -> Result<Lasts, AllocError>
-    ensures { IfOk result (λ l. IsSplit rows.now l) }
+fn split_rows(alloc: Global, rows: &[LastRow]) -> Result<Numbers, AllocError>
+    ensures { IfOk result (λ l. IsSplit rows.now l.0 l.1.items) }
 {
     let mut lasts = Lasts {
         clients: Vec::new(alloc),
@@ -70,22 +74,24 @@ fn split_rows(alloc: Global, rows: &[LastRow]) -> Result<Lasts, AllocError>
         nodes: Vec::new(alloc),
         opens: Vec::new(alloc),
     };
+    let mut locks = Vec::new(alloc);
     for row in rows {
         lasts.clients.push(row.clients)?;
         lasts.sessions.push(row.sessions)?;
         lasts.contexts.push(row.contexts)?;
         lasts.nodes.push(row.nodes)?;
         lasts.opens.push(row.opens)?;
+        locks.push(row.locks)?;
     }
-    Ok(lasts)
+    Ok((lasts, locks))
 }
 
 /// The last numbers of so many levels.
 #[tactic(auto, unfolding(crate::specs::Whole::last_numbers))]
-pub fn read_lasts(alloc: Global, reader: &mut XdrReader<'_>, levels: u32) -> Result<Lasts, Halt>
-    ensures reads { ParsesInMemory lasts_of result reader.old reader.new
-        (read (last_numbers levels) reader.old.rest) }
-    ensures each { IfOk result (λ l. AreOf levels l) }
+pub fn read_lasts(alloc: Global, reader: &mut XdrReader<'_>, levels: u32) -> Result<Numbers, Halt>
+    ensures reads { ParsesInMemory (λ l. (lasts_of l.0, given_of l.1.items)) result
+        reader.old reader.new (read (last_numbers levels) reader.old.rest) }
+    ensures each { IfOk result (λ l. AreOf levels l.0 × (length l.1.items ≡ levels)) }
 {
     let rows = read_rows(alloc, reader, levels)?;
     Ok(split_rows(alloc, rows.as_slice())?)
@@ -103,19 +109,20 @@ fn number_at(numbers: &[u64], level: u32) -> u64
 }
 
 #[tactic(auto, unfolding(crate::specs::Texts::last_text))]
-fn put_last(out: &mut XdrWriter, lasts: &Lasts, level: u32) -> Result<(), AllocError>
-    ensures { OnOk result (out.new ≡ out.old ++ last_text level (lasts_of lasts.now)) }
+fn put_last(out: &mut XdrWriter, lasts: &Lasts, locks: &[u64], level: u32) -> Result<(), AllocError>
+    ensures { OnOk result (out.new ≡ out.old
+        ++ last_text level (lasts_of lasts.now) (given_of locks.now)) }
 {
     out.u64(number_at(lasts.clients.as_slice(), level))?;
     out.u64(number_at(lasts.sessions.as_slice(), level))?;
     out.u64(number_at(lasts.contexts.as_slice(), level))?;
     out.u64(number_at(lasts.nodes.as_slice(), level))?;
     out.u64(number_at(lasts.opens.as_slice(), level))?;
-    out.u64(NO_LOCKS)
+    out.u64(number_at(locks, level))
 }
 
 /// Each number of a slice has room in the layout.
-fn are_longs(_numbers: &[u64])
+pub fn are_longs(_numbers: &[u64])
     ensures { AreLongs _numbers.now }
 {}
 
@@ -131,11 +138,17 @@ pub fn lasts_fit(lasts: &Lasts)
 }
 
 /// The last numbers of so many levels. A level that a list has no number of gave none.
-pub fn put_lasts(out: &mut XdrWriter, lasts: &Lasts, levels: u32) -> Result<(), AllocError>
-    ensures { OnOk result (out.new ≡ out.old ++ lasts_text 0 levels (lasts_of lasts.now)) }
+pub fn put_lasts(
+    out: &mut XdrWriter,
+    lasts: &Lasts,
+    locks: &[u64],
+    levels: u32,
+) -> Result<(), AllocError>
+    ensures { OnOk result (out.new ≡ out.old
+        ++ lasts_text 0 levels (lasts_of lasts.now) (given_of locks.now)) }
 {
     for level in 0..levels {
-        put_last(out, lasts, level)?;
+        put_last(out, lasts, locks, level)?;
     }
     Ok(())
 }

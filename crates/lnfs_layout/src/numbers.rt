@@ -23,6 +23,3 @@ pub const NF4LNK: u32 = 5;
 pub const YES: u8 = 1;
 
 pub const NO: u8 = 0;
-
-/// No lock was given a number yet, and there are none.
-pub const NO_LOCKS: u64 = 0;

@@ -5,7 +5,6 @@ ghost use Rattle.lnfs_rows.specs.World.{world_of};
 ghost use Rattle.lnfs_layout.specs.Texts.{many_text, client_text, session_text, context_text, node_text, entry_text, open_text, lists_text};
 ghost use Rattle.lnfs_layout.specs.Fits.{ListFits, ClientFits, SessionFits, ContextFits, NodeFits, EntryFits, OpenFits, RowsFit};
 
-use crate::numbers::NO_LOCKS;
 use crate::put_files::{put_entry, put_node, put_open};
 use crate::put_people::{put_client, put_context, put_session};
 use lnfs_rows::{ClientRow, ContextRow, EntryRow, Lists, NodeRow, OpenRow, SessionRow};
@@ -95,6 +94,5 @@ pub fn put_lists(out: &mut XdrWriter, lists: &Lists<'_>) -> Result<(), AllocErro
     put_contexts(out, lists.contexts.as_slice())?;
     put_nodes(out, lists.nodes.as_slice())?;
     put_entries(out, lists.entries.as_slice())?;
-    put_opens(out, lists.opens.as_slice())?;
-    out.u64(NO_LOCKS)
+    put_opens(out, lists.opens.as_slice())
 }

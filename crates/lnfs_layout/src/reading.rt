@@ -4,14 +4,15 @@ ghost use Rattle.std.specs.Str.{bytes_eq};
 ghost use Rattle.lnfs_xdr.specs.Reading.{read};
 ghost use Rattle.lnfs_xdr.specs.Cursor.{Parses};
 ghost use Rattle.lnfs_xdr.specs.Message.{Tells, Refuses, RefusesAt, parse};
-ghost use Rattle.lnfs_rows.specs.World.{AreOf};
 ghost use Rattle.lnfs_layout.specs.Whole.{Told, head, body, layout, IsOfAnother};
-ghost use Rattle.lnfs_layout.specs.Parsing.{ParsesInMemory, Completes, EachLevel, Answers, IfDamaged, IfPolicy, told_of};
+ghost use Rattle.lnfs_layout.specs.Parsing.{ParsesInMemory, Completes, HasLasts, EachLevel, Answers, IfDamaged, IfPolicy, told_of};
 
 use crate::errors::{Halt, LayoutError};
 use crate::lasts::read_lasts;
 use crate::lists::{read_files, read_people};
-use crate::numbers::{DIGEST, MAGIC, MOST_EVENTS, NO_LOCKS};
+use crate::locks::read_locks;
+use crate::numbers::{DIGEST, MAGIC, MOST_EVENTS};
+use lnfs_lock_rows::LockRows;
 use lnfs_rows::Lists;
 use lnfs_xdr::{XdrError, XdrReader};
 use std::alloc::Global;
@@ -22,6 +23,7 @@ pub struct Laid<'a> {
     /// How many events it has taken.
     pub events: u64,
     pub lists: Lists<'a>,
+    pub locks: LockRows<'a>,
 }
 
 /// The digest of a policy, behind the name of the layout.
@@ -38,13 +40,13 @@ fn read_head<'a>(reader: &mut XdrReader<'a>) -> Result<&'a [u8], XdrError>
 fn read_body<'a>(alloc: Global, reader: &mut XdrReader<'a>, levels: u32) -> Result<Laid<'a>, Halt>
     ensures reads { ParsesInMemory told_of result reader.old reader.new
         (read (body levels) reader.old.rest) }
-    ensures each { IfOk result (λ laid. AreOf levels laid.lists.lasts) }
+    ensures each { IfOk result (λ laid. HasLasts levels laid) }
 {
     let events = reader.long_at_most(MOST_EVENTS)?;
-    let lasts = read_lasts(alloc, reader, levels)?;
+    let (lasts, lock_lasts) = read_lasts(alloc, reader, levels)?;
     let (clients, sessions, contexts) = read_people(alloc, reader)?;
     let (nodes, entries, opens) = read_files(alloc, reader)?;
-    reader.long_constant(NO_LOCKS)?;
+    let locks = read_locks(alloc, reader)?;
     Ok(Laid {
         events,
         lists: Lists {
@@ -55,6 +57,10 @@ fn read_body<'a>(alloc: Global, reader: &mut XdrReader<'a>, levels: u32) -> Resu
             entries,
             opens,
             lasts,
+        },
+        locks: LockRows {
+            locks,
+            lasts: lock_lasts,
         },
     })
 }
@@ -95,7 +101,7 @@ fn laid_of<'a>(
     bytes: &'a [u8],
 ) -> Result<Laid<'a>, LayoutError>
     ensures reads { Answers result bytes.now (parse (layout levels digest.now) bytes.now) }
-    ensures each { IfOk result (λ laid. AreOf levels laid.lists.lasts) }
+    ensures each { IfOk result (λ laid. HasLasts levels laid) }
 {
     let mut reader = XdrReader::new(bytes);
     match read_whole(alloc, &mut reader, levels, digest) {
@@ -125,8 +131,8 @@ pub fn read_layout<'a>(
     // What is read is what the bytes are.
     ensures found { IfOk result (λ laid.
         Tells (layout levels digest.now) (Some (told_of laid)) bytes.now) }
-    // There is a last number for each level.
-    ensures each { IfOk result (λ laid. AreOf levels laid.lists.lasts) }
+    // There is a last number for each level, of the world's identifiers and of locks.
+    ensures each { IfOk result (λ laid. HasLasts levels laid) }
     // What the bytes are is read, unless memory runs out.
     ensures only { (t : Told) → Tells (layout levels digest.now) (Some t) bytes.now →
         Answers result bytes.now (Ok (Some t)) }

@@ -7,7 +7,6 @@ use Rattle.lnfs_types.specs.declared.event.Event.{Event}
 use Rattle.lnfs_types.specs.declared.event.Moment.{Moment}
 use Rattle.lnfs_policy.specs.Policy.{Policy}
 use Rattle.lnfs_policy.specs.PolicyText.{policy_of}
-use Rattle.lnfs_operations.specs.Extra.{no_extra}
 use Rattle.lnfs_gss3.specs.Mechanism.{keyed_digest}
 use Rattle.lnfs_traffic.specs.Parts.{recorded}
 use Rattle.lnfs_stage.specs.declared.ending.Ending.{Ending}
@@ -20,6 +19,7 @@ use Rattle.lnfs_stage.specs.Due.{Due, line_for, told, given}
 use Rattle.lnfs_stage.specs.Contents.{Contents, first, others, AllHold}
 use Rattle.lnfs_commands.specs.Commands.{replayed}
 use Rattle.lnfs_commands.specs.Words.{save, resume}
+use Rattle.lnfs_commands.specs.Further.{further}
 use Rattle.lnfs_service.specs.Handed.{Dealings}
 use Rattle.lnfs_checkpointing.specs.Checkpoints.{Ruling, saved, saving_due, resumption_due, text_behind, IsJudged, IsTakenAgain}
 use Rattle.lnfs_program.specs.Runs.{Runs, streams}
@@ -45,7 +45,7 @@ abbrev pub ResumesAs : Type 0
 ResumesAs = (p : Policy) (text : List ℕ) → policy_of text ≡ Ok p → (a : List Event) → IsTakenAgain p a
     → (files : Contents) (ending : Status) (verdict : Ruling) → IsJudged files ending verdict → IsSome (told_by ending)
     → first files ≡ Some text → first (others files) ≡ Some (text_behind p a)
-    → (policy checkpoint traffic : List ℕ) → resumption_due policy checkpoint traffic verdict files ≡ given (first (others (others files))) traffic (replayed no_extra keyed_digest p a)
+    → (policy checkpoint traffic : List ℕ) → resumption_due policy checkpoint traffic verdict files ≡ given (first (others (others files))) traffic (replayed further keyed_digest p a)
 
 -- ---- the first run
 

@@ -4,10 +4,10 @@ use Rattle.std.specs.declared.option.Option.{Option}
 use Rattle.std.specs.declared.option.Option.TheVariants.{Some, None}
 use Rattle.lnfs_outside.specs.Nets.{Deal, Back}
 use Rattle.lnfs_types.specs.declared.event.Moment.{Moment}
-use Rattle.lnfs_operations.specs.Extra.{no_extra}
 use Rattle.lnfs_gss3.specs.Mechanism.{keyed_digest}
 use Rattle.lnfs_stage.specs.declared.status.Status.{Status}
 use Rattle.lnfs_stage.specs.declared.status.Status.TheVariants as status
+use Rattle.lnfs_commands.specs.Further.{further}
 use Rattle.lnfs_commands.specs.Rules.{IsTaken}
 use Rattle.lnfs_service.specs.Session.{Session, FoundMemory, IsSession, IsRefused, IsShort, Nothing}
 
@@ -38,9 +38,9 @@ pub record Deals (d : Dealings) (Say : List Deal → List Back → Type 0) : Typ
 abbrev pub IsSpelled : (policy : Option (List ℕ)) → Type 0
 IsSpelled policy = IsTaken policy (λ rules. Unit {0})
 
--- a service under the policy that a text spells, with the operations of the table alone, in a server that was given no event
+-- a service under the policy that a text spells, in a server that was given no event
 abbrev pub IsService : (may : Moment → Type 0) (policy : Option (List ℕ)) → Session → (classes : List ℕ) → List Deal → List Back → Type 0
-IsService may policy session classes deals backs = IsTaken policy (λ rules. IsSession no_extra may keyed_digest rules [] session classes deals backs)
+IsService may policy session classes deals backs = IsTaken policy (λ rules. IsSession further may keyed_digest rules [] session classes deals backs)
 
 -- The links that were to be served, by what the service came to, if it began, and the status. The net is asked for links only where a service may begin.
 abbrev pub AreServed : (May : Type 0) (Is : Session → List ℕ → List Deal → List Back → Type 0) → Option Session → Status → (classes : List ℕ) → List Deal → List Back → Type 0

@@ -7,7 +7,7 @@ use Rattle.lnfs_types.specs.declared.event.Moment.{Moment}
 use Rattle.lnfs_outside.specs.Causes.{Rose}
 use Rattle.lnfs_policy.specs.Policy.{Policy}
 use Rattle.lnfs_policy.specs.PolicyText.{policy_of}
-use Rattle.lnfs_operations.specs.Extra.{Extra, no_extra}
+use Rattle.lnfs_operations.specs.Extra.{Extra}
 use Rattle.lnfs_gss3.specs.Mechanism.{Signing, keyed_digest}
 use Rattle.lnfs_traffic.specs.Texts.{recording_text}
 use Rattle.lnfs_stage.specs.declared.status.Status.{Status}
@@ -21,6 +21,7 @@ use Rattle.lnfs_stage.specs.Due.{Due, written, given}
 use Rattle.lnfs_stage.specs.Does.{DoesBy, Holds}
 use Rattle.lnfs_commands.specs.Commands.{judged}
 use Rattle.lnfs_commands.specs.Events.{audit_with, each_line}
+use Rattle.lnfs_commands.specs.Further.{further}
 use Rattle.lnfs_service.specs.Handed.{Dealings, Deals, IsSpelled, IsService, AreServed}
 use Rattle.lnfs_service.specs.Session.{Session, IsSession, link_lines}
 
@@ -29,9 +30,9 @@ abbrev pub served : (X : Extra) → Signing → Policy → (before : List Event)
 served X m policy before None = written []
 served X m policy before (Some session) = written (to_out (recording_text session.journal) ∷ map to_audit (each_line (audit_with X m policy) before session.journal ++ link_lines 0 session.ends))
 
--- under the policy of a name, with the operations of the table alone, in a server that was given no event
+-- under the policy of a name, in a server that was given no event
 abbrev pub service_due : (name : List ℕ) → (policy : Option (List ℕ)) → Option Session → Due
-service_due name policy session = given policy name (λ text. judged (policy_of text) (λ rules. served no_extra keyed_digest rules [] session))
+service_due name policy session = given policy name (λ text. judged (policy_of text) (λ rules. served further keyed_digest rules [] session))
 
 -- a count of 64 bits hasn't fallen
 abbrev pub Remains : ℕ → ℕ → Type 0

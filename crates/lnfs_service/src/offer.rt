@@ -1,25 +1,24 @@
 //! A run that serves links under the policy of a name.
 ghost use Rattle.std.specs.Prelude.{[]};
-ghost use Rattle.lnfs_operations.specs.Extra.{no_extra};
 ghost use Rattle.lnfs_stage.specs.Due.{told};
 ghost use Rattle.lnfs_stage.specs.Does.{HandedOn};
 ghost use Rattle.lnfs_stage.specs.Ending.{status_of};
+ghost use Rattle.lnfs_commands.specs.Further.{further};
 ghost use Rattle.lnfs_service.specs.Handed.{dealings};
 ghost use Rattle.lnfs_service.specs.Serves.{IsIdleBefore, Offers, Serves};
 
 use crate::service::{NewVault, serve};
-use lnfs_commands::{Service, Team, rules_of};
+use lnfs_commands::{Service, Team, new_server, rules_of};
 use lnfs_format::Codecs;
 use lnfs_gss3::{KeyedDigest, Mechanism};
 use lnfs_outside::{Clock, Net};
 use lnfs_policy::Policy;
 use lnfs_stage::{Outside, Stop, close, tell};
-use lnfs_vault::Vault;
 use std::alloc::Global;
 use std::sync::Wait;
 use std::thread::Threads;
 
-/// Serves the links of a team in a new server, with the operations of the table alone, whose callers sign by a mechanism.
+/// Serves the links of a team in a new server whose callers sign by a mechanism.
 fn serve_new<
     M: Mechanism + Send + Sync + Drop,
     O: Outside,
@@ -39,12 +38,12 @@ fn serve_new<
 ) -> Result<(), Stop>
 where
     N::L: Send,
-    ensures serves { Serves no_extra (C.may clock.now) M.signing policy [] team.now.links.items
+    ensures serves { Serves further (C.may clock.now) M.signing policy [] team.now.links.items
         result (O.seen outside.old) (O.seen outside.new) (N.faults net.old) (N.faults net.new)
         (dealings (N.dealt net.old) (N.dealt net.new) (N.backs net.old) (N.backs net.new)) }
     ensures idle { IsIdleBefore (status_of result) net.old net.new }
 {
-    let vault = Vault::new(alloc, policy, codecs, mechanism)?;
+    let vault = new_server(alloc, policy, codecs, mechanism)?;
     let new = NewVault { vault };
     serve(rt, alloc, codecs, new, team, outside, net, clock)
 }

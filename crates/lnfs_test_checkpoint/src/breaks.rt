@@ -1,10 +1,10 @@
 //! Servers that are broken off: what is served behind a checkpoint is what would have been served without it.
 use crate::codecs::codecs_of;
-use crate::recordings::{LIMITED, RICH, Recording};
-use crate::served::{
+use lnfs_format::Codecs;
+use lnfs_test_checkpoint_support::recordings::{LIMITED, RICH, Recording};
+use lnfs_test_checkpoint_support::served::{
     Given, checkpoint_after, checkpoint_of, events_of, new_server, resume, serve_all,
 };
-use lnfs_format::Codecs;
 use lnfs_test_support::flaw::{Flaw, demand, read_of};
 use lnfs_test_support::rows::frames_of;
 use lnfs_test_support::site::POLICY;

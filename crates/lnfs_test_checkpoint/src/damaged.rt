@@ -1,9 +1,9 @@
 //! Checkpoints with a byte that is another, that are cut, and that are of another policy.
 use crate::codecs::codecs_of;
-use crate::judged::comes_to;
-use crate::served::{checkpoint_after, events_of};
 use crate::small::{LaidOut, SMALL_EVENTS, SMALL_POLICY, small};
 use lnfs_format::Codecs;
+use lnfs_test_checkpoint_support::judged::comes_to;
+use lnfs_test_checkpoint_support::served::{checkpoint_after, events_of};
 use lnfs_test_support::flaw::{Flaw, demand, read_of};
 use lnfs_test_support::rows::{cells_of, counted_rows};
 use lnfs_test_support::site::POLICY;
@@ -33,13 +33,15 @@ last node | 76 79 | taken | taken
 last open | 80 83 | unfit | unfit
 last open | 84 86 | taken | taken
 last open | 87 87 | unfit | taken
-last lock | 88 95 | damaged 88 | damaged 88
+last lock | 88 91 | unfit | unfit
+last lock | 92 94 | taken | taken
+last lock | 95 95 | unfit | taken
 ";
 
 /// The client.
 const CLIENT: &str = "
 clients | 96 102 | damaged 396 | damaged 396
-clients | 103 103 | damaged 992 | damaged 396
+clients | 103 103 | damaged 1164 | damaged 396
 client: level | 104 107 | unfit | unfit
 client: number | 108 115 | unfit | unfit
 client: owner's length | 116 121 | damaged 124 | damaged 124
@@ -51,12 +53,12 @@ client: confirmed | 134 134 | unfit | damaged 134
 client: sequence | 135 138 | taken | taken
 client: kept | 139 139 | damaged 226 | damaged 139
 client: arguments' length | 140 145 | damaged 148 | damaged 148
-client: arguments' length | 146 146 | damaged 643 | damaged 148
+client: arguments' length | 146 146 | damaged 638 | damaged 148
 client: arguments' length | 147 147 | damaged 253 | damaged 519
 client: arguments | 148 243 | taken | taken
 client: reply's length | 244 249 | damaged 252 | damaged 252
 client: reply's length | 250 250 | damaged 690 | damaged 252
-client: reply's length | 251 251 | damaged 430 | damaged 643
+client: reply's length | 251 251 | damaged 430 | damaged 619
 client: reply | 252 351 | taken | taken
 client: reclaimed | 352 352 | taken | damaged 352
 client: seen | 353 353 | damaged 494 | damaged 353
@@ -65,8 +67,8 @@ client: seconds | 354 361 | taken | taken
 
 /// The session.
 const SESSION: &str = "
-sessions | 362 368 | damaged 825 | damaged 825
-sessions | 369 369 | damaged 398 | damaged 825
+sessions | 362 368 | damaged 921 | damaged 921
+sessions | 369 369 | damaged 398 | damaged 921
 session: level | 370 373 | unfit | unfit
 session: number | 374 381 | unfit | unfit
 session: client | 382 389 | unfit | unfit
@@ -79,98 +81,120 @@ session: cached | 400 401 | taken | taken
 session: operations | 402 404 | unfit | unfit
 session: operations | 405 405 | taken | unfit
 session: requests | 406 409 | unfit | unfit
-session: slots | 410 416 | damaged 690 | damaged 690
-session: slots | 417 417 | damaged 990 | damaged 690
+session: slots | 410 416 | damaged 786 | damaged 786
+session: slots | 417 417 | damaged 1170 | damaged 786
 session: slot's sequence | 418 421 | taken | taken
-session: kept | 422 422 | damaged 995 | damaged 422
+session: kept | 422 422 | damaged 1171 | damaged 422
 session: arguments' length | 423 428 | damaged 431 | damaged 431
-session: arguments' length | 429 429 | damaged 807 | damaged 431
-session: arguments' length | 430 430 | damaged 552 | damaged 708
-session: arguments | 431 542 | taken | taken
-session: reply's length | 543 548 | damaged 551 | damaged 551
-session: reply's length | 549 549 | damaged 995 | damaged 551
-session: reply's length | 550 550 | damaged 992 | damaged 991
-session: reply | 551 670 | taken | taken
+session: arguments' length | 429 429 | damaged 879 | damaged 431
+session: arguments' length | 430 430 | damaged 624 | damaged 526
+session: arguments | 431 614 | taken | taken
+session: reply's length | 615 620 | damaged 623 | damaged 623
+session: reply's length | 621 621 | damaged 1171 | damaged 623
+session: reply's length | 622 622 | damaged 1168 | damaged 667
+session: reply | 623 766 | taken | taken
 ";
 
 /// The context and the nodes.
 const NODES: &str = "
-contexts | 671 677 | damaged 991 | damaged 991
-contexts | 678 678 | damaged 723 | damaged 991
-context: level | 679 682 | unfit | unfit
-context: parent | 683 690 | unfit | unfit
-context: number | 691 698 | unfit | unfit
-nodes | 699 706 | damaged 891 | damaged 891
-root: level | 707 710 | unfit | unfit
-root: number | 711 718 | unfit | unfit
-root: kind | 719 722 | damaged 719 | damaged 719
-root: label | 723 726 | unfit | unfit
-root: stored | 727 727 | damaged 821 | damaged 727
-root: mode | 728 729 | unfit | unfit
-root: mode | 730 730 | taken | unfit
-root: mode | 731 731 | taken | taken
-root: content's length | 732 737 | damaged 740 | damaged 740
-root: content's length | 738 738 | damaged 996 | damaged 740
-root: content's length | 739 739 | damaged 806 | damaged 933
-root: change | 740 747 | taken | taken
-root: accessed | 748 755 | taken | taken
-root: nanoseconds | 756 759 | taken | taken
-root: metadata | 760 767 | taken | taken
-root: nanoseconds | 768 771 | taken | taken
-root: modified | 772 779 | taken | taken
-root: nanoseconds | 780 783 | taken | taken
-root: verifier | 784 784 | damaged 932 | damaged 784
-root: cookies | 785 792 | taken | taken
-file: level | 793 796 | unfit | unfit
-file: number | 797 804 | unfit | unfit
-file: kind | 805 808 | damaged 805 | damaged 805
-file: label | 809 812 | unfit | unfit
-file: stored | 813 813 | damaged 996 | damaged 813
-file: mode | 814 815 | unfit | unfit
-file: mode | 816 816 | taken | unfit
-file: mode | 817 817 | taken | taken
-file: content's length | 818 824 | damaged 826 | damaged 826
-file: content's length | 825 825 | damaged 916 | damaged 994
-file: change | 826 833 | taken | taken
-file: accessed | 834 841 | taken | taken
-file: nanoseconds | 842 845 | taken | taken
-file: metadata | 846 853 | taken | taken
-file: nanoseconds | 854 857 | taken | taken
-file: modified | 858 865 | taken | taken
-file: nanoseconds | 866 869 | taken | taken
-file: verifier | 870 870 | damaged 931 | damaged 870
-file: cookies | 871 878 | unfit | unfit
+contexts | 767 773 | damaged 1167 | damaged 1167
+contexts | 774 774 | damaged 819 | damaged 1167
+context: level | 775 778 | unfit | unfit
+context: parent | 779 786 | unfit | unfit
+context: number | 787 794 | unfit | unfit
+nodes | 795 802 | damaged 987 | damaged 987
+root: level | 803 806 | unfit | unfit
+root: number | 807 814 | unfit | unfit
+root: kind | 815 818 | damaged 815 | damaged 815
+root: label | 819 822 | unfit | unfit
+root: stored | 823 823 | damaged 917 | damaged 823
+root: mode | 824 825 | unfit | unfit
+root: mode | 826 826 | taken | unfit
+root: mode | 827 827 | taken | taken
+root: content's length | 828 833 | damaged 836 | damaged 836
+root: content's length | 834 834 | damaged 1157 | damaged 836
+root: content's length | 835 835 | damaged 902 | damaged 1029
+root: change | 836 843 | taken | taken
+root: accessed | 844 851 | taken | taken
+root: nanoseconds | 852 855 | taken | taken
+root: metadata | 856 863 | taken | taken
+root: nanoseconds | 864 867 | taken | taken
+root: modified | 868 875 | taken | taken
+root: nanoseconds | 876 879 | taken | taken
+root: verifier | 880 880 | damaged 1028 | damaged 880
+root: cookies | 881 888 | taken | taken
+file: level | 889 892 | unfit | unfit
+file: number | 893 900 | unfit | unfit
+file: kind | 901 904 | damaged 901 | damaged 901
+file: label | 905 908 | unfit | unfit
+file: stored | 909 909 | damaged 1128 | damaged 909
+file: mode | 910 911 | unfit | unfit
+file: mode | 912 912 | taken | unfit
+file: mode | 913 913 | taken | taken
+file: content's length | 914 920 | damaged 922 | damaged 922
+file: content's length | 921 921 | damaged 1012 | damaged 1171
+file: change | 922 929 | taken | taken
+file: accessed | 930 937 | taken | taken
+file: nanoseconds | 938 941 | taken | taken
+file: metadata | 942 949 | taken | taken
+file: nanoseconds | 950 953 | taken | taken
+file: modified | 954 961 | taken | taken
+file: nanoseconds | 962 965 | taken | taken
+file: verifier | 966 966 | damaged 1027 | damaged 966
+file: cookies | 967 974 | unfit | unfit
 ";
 
-/// The entry, the open, and the locks.
+/// The entry and the open.
 const NAMES: &str = "
-entries | 879 885 | damaged 997 | damaged 997
-entries | 886 886 | damaged 895 | damaged 997
-entry: directory's level | 887 890 | unfit | unfit
-entry: directory | 891 898 | unfit | unfit
-entry: cookie | 899 906 | unfit | unfit
-entry: name's length | 907 913 | damaged 915 | damaged 915
-entry: name's length | 914 914 | damaged 963 | damaged 915
-entry: name | 915 915 | taken | unfit
-entry: node's level | 916 919 | unfit | unfit
-entry: node | 920 927 | unfit | unfit
-opens | 928 934 | damaged 993 | damaged 993
-opens | 935 935 | damaged 944 | damaged 993
-open: level | 936 939 | unfit | unfit
-open: number | 940 947 | unfit | unfit
-open: client | 948 955 | unfit | unfit
-open: owner's length | 956 962 | damaged 964 | damaged 964
-open: owner's length | 963 963 | damaged 988 | damaged 964
-open: owner | 964 964 | taken | taken
-open: node's level | 965 968 | unfit | unfit
-open: node | 969 976 | unfit | unfit
-open: access | 977 979 | unfit | unfit
-open: access | 980 980 | taken | unfit
-open: deny | 981 983 | unfit | unfit
-open: deny | 984 984 | taken | unfit
-open: sequence | 985 987 | taken | taken
-open: sequence | 988 988 | unfit | taken
-locks | 989 996 | damaged 989 | damaged 989
+entries | 975 981 | damaged 1134 | damaged 1134
+entries | 982 982 | damaged 1035 | damaged 1134
+entry: directory's level | 983 986 | unfit | unfit
+entry: directory | 987 994 | unfit | unfit
+entry: cookie | 995 1002 | unfit | unfit
+entry: name's length | 1003 1009 | damaged 1011 | damaged 1011
+entry: name's length | 1010 1010 | damaged 1059 | damaged 1164
+entry: name | 1011 1011 | taken | unfit
+entry: node's level | 1012 1015 | unfit | unfit
+entry: node | 1016 1023 | unfit | unfit
+opens | 1024 1030 | damaged 1170 | damaged 1170
+opens | 1031 1031 | damaged 1040 | damaged 1170
+open: level | 1032 1035 | unfit | unfit
+open: number | 1036 1043 | unfit | unfit
+open: client | 1044 1051 | unfit | unfit
+open: owner's length | 1052 1058 | damaged 1060 | damaged 1060
+open: owner's length | 1059 1059 | damaged 1128 | damaged 1060
+open: owner | 1060 1060 | taken | taken
+open: node's level | 1061 1064 | unfit | unfit
+open: node | 1065 1072 | unfit | unfit
+open: access | 1073 1075 | unfit | unfit
+open: access | 1076 1076 | taken | unfit
+open: deny | 1077 1079 | unfit | unfit
+open: deny | 1080 1080 | taken | unfit
+open: sequence | 1081 1083 | taken | taken
+open: sequence | 1084 1084 | unfit | taken
+";
+
+/// The lock, which is for write and has one range.
+const LOCKS: &str = "
+locks | 1085 1091 | damaged 1171 | damaged 1171
+locks | 1092 1092 | damaged 1093 | damaged 1171
+lock: level | 1093 1096 | unfit | unfit
+lock: number | 1097 1104 | unfit | unfit
+lock: client | 1105 1112 | unfit | unfit
+lock: open | 1113 1120 | unfit | unfit
+lock: owner's length | 1121 1127 | damaged 1129 | damaged 1129
+lock: owner's length | 1128 1128 | damaged 1169 | damaged 1129
+lock: owner | 1129 1129 | taken | taken
+lock: node's level | 1130 1133 | unfit | unfit
+lock: node | 1134 1141 | unfit | unfit
+lock: sequence | 1142 1144 | taken | taken
+lock: sequence | 1145 1145 | unfit | taken
+lock: ranges | 1146 1152 | damaged 1171 | damaged 1171
+lock: ranges | 1153 1153 | damaged 1154 | damaged 1171
+range: first | 1154 1160 | unfit | unfit
+range: first | 1161 1161 | taken | unfit
+range: last | 1162 1169 | taken | taken
+range: write | 1170 1170 | taken | damaged 1170
 ";
 
 /// The lowest bit of a byte, and the highest.
@@ -246,7 +270,7 @@ fn check_bytes(
 
 #[test]
 fn each_byte_of_the_head(rt: HostRuntime) -> Result<(), Flaw> {
-    check_bytes(rt.alloc(), (0, 96), HEAD, 19)
+    check_bytes(rt.alloc(), (0, 96), HEAD, 21)
 }
 
 #[test]
@@ -256,21 +280,26 @@ fn each_byte_of_the_client(rt: HostRuntime) -> Result<(), Flaw> {
 
 #[test]
 fn each_byte_of_the_session(rt: HostRuntime) -> Result<(), Flaw> {
-    check_bytes(rt.alloc(), (362, 671), SESSION, 26)
+    check_bytes(rt.alloc(), (362, 767), SESSION, 26)
 }
 
 #[test]
 fn each_byte_of_nodes(rt: HostRuntime) -> Result<(), Flaw> {
-    check_bytes(rt.alloc(), (671, 879), NODES, 45)
+    check_bytes(rt.alloc(), (767, 975), NODES, 45)
 }
 
 #[test]
 fn each_byte_of_names(rt: HostRuntime) -> Result<(), Flaw> {
-    check_bytes(rt.alloc(), (879, SMALL_SIZE), NAMES, 27)
+    check_bytes(rt.alloc(), (975, 1085), NAMES, 26)
+}
+
+#[test]
+fn each_byte_of_locks(rt: HostRuntime) -> Result<(), Flaw> {
+    check_bytes(rt.alloc(), (1085, SMALL_SIZE), LOCKS, 19)
 }
 
 /// The bytes of the small checkpoint.
-const SMALL_SIZE: usize = 997;
+const SMALL_SIZE: usize = 1171;
 
 /// A server's checkpoint is what was laid out by hand, and is taken.
 #[test]
@@ -353,7 +382,7 @@ fn bytes_behind_the_end(rt: HostRuntime) -> Result<(), Flaw> {
         &codecs,
         SMALL_POLICY,
         &bytes,
-        "damaged 997",
+        "damaged 1171",
         "a byte behind the end",
     )
 }

@@ -1,8 +1,6 @@
-//! Checkpoints: what is served behind one, and what isn't taken as one.
+//! Checkpoints: what is served behind one, and what damage of one is told.
 #![tactic(auto)]
 
-#[cfg(test)]
-mod arranged;
 #[cfg(test)]
 mod breaks;
 #[cfg(test)]
@@ -10,26 +8,4 @@ mod codecs;
 #[cfg(test)]
 mod damaged;
 #[cfg(test)]
-mod edited;
-#[cfg(test)]
-mod edits;
-#[cfg(test)]
-mod elsewhere;
-#[cfg(test)]
-mod facts;
-#[cfg(test)]
-mod files;
-#[cfg(test)]
-mod judged;
-#[cfg(test)]
-mod people;
-#[cfg(test)]
-mod recordings;
-#[cfg(test)]
-mod served;
-#[cfg(test)]
-mod site;
-#[cfg(test)]
 mod small;
-#[cfg(test)]
-mod words;

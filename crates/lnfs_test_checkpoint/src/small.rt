@@ -12,12 +12,13 @@ parent 7 0101010101010101010101010101010101010101010101010101010101010101 0
 guest 0 * 0
 ";
 
-/// A client, its session of one slot, a context, and a file that is made and stays open.
+/// A client, its session of one slot, a context, and a file that is made, stays open, and is locked by LOCK, which is 12: its
+/// first 10 bytes, for write.
 pub const SMALL_EVENTS: &str = "\
 CALL SYS EXCHANGE 'c1' REST / \
-CALL SYS CREATE 0 1 1 0 0 2048 2048 2048 3 1 0 CHANNEL 0 0 / \
+CALL SYS CREATE 0 1 1 0 0 2048 2048 2048 4 1 0 CHANNEL 0 0 / \
 CREATE_7 40 9 ASSERT_0 CHECKSUM 40 ZEROS / \
-@0.101 CALL SYS 0 2 3 SEQUENCE 1 0 0 1 24 MAKE_F";
+@0.101 CALL SYS 0 2 4 SEQUENCE 1 0 0 1 24 MAKE_F 12 2 0 0 0 0 10 1 0 ID_1 0 0 1 1 'a' 0x000000";
 
 /// In each table the items of the checkpoint after these events, in order: a name, and the words of the item.
 ///
@@ -31,7 +32,7 @@ last session | 0 1
 last context | 0 1
 last node | 0 2
 last open | 0 1
-last lock | 0 0
+last lock | 0 1
 ";
 
 /// The client. It is kept what CREATE_SESSION brought and got.
@@ -46,15 +47,15 @@ client: confirmed | 0x01
 client: sequence | 2
 client: kept | 0x01
 client: arguments' length | 0 96
-client: arguments | 0 2 1 43 0 1 1 0 0 2048 2048 2048 3 1 0 CHANNEL 0 0
+client: arguments | 0 2 1 43 0 1 1 0 0 2048 2048 2048 4 1 0 CHANNEL 0 0
 client: reply's length | 0 100
-client: reply | 0 0 1 43 0 0 0 1 0 1 0 0 2048 2048 2048 3 1 0 CHANNEL
+client: reply | 0 0 1 43 0 0 0 1 0 1 0 0 2048 2048 2048 4 1 0 CHANNEL
 client: reclaimed | 0x00
 client: seen | 0x01
 client: seconds | 0 101
 ";
 
-/// The session. Its slot keeps the COMPOUND that made the file, and its result.
+/// The session. Its slot keeps the COMPOUND that made and locked the file, and its result.
 const SESSION_ITEMS: &str = "
 sessions | 0 1
 session: level | 0
@@ -63,15 +64,15 @@ session: client | 0 1
 session: request | 2048
 session: response | 2048
 session: cached | 2048
-session: operations | 3
+session: operations | 4
 session: requests | 1
 session: slots | 0 1
 session: slot's sequence | 1
 session: kept | 0x01
-session: arguments' length | 0 112
-session: arguments | 0 2 3 53 0 0 1 0 1 0 0 1 24 MAKE_F
-session: reply's length | 0 120
-session: reply | 0 0 3 53 0 0 0 1 0 1 0 0 0 0 24 0 MADE_F
+session: arguments' length | 0 184
+session: arguments | 0 2 4 53 0 0 1 0 1 0 0 1 24 MAKE_F 12 2 0 0 0 0 10 1 0 ID_1 0 0 1 1 'a' 0x000000
+session: reply's length | 0 144
+session: reply | 0 0 4 53 0 0 0 1 0 1 0 0 0 0 24 0 MADE_F 12 0 1 0 1 1
 ";
 
 /// The context, the root, and the file.
@@ -115,7 +116,7 @@ file: verifier | 0x00
 file: cookies | 0 3
 ";
 
-/// The file's name and its open. There is no lock.
+/// The file's name and its open.
 const NAME_ITEMS: &str = "
 entries | 0 1
 entry: directory's level | 0
@@ -136,7 +137,24 @@ open: node | 0 2
 open: access | 3
 open: deny | 0
 open: sequence | 1
-locks | 0 0
+";
+
+/// The lock.
+const LOCK_ITEMS: &str = "
+locks | 0 1
+lock: level | 0
+lock: number | 0 1
+lock: client | 0 1
+lock: open | 0 1
+lock: owner's length | 0 1
+lock: owner | 'a'
+lock: node's level | 0
+lock: node | 0 2
+lock: sequence | 1
+lock: ranges | 0 1
+range: first | 0 0
+range: last | 0 9
+range: write | 0x01
 ";
 
 /// Bytes that are laid out item by item, and where each item begins.
@@ -178,6 +196,7 @@ pub fn small(alloc: Global) -> Result<LaidOut, Flaw> {
     put_items(alloc, CLIENT_ITEMS, 16, &mut laid)?;
     put_items(alloc, SESSION_ITEMS, 16, &mut laid)?;
     put_items(alloc, NODE_ITEMS, 37, &mut laid)?;
-    put_items(alloc, NAME_ITEMS, 20, &mut laid)?;
+    put_items(alloc, NAME_ITEMS, 19, &mut laid)?;
+    put_items(alloc, LOCK_ITEMS, 14, &mut laid)?;
     Ok(laid)
 }

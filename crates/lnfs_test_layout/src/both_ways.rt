@@ -1,24 +1,27 @@
 //! What is written, and what is read of it.
 use crate::compare::same;
 use crate::items::{EMPTY, EVENTS, SITE, STATE, Site, bytes_of};
-use crate::rows::{lists, no_rows};
+use crate::locks::{LOCK, columns_of};
+use crate::rows::{lists, locks, no_locks, no_rows};
 use lnfs_content::Content;
 use lnfs_layout::{Laid, read_layout, write_layout};
+use lnfs_lock_rows::LockRows;
 use lnfs_rows::{ClientRow, Data, Kind, Lists, NodeRow};
 use lnfs_types::Moment;
 use std::alloc::{AllocError, Global};
 use std::process::Abort;
 
-/// Compares what is written of lists with the items that are due.
+/// Compares what is written of lists and of locks with the items that are due.
 fn is_written(
     rt: &impl Abort,
     alloc: Global,
     site: &Site,
     events: u64,
     lists: &Lists<'_>,
+    locks: &LockRows<'_>,
     due: &str,
 ) -> Result<(), AllocError> {
-    let came = write_layout(alloc, site.levels, &site.digest, events, lists)?;
+    let came = write_layout(alloc, site.levels, &site.digest, events, lists, locks)?;
     let due = bytes_of(rt, alloc, due)?;
     same(rt, came.as_slice(), due.as_slice());
     Ok(())
@@ -28,13 +31,15 @@ fn is_written(
 fn a_row_of_each_kind(rt: HostRuntime) -> Result<(), AllocError> {
     let alloc = rt.alloc();
     let rows = lists(alloc, Data::Bytes(b"def"))?;
-    is_written(&rt, alloc, &SITE, EVENTS, &rows, STATE)
+    let own = locks(alloc)?;
+    is_written(&rt, alloc, &SITE, EVENTS, &rows, &own, STATE)
 }
 
 /// Compares what is written of a file's data.
 fn data_is_written(rt: &impl Abort, alloc: Global, content: &Content) -> Result<(), AllocError> {
     let rows = lists(alloc, Data::File(content))?;
-    is_written(rt, alloc, &SITE, EVENTS, &rows, STATE)
+    let own = locks(alloc)?;
+    is_written(rt, alloc, &SITE, EVENTS, &rows, &own, STATE)
 }
 
 #[test]
@@ -49,7 +54,8 @@ fn data_of_a_file(rt: HostRuntime) -> Result<(), AllocError> {
 fn an_empty_world(rt: HostRuntime) -> Result<(), AllocError> {
     let alloc = rt.alloc();
     let rows = no_rows(alloc)?;
-    is_written(&rt, alloc, &SITE, 0, &rows, EMPTY)
+    let own = no_locks(alloc);
+    is_written(&rt, alloc, &SITE, 0, &rows, &own, EMPTY)
 }
 
 fn same_clients(rt: &impl Abort, rows: &[ClientRow<'_>]) {
@@ -78,10 +84,12 @@ fn is_the_state(rt: &impl Abort, laid: &Laid<'_>) {
     same_clients(rt, &laid.lists.clients);
     same_nodes(rt, &laid.lists.nodes);
     same(rt, laid.lists.lasts.nodes.as_slice(), [1, 6].as_slice());
+    same(rt, laid.locks.lasts.as_slice(), [0, 8].as_slice());
+    same(rt, columns_of(rt, &laid.locks.locks), LOCK);
 }
 
 /// What is read of bytes in the layout.
-fn read<'a>(rt: &impl Abort, alloc: Global, site: &Site, bytes: &'a [u8]) -> Laid<'a> {
+pub(crate) fn read<'a>(rt: &impl Abort, alloc: Global, site: &Site, bytes: &'a [u8]) -> Laid<'a> {
     match read_layout(alloc, site.levels, &site.digest, bytes) {
         Ok(laid) => laid,
         Err(_) => panic!(rt; "refused"),
@@ -95,7 +103,15 @@ fn a_state_is_read(rt: HostRuntime) -> Result<(), AllocError> {
     let bytes = bytes_of(&rt, alloc, STATE)?;
     let laid = read(&rt, alloc, &SITE, &bytes);
     is_the_state(&rt, &laid);
-    is_written(&rt, alloc, &SITE, laid.events, &laid.lists, STATE)
+    is_written(
+        &rt,
+        alloc,
+        &SITE,
+        laid.events,
+        &laid.lists,
+        &laid.locks,
+        STATE,
+    )
 }
 
 #[test]
@@ -103,5 +119,13 @@ fn nothing_is_read_again(rt: HostRuntime) -> Result<(), AllocError> {
     let alloc = rt.alloc();
     let bytes = bytes_of(&rt, alloc, EMPTY)?;
     let laid = read(&rt, alloc, &SITE, &bytes);
-    is_written(&rt, alloc, &SITE, laid.events, &laid.lists, EMPTY)
+    is_written(
+        &rt,
+        alloc,
+        &SITE,
+        laid.events,
+        &laid.lists,
+        &laid.locks,
+        EMPTY,
+    )
 }

@@ -1,6 +1,6 @@
 //! What is refused, and at which byte.
 use crate::compare::same;
-use crate::items::{SITE, STATE, Site, begins, bytes_of};
+use crate::items::{SITE, STATE, Site, begins, bytes_of, put};
 use lnfs_layout::{LayoutError, read_layout};
 use std::alloc::{AllocError, Global};
 use std::process::Abort;
@@ -48,13 +48,6 @@ fn each_cut(rt: HostRuntime) -> Result<(), AllocError> {
     Ok(())
 }
 
-fn put(rt: &impl Abort, bytes: &mut [u8], offset: usize, byte: u8) {
-    match bytes.get_mut(offset) {
-        Some(there) => *there = byte,
-        None => panic!(rt; "no byte"),
-    }
-}
-
 /// Compares the refusal of the state with another byte at an offset, by which an item isn't one.
 fn damaged(
     rt: &impl Abort,
@@ -76,12 +69,25 @@ fn items_that_are_none(rt: HostRuntime) -> Result<(), AllocError> {
     damaged(&rt, alloc, 7, b'2', 0)?;
     // 2 ^ 62 + 5 events.
     damaged(&rt, alloc, 40, 64, 40)?;
-    // A lock of level 0.
-    damaged(&rt, alloc, 95, 1, 88)?;
     // The client's flag that it is confirmed is 2.
     damaged(&rt, alloc, 182, 2, 182)?;
     // The node's kind is 3.
     damaged(&rt, alloc, 351, 3, 348)
+}
+
+#[test]
+fn items_that_are_none_of_locks(rt: HostRuntime) -> Result<(), AllocError> {
+    let alloc = rt.alloc();
+    // The flag of the first range is 2.
+    damaged(&rt, alloc, 645, 2, 645)?;
+    // One range, and the second follows.
+    damaged(&rt, alloc, 628, 1, 646)?;
+    // A third range that isn't there.
+    damaged(&rt, alloc, 628, 3, 663)?;
+    // No lock, and one follows.
+    damaged(&rt, alloc, 567, 0, 568)?;
+    // A second lock that isn't there.
+    damaged(&rt, alloc, 567, 2, 663)
 }
 
 /// Compares the refusal of a state that is cut.

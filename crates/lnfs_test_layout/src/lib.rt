@@ -10,4 +10,6 @@ mod damaged;
 #[cfg(test)]
 mod items;
 #[cfg(test)]
+mod locks;
+#[cfg(test)]
 mod rows;

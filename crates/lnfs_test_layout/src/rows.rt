@@ -1,4 +1,6 @@
 //! The rows of the states, as values.
+use lnfs_lock_rows::{LockRow, LockRows};
+use lnfs_ranges::LockRange;
 use lnfs_rows::{
     Channel, ClientRow, ContextRow, Data, EntryRow, Id, Kept, Kind, Lasts, Lists, NodeRow, OpenRow,
     SessionRow, SlotRow, StoredRow,
@@ -187,4 +189,55 @@ pub(crate) fn no_rows(alloc: Global) -> Result<Lists<'static>, AllocError> {
             opens: Vec::new(alloc),
         },
     })
+}
+
+fn ranges(alloc: Global) -> Result<Vec<LockRange>, AllocError> {
+    let mut ranges = one(
+        alloc,
+        LockRange {
+            first: 16,
+            last: 31,
+            write: true,
+        },
+    )?;
+    ranges.push(LockRange {
+        first: 32,
+        last: u64::MAX,
+        write: false,
+    })?;
+    Ok(ranges)
+}
+
+fn lock(alloc: Global) -> Result<LockRow<'static>, AllocError> {
+    Ok(LockRow {
+        id: Id {
+            level: 1,
+            number: 8,
+        },
+        client: 2,
+        opening: 7,
+        owner: b"p",
+        node: Id {
+            level: 1,
+            number: 6,
+        },
+        sequence: 5,
+        ranges: ranges(alloc)?,
+    })
+}
+
+/// A lock of two ranges.
+pub(crate) fn locks(alloc: Global) -> Result<LockRows<'static>, AllocError> {
+    Ok(LockRows {
+        locks: one(alloc, lock(alloc)?)?,
+        lasts: two(alloc, 0, 8)?,
+    })
+}
+
+/// No lock. A level without a number gave none.
+pub(crate) fn no_locks(alloc: Global) -> LockRows<'static> {
+    LockRows {
+        locks: Vec::new(alloc),
+        lasts: Vec::new(alloc),
+    }
 }

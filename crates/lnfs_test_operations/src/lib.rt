@@ -10,6 +10,8 @@ mod leases;
 #[cfg(test)]
 mod limited;
 #[cfg(test)]
+mod locks;
+#[cfg(test)]
 mod pieces;
 #[cfg(test)]
 mod quotas;

@@ -70,17 +70,23 @@ ONE 18 0 1 0 BY_O PLAIN 0 1 'i' 0x000000 | \
 ";
 
 /// Adds a file of level 1 that gets all bytes of its quota at once and no more, and an open of a name of 256 bytes.
-fn whole_quota(alloc: Global, story: &mut Story) -> Result<(), AllocError> {
+fn whole_quota(alloc: Global, story: &mut Story) -> Result<(), Flaw> {
     let bytes = "61".repeat(alloc, 4_096)?;
     let name = "61".repeat(alloc, 256)?;
     story.open(1)?;
-    story.put(&format!(in alloc;
-        "1 1 100 | ONE 18 0 3 0 BY_O PLAIN CALLED_F 38 1 1 0 1 0 0 2 4096 0x{bytes} 38 1 1 0 1 0 4096 2 1 'a' 0x000000 | \
+    story.put(
+        alloc,
+        &format!(in alloc;
+            "1 1 100 | ONE 18 0 3 0 BY_O PLAIN CALLED_F 38 1 1 0 1 0 0 2 4096 0x{bytes} 38 1 1 0 1 0 4096 2 1 'a' 0x000000 | \
 69 5 22 0 18 0 1 1 0 1 1 0 1 0 2 0 0 0 38 0 4096 2 0 0 38 69 | 5 38 Q 69"
-    )?)?;
-    story.put(&format!(in alloc;
-        "1 2 100 | 18 0 1 0 BY_O PLAIN 0 256 0x{name} | 63 2 18 63 | 2 18 A 63"
-    )?)?;
+        )?,
+    )?;
+    story.put(
+        alloc,
+        &format!(in alloc;
+            "1 2 100 | 18 0 1 0 BY_O PLAIN 0 256 0x{name} | 63 2 18 63 | 2 18 A 63"
+        )?,
+    )?;
     Ok(())
 }
 

@@ -213,12 +213,7 @@ fn share(bits: usize, others: usize) -> bool {
 
 /// Adds an open of a new file by one owner, and one by another, which is refused where either denies what the other is
 /// for; and gives the number of the last open. The pairs are told by their place.
-fn put_pair(
-    alloc: Global,
-    story: &mut Story,
-    place: usize,
-    last: usize,
-) -> Result<usize, AllocError> {
+fn put_pair(alloc: Global, story: &mut Story, place: usize, last: usize) -> Result<usize, Flaw> {
     let (access, deny) = (1 + place / 48 % 3, place / 12 % 4);
     let (other_access, other_deny) = (1 + place / 4 % 3, place % 4);
     let (sequence, name) = (place.saturating_add(1), place.saturating_add(1_000));
@@ -239,19 +234,14 @@ fn put_pair(
         "0 {sequence} 100 | 24 18 0 {access} {deny} BY_O PLAIN 0 4 '{name}' 18 0 {other_access} {other_deny} BY_P 0 4 | \
 {status} 4 24 0 18 0 1 0 0 {first} 1 0 {sequence} 0 {after} 0 0 0 {told}{line}"
     )?;
-    story.put(&text)?;
+    story.put(alloc, &text)?;
     Ok(if refused { first } else { second })
 }
 
 /// Adds a file of level 0 that level 3 has open for reading, an open of level 0 as its place tells, which that of level
 /// 3 never refuses, and another of level 3, which is refused where level 0 denies reading; and gives the number of the
 /// last open of level 3.
-fn put_levels(
-    alloc: Global,
-    story: &mut Story,
-    place: usize,
-    last: usize,
-) -> Result<usize, AllocError> {
+fn put_levels(alloc: Global, story: &mut Story, place: usize, last: usize) -> Result<usize, Flaw> {
     let (access, deny) = (1 + place / 4 % 3, place % 4);
     let (before, name) = (place.saturating_add(1), place.saturating_add(1_000));
     let after = place.saturating_add(2);
@@ -268,20 +258,32 @@ fn put_levels(
     } else {
         ("0", format!(in alloc; "18 0 1 3 0 {second} HELD")?, "")
     };
-    story.put(&format!(in alloc;
-        "0 {odd} 100 | 24 18 0 1 0 BY_O PLAIN 0 4 '{name}' 4 0 1 0 0 {odd} | \
+    story.put(
+        alloc,
+        &format!(in alloc;
+            "0 {odd} 100 | 24 18 0 1 0 BY_O PLAIN 0 4 '{name}' 4 0 1 0 0 {odd} | \
 0 4 24 0 18 0 1 0 0 {odd} 1 0 {before} 0 {after} 0 0 0 4 0 CLOSED"
-    )?)?;
-    story.put(&format!(in alloc;
-        "3 {odd} 100 | 24 18 0 1 0 BY_O 0 0 4 '{name}' | 0 3 24 0 18 0 1 3 0 {first} 1 0 {after} 0 {after} 0 0 0"
-    )?)?;
-    story.put(&format!(in alloc;
-        "0 {even} 100 | 24 18 0 {access} {deny} BY_P 0 0 4 '{name}' | \
+        )?,
+    )?;
+    story.put(
+        alloc,
+        &format!(in alloc;
+            "3 {odd} 100 | 24 18 0 1 0 BY_O 0 0 4 '{name}' | 0 3 24 0 18 0 1 3 0 {first} 1 0 {after} 0 {after} 0 0 0"
+        )?,
+    )?;
+    story.put(
+        alloc,
+        &format!(in alloc;
+            "0 {even} 100 | 24 18 0 {access} {deny} BY_P 0 0 4 '{name}' | \
 0 3 24 0 18 0 1 0 0 {even} 1 0 {after} 0 {after} 0 0 0"
-    )?)?;
-    story.put(&format!(in alloc;
-        "3 {even} 100 | 24 15 4 '{name}' 18 0 1 0 BY_P 0 4 | {status} 4 24 0 15 0 {told}{line}"
-    )?)?;
+        )?,
+    )?;
+    story.put(
+        alloc,
+        &format!(in alloc;
+            "3 {even} 100 | 24 15 4 '{name}' 18 0 1 0 BY_P 0 4 | {status} 4 24 0 15 0 {told}{line}"
+        )?,
+    )?;
     Ok(if refused { first } else { second })
 }
 

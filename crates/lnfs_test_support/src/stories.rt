@@ -78,16 +78,30 @@ impl Story {
             self.replies,
             "ACCEPTED 0 {status} 0 {count} SEQUENCED_{level} {sequence} 0 SLOTS {results}"
         )?;
+        self.put_line(line)?;
+        Ok(Some(()))
+    }
+
+    /// Adds the line of the event that was added last, where it has one.
+    fn put_line(&mut self, line: &str) -> Result<(), AllocError> {
         if !line.is_empty() {
             let event = self.count;
             write!(self.lines, " | {event} {line}")?;
         }
-        Ok(Some(()))
+        Ok(())
+    }
+
+    /// Adds an event in words, the reply to it, and the line without the event's place, which is empty where there is none.
+    pub fn tell(&mut self, event: &str, reply: &str, line: &str) -> Result<(), AllocError> {
+        self.begin(1)?;
+        self.events.push_str(event)?;
+        self.replies.push_str(reply)?;
+        self.put_line(line)
     }
 
     /// Adds what a line tells, where it can be read: a level, whose client and session begin here, or the cells of a
-    /// request, `LEVEL SEQUENCE SECONDS | OPERATIONS | STATUS COUNT RESULTS | LINE`, the last of which may be left out.
-    pub fn put(&mut self, line: &str) -> Result<Option<()>, AllocError> {
+    /// request.
+    fn read(&mut self, line: &str) -> Result<Option<()>, AllocError> {
         let Some((who, behind)) = line.split_once(" | ") else {
             let Ok(level) = line.parse::<usize>() else {
                 return Ok(None);
@@ -102,6 +116,16 @@ impl Story {
             Some((due, line)) => self.request(who, operations, due, line),
             None => self.request(who, operations, due, ""),
         }
+    }
+
+    /// Adds what a line tells: a level, whose client and session begin here, or the cells of a request,
+    /// `LEVEL SEQUENCE SECONDS | OPERATIONS | STATUS COUNT RESULTS | LINE`, the last of which may be left out.
+    ///
+    /// # Errors
+    ///
+    /// A flaw where the line can't be read.
+    pub fn put(&mut self, alloc: Global, line: &str) -> Result<(), Flaw> {
+        read_of(alloc, self.read(line)?, line)
     }
 
     /// Plays it, and compares what that gives with what is due.
@@ -122,7 +146,7 @@ impl Story {
 fn check_story(rt: &impl Runtime, alloc: Global, name: &str, lines: &str) -> Result<(), Flaw> {
     let mut story = Story::new(alloc);
     for line in &rows_of(alloc, lines)? {
-        read_of(alloc, story.put(line)?, line)?;
+        story.put(alloc, line)?;
     }
     story.check(rt, alloc, name)
 }

@@ -10,4 +10,4 @@ returns-clause-verdict c = λ p a again v. verdict_is c.one_verdict.ensures p a 
 
 pub returns-clause-resumed : goal.returns-clause-resumed
 returns-clause-resumed c = λ p text spelled a again files ending verdict judged some is_text is_bytes policy checkpoint traffic.
-    joined_is c.one_verdict.ensures p (λ journal event. c.purge.ensures.replies p (preordered p) journal event) a again files ending verdict judged some text is_text spelled is_bytes policy checkpoint traffic
+    joined_is c.one_verdict.ensures p (λ journal event. c.purge.ensures.replies p (preordered p) journal event) a (c.purge.ensures.facts p (preordered p) a) again files ending verdict judged some text is_text spelled is_bytes policy checkpoint traffic

@@ -1,5 +1,4 @@
-use Rattle.std.proofs.Common.{rules, List, [], ap}
-use Rattle.lnfs_types.specs.declared.event.Event.{Event}
+use Rattle.std.proofs.Common.{rules, ap}
 use Rattle.lnfs_vault.specs.Kept.{Kept}
 use Rattle.lnfs_stage.proofs.Doing.{does_short}
 use Rattle.lnfs_commands.proofs.perform.serve_generated.Goals as goal

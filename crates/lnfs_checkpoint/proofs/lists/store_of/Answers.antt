@@ -1,7 +1,0 @@
-use Rattle.std.proofs.Common.{length, ap, arith}
-use Rattle.lnfs_rows.specs.World.{world_of}
-use Rattle.lnfs_checkpoint.proofs.Making.{can_be_made}
-use Rattle.lnfs_checkpoint.proofs.lists.store_of.Goals as goal
-
-pub made_of-requires : goal.made_of-requires
-made_of-requires c = can_be_made c.args.policy.now c.law_policy.ensures (omega (arith, c.len-levels.ensures.value, c.len-levels.ensures.few, ap length c.lattice.ensures)) (world_of c.args.lists.now) c.requires

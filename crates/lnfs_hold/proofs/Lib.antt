@@ -1,2 +1,0 @@
-pub mod HoldLaws
-pub mod Carried

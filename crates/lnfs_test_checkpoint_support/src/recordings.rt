@@ -1,0 +1,140 @@
+//! Recordings, with the replies and the lines that are due. All is laid out by hand, in words.
+//!
+//! Of the operations' numbers, 6 is CREATE, 9 GETATTR, 10 GETFH, 12 LOCK, 13 LOCKT, 14 LOCKU, 15 LOOKUP, 18 OPEN, 22 PUTFH, 24
+//! PUTROOTFH, 25 READ, 26 READDIR, 27 READLINK, 28 REMOVE, 31 RESTOREFH, 32 SAVEFH, 34 SETATTR, 38 WRITE, 53 SEQUENCE and 58
+//! RECLAIM_COMPLETE.
+
+/// A policy, what is recorded under it, the replies, and the lines.
+#[derive(Clone, Copy)]
+pub struct Recording {
+    pub name: &'static str,
+    pub policy: &'static str,
+    pub events: &'static str,
+    pub replies: &'static str,
+    /// The lines, with bars between.
+    pub lines: &'static str,
+}
+
+/// The policy of all trials, with labels that are carried alone.
+pub const LIMITED_POLICY: &str = "lnfs-policy 1
+mode limited
+level 0 1 0 -
+level 1 1 1 c0
+level 2 1 1 c1
+level 3 1 3 c0.c2,c5
+format 101 1 calipso
+dir /one 1
+dir /two 2
+dir /top 3
+";
+
+/// A client with a file that it denies others to read, a symbolic link and a directory whose cookies don't begin at the first
+/// one; two contexts, of which one ends; a client of level 3, whose open waits for the other's lease to end; a directory of
+/// level 3; a link whose label goes up; and an exclusive create. An owner locks what another one asks for then, and unlocks a part
+/// of it, which the other one locks. Requests come again, in both slots and to CREATE_SESSION.
+pub const EVENTS: &str = "\
+CALL SYS EXCHANGE 'c1' REST / \
+CALL SYS CREATE 0 1 1 0 CHANNEL CHANNEL 0 0 / \
+@0.101 CALL SYS 0 2 3 SEQUENCE 1 0 0 1 24 18 0 1 1 BY_O PLAIN CALLED_F / \
+@0.150 CALL_2 SYS 0 2 3 SEQUENCE 1 0 0 1 24 18 0 1 1 BY_O PLAIN CALLED_F / \
+@0.102 CALL SYS 0 2 4 SEQUENCE 2 0 0 1 24 6 5 4 'text' 1 'l' 0x000000 0 0 27 / \
+@0.103 CALL SYS 0 2 9 SEQUENCE 3 0 0 1 24 6 2 1 'd' 0x000000 0 0 32 6 2 1 'a' 0x000000 0 0 31 \
+6 5 1 'x' 0x000000 1 'b' 0x000000 0 0 31 28 1 'a' 0x000000 / \
+CREATE_7 ARGS_3 / \
+CREATE_7 ARGS_3 / \
+DESTROY_1 / \
+DATA 7 3 0 2 VERF 68 ZEROS BODY / \
+DATA_1 BODY / \
+@1 CALL SYS_300 CREATE 3 1 1 0 CHANNEL CHANNEL 0 0 / \
+@1.190 CALL SYS_300 0 2 3 SEQUENCE_3 1 0 0 1 24 18 0 1 0 BY_O 0 CALLED_F / \
+@1.194 CALL SYS_300 0 2 3 SEQUENCE_3 2 0 0 1 24 18 0 1 0 BY_O 0 CALLED_F / \
+@1.195 CALL_2 SYS_300 CREATE 3 1 1 0 CHANNEL CHANNEL 0 0 / \
+@0.200 CALL SYS 0 2 3 SEQUENCE 4 0 0 1 PUT_F 25 ID_1 0 0 1 / \
+@0.201 CALL SYS 0 2 3 SEQUENCE 5 0 0 1 22 12 0 0 7 26 0 3 0 0 0 1000 0 / \
+@0.202 CALL SYS 0 2 6 SEQUENCE 6 0 0 1 22 12 0 0 7 32 6 5 1 'y' 0x000000 1 'c' 0x000000 0 0 31 26 0 0 0 0 0 1000 0 / \
+@1.203 CALL SYS_300 0 2 4 SEQUENCE_3 3 0 0 1 TOP 6 2 1 'e' 0x000000 0 0 10 / \
+@0.204 CALL SYS 0 2 4 SEQUENCE 7 0 0 1 24 6 5 1 'x' 0x000000 1 'm' 0x000000 0 0 34 0 0 0 0 LABEL_1 / \
+@0.205 CALL SYS 0 2 3 SEQUENCE 8 0 0 1 22 12 0 0 11 27 / \
+@0.206 CALL SYS 0 2 2 SEQUENCE 1 1 0 1 58 0 / \
+@0.207 CALL SYS 0 2 2 SEQUENCE 2 1 0 1 58 0 / \
+@0.208 CALL SYS 0 2 3 SEQUENCE 9 0 0 1 24 18 0 3 0 BY_P SOLE 0 1 'g' 0x000000 / \
+@0.209 CALL SYS 0 2 3 SEQUENCE 10 0 0 1 24 18 0 3 0 BY_P SOLE 0 1 'g' 0x000000 / \
+@0.210 CALL SYS 0 2 3 SEQUENCE 11 0 0 1 22 12 0 0 12 38 2 0 0 2 0 0 2 6 'abcdef' 0x0000 / \
+@0.211 CALL SYS 0 2 3 SEQUENCE 12 0 0 1 22 12 0 0 12 25 2 0 0 2 0 2 100 / \
+@0.211 CALL SYS 0 2 3 SEQUENCE 13 0 0 1 22 12 0 0 12 12 2 0 0 0 0 10 1 0 2 0 0 2 0 0 1 1 'a' 0x000000 / \
+@0.211 CALL SYS 0 2 3 SEQUENCE 14 0 0 1 22 12 0 0 12 12 1 0 0 9 0 1 1 0 2 0 0 2 0 0 1 1 'b' 0x000000 / \
+@0.211 CALL SYS 0 2 5 SEQUENCE 15 0 0 1 22 12 0 0 12 14 2 0 1 0 1 1 0 4 0 2 \
+12 1 0 0 4 0 2 1 0 2 0 0 2 0 0 1 1 'b' 0x000000 13 1 0 0 0 10 0 1 1 'c' 0x000000 / \
+@0.212 CALL_2 SYS 0 2 2 SEQUENCE 2 1 0 1 58 0 / \
+1 2 / \
+NULL 0 0 0 0 / \
+@1 CALL SYS_5 EXCHANGE 'c5' REST / \
+CALL SYS EXCHANGE 'c2' REST";
+
+const REPLIES: &str = "\
+EXCHANGED 0 1 SERVER / \
+CREATED 0 0 1 0 1 0 CHANNEL CHANNEL / \
+ACCEPTED 0 0 0 3 SEQUENCED 1 0 SLOTS 24 0 MADE_F / \
+ACCEPTED_2 0 0 0 3 SEQUENCED 1 0 SLOTS 24 0 MADE_F / \
+ACCEPTED 0 0 0 4 SEQUENCED 2 0 SLOTS 24 0 6 0 1 0 2 0 3 0 27 0 4 'text' / \
+ACCEPTED 0 0 0 9 SEQUENCED 3 0 SLOTS 24 0 6 0 1 0 3 0 4 0 32 0 6 0 1 0 1 0 2 0 31 0 6 0 1 0 2 0 3 0 31 0 28 0 1 0 3 0 4 / \
+SIGNED_56 0 64 9 16 7 3 0 1 ASSERT_3 CHECKSUM 64 ZEROS / \
+SIGNED_56 0 64 9 16 7 3 0 2 ASSERT_3 CHECKSUM 64 ZEROS / \
+SIGNED_68 0 / \
+SIGNED_68 0 88 10 0 0 1 42 0 3 1 SERVER CHECKSUM 88 ZEROS / \
+DENIED 14 / \
+CREATED 3 0 1 0 1 0 CHANNEL CHANNEL / \
+ACCEPTED 0 10015 0 3 SEQUENCED_3 1 0 SLOTS 24 0 18 10015 / \
+ACCEPTED 0 0 0 3 SEQUENCED_3 2 0 SLOTS 24 0 18 0 1 3 0 1 1 0 4 0 4 0 0 0 / \
+ACCEPTED_2 0 0 0 1 43 0 3 0 1 0 1 0 CHANNEL CHANNEL / \
+ACCEPTED 0 0 0 3 SEQUENCED 4 0 SLOTS 22 0 25 0 1 0 / \
+ACCEPTED 0 0 0 3 SEQUENCED 5 0 SLOTS 22 0 26 0 0 0 1 0 4 1 'b' 0x000000 0 0 0 1 / \
+ACCEPTED 0 0 0 6 SEQUENCED 6 0 SLOTS 22 0 32 0 6 0 1 0 4 0 5 0 31 0 \
+26 0 0 0 1 0 4 1 'b' 0x000000 0 0 1 0 5 1 'c' 0x000000 0 0 0 1 / \
+ACCEPTED 0 0 0 4 SEQUENCED_3 3 0 SLOTS 22 0 6 0 1 0 1 0 2 0 10 0 12 3 0 1 / \
+ACCEPTED 0 0 0 4 SEQUENCED 7 0 SLOTS 24 0 6 0 1 0 4 0 5 0 34 0 LABELLED / \
+ACCEPTED 0 13 0 3 SEQUENCED 8 0 SLOTS 22 0 27 13 / \
+ACCEPTED 0 0 0 2 SEQUENCED 1 1 SLOTS 58 0 / \
+ACCEPTED 0 10054 0 2 SEQUENCED 2 1 SLOTS 58 10054 / \
+ACCEPTED 0 0 0 3 SEQUENCED 9 0 SLOTS 24 0 18 0 1 0 0 2 1 0 5 0 6 0 0 0 / \
+ACCEPTED 0 0 0 3 SEQUENCED 10 0 SLOTS 24 0 18 0 2 0 0 2 1 0 6 0 6 0 0 0 / \
+ACCEPTED 0 0 0 3 SEQUENCED 11 0 SLOTS 22 0 WROTE_6 / \
+ACCEPTED 0 0 0 3 SEQUENCED 12 0 SLOTS 22 0 25 0 1 4 'cdef' / \
+ACCEPTED 0 0 0 3 SEQUENCED 13 0 SLOTS 22 0 12 0 1 0 1 1 / \
+ACCEPTED 0 10010 0 3 SEQUENCED 14 0 SLOTS 22 0 12 10010 0 0 0 10 2 0 1 1 'a' 0x000000 / \
+ACCEPTED 0 10010 0 5 SEQUENCED 15 0 SLOTS 22 0 14 0 2 0 1 1 12 0 1 0 1 2 13 10010 0 0 0 4 2 0 1 1 'a' 0x000000 / \
+ACCEPTED_2 0 10054 0 2 SEQUENCED 2 1 SLOTS 58 10054 / \
+ACCEPTED 0 / \
+DENIED 5 / \
+EXCHANGED 0 2 SERVER";
+
+pub const RICH: Recording = Recording {
+    name: "rich",
+    policy: lnfs_test_support::site::POLICY,
+    events: EVENTS,
+    replies: REPLIES,
+    lines: "11 0 0 C 14|13 3 18 O 10015|21 3 27 M1 13|23 2 58 S 10054|29 3 12 O 10010|30 5 13 O 10010|34 0 0 C 5",
+};
+
+/// A directory whose label is of no format, and a label that is set anew.
+pub const LIMITED: Recording = Recording {
+    name: "limited",
+    policy: LIMITED_POLICY,
+    events: "\
+CALL SYS EXCHANGE 'c1' REST / \
+CALL SYS CREATE 0 1 1 0 CHANNEL CHANNEL 0 0 / \
+CALL SYS 0 2 4 SEQUENCE 1 0 0 1 24 6 2 1 'd' 0x000000 LABELLED 16 999 5 1 0x78000000 9 LABELLED / \
+CALL_2 SYS 0 2 4 SEQUENCE 1 0 0 1 24 6 2 1 'd' 0x000000 LABELLED 16 999 5 1 0x78000000 9 LABELLED / \
+CALL SYS 0 2 5 SEQUENCE 2 0 0 1 22 12 0 0 4 9 LABELLED 34 0 0 0 0 LABELLED 16 7 0 2 'yz' 0x0000 9 LABELLED / \
+CALL SYS 0 2 5 SEQUENCE 3 0 0 1 24 9 LABELLED 15 1 'd' 0x000000 9 LABELLED / \
+CALL SYS 0 2 3 SEQUENCE 4 0 0 1 22 12 0 0 4 9 LABELLED",
+    replies: "\
+EXCHANGED 0 1 SERVER / \
+CREATED 0 0 1 0 1 0 CHANNEL CHANNEL / \
+ACCEPTED 0 0 0 4 SEQUENCED 1 0 SLOTS 24 0 6 0 1 0 1 0 2 LABELLED 9 0 LABELLED 16 999 5 1 0x78000000 / \
+ACCEPTED_2 0 0 0 4 SEQUENCED 1 0 SLOTS 24 0 6 0 1 0 1 0 2 LABELLED 9 0 LABELLED 16 999 5 1 0x78000000 / \
+ACCEPTED 0 0 0 5 SEQUENCED 2 0 SLOTS 22 0 9 0 LABEL_3 34 0 LABELLED 9 0 LABELLED 16 7 0 2 'yz' 0x0000 / \
+ACCEPTED 0 0 0 5 SEQUENCED 3 0 SLOTS 24 0 9 0 LABEL_0 15 0 9 0 LABELLED 16 999 5 1 0x78000000 / \
+ACCEPTED 0 0 0 3 SEQUENCED 4 0 SLOTS 22 0 9 0 LABELLED 16 7 0 2 'yz' 0x0000",
+    lines: "",
+};
