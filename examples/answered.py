@@ -1,5 +1,6 @@
 """Replies in words: what each operation of a COMPOUND answers, by the results of docs/PROTOCOL.md."""
-from wire import attributes, change_of, handle_of, listed, names_of, shown, state_of, values_of
+from wire import (
+    attributes, change_of, extent, handle_of, listed, lock_kind, names_of, quoted, shown, state_of, values_of)
 
 
 def entries_of(r):
@@ -29,6 +30,12 @@ def content(r):
     return '%r%s' % (r.opaque().decode(errors='backslashreplace'), ', up to the end' if end else '')
 
 
+def denial(r):
+    """The lock that stands in the way."""
+    where, kind, level, client = extent(r.long(), r.long()), lock_kind(r.word()), r.word(), r.word()
+    return '%s %s, by owner %s of client %d of level %d' % (where, kind, quoted(r.opaque()), client, level)
+
+
 def result(r, number):
     if number == 3:
         return 'told of %#x, granted %#x' % (r.word(), r.word())
@@ -42,6 +49,8 @@ def result(r, number):
     if number in (6, 11, 28):
         told = change_of(r)
         return told if number != 6 else (told, names_of(r))[0]
+    if number in (12, 14):
+        return state_of(r)
     if number == 18:
         return opened(r)
     if number == 25:

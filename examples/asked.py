@@ -2,12 +2,12 @@
 import collections
 
 from wire import (
-    ACCESS_BITS, ATTRIBUTES, MOST_OPERATIONS, OPERATIONS, SEC_LABEL, SHARES, Reader, bits_of, handle_of, names_of,
-    quoted, shown, special_state_of)
+    ACCESS_BITS, ATTRIBUTES, MOST_OPERATIONS, OPERATIONS, SEC_LABEL, SHARES, Reader, bits_of, extent, handle_of,
+    lock_kind, names_of, quoted, shown, special_state_of)
 
 # Operations of RFC 8881 and RFC 7862 that aren't served.
 OTHERS = {
-    7: 'DELEGPURGE', 8: 'DELEGRETURN', 12: 'LOCK', 13: 'LOCKT', 14: 'LOCKU', 19: 'OPENATTR', 20: 'OPEN_CONFIRM',
+    7: 'DELEGPURGE', 8: 'DELEGRETURN', 19: 'OPENATTR', 20: 'OPEN_CONFIRM',
     21: 'OPEN_DOWNGRADE', 23: 'PUTPUBFH', 30: 'RENEW', 33: 'SECINFO', 35: 'SETCLIENTID', 36: 'SETCLIENTID_CONFIRM',
     39: 'RELEASE_LOCKOWNER', 40: 'BACKCHANNEL_CTL', 41: 'BIND_CONN_TO_SESSION', 45: 'FREE_STATEID',
     46: 'GET_DIR_DELEGATION', 47: 'GETDEVICEINFO', 48: 'GETDEVICELIST', 49: 'LAYOUTCOMMIT', 50: 'LAYOUTGET',
@@ -135,6 +135,39 @@ def writing(r):
     return told + (', stable %d' % stable if stable > 2 else '')
 
 
+def range_of(r):
+    return extent(r.long(), r.long())
+
+
+def lock_owner(r):
+    r.long()
+    return 'owner ' + quoted(r.opaque())
+
+
+def locking(r):
+    kind, reclaim, where = lock_kind(r.word()), r.word(), range_of(r)
+    if r.word():
+        r.word()
+        state = special_state_of(r)
+        r.word()
+        who = '%s, %s' % (state, lock_owner(r))
+    else:
+        who = special_state_of(r)
+        r.word()
+    return '%s %s, by %s%s' % (where, kind, who, ', reclaimed' if reclaim else '')
+
+
+def testing(r):
+    kind, where = lock_kind(r.word()), range_of(r)
+    return '%s %s, by %s' % (where, kind, lock_owner(r))
+
+
+def unlocking(r):
+    r.word(), r.word()
+    state = special_state_of(r)
+    return '%s, with %s' % (range_of(r), state)
+
+
 def exchange_id(r):
     r.take(8)
     owner, _, protection = r.opaque(), r.word(), r.word()
@@ -187,6 +220,9 @@ ARGUMENTS = {
     9: lambda r: ', '.join(names_of(r)) or 'nothing',
     10: lambda r: '',
     11: named(11),
+    12: locking,
+    13: testing,
+    14: unlocking,
     15: named(15),
     16: lambda r: '',
     17: comparing(17),

@@ -13,23 +13,27 @@ MOST_SECONDS = 2**63 - 1
 MOST_WORDS = 8  # of a bitmap
 MOST_OPERATIONS = 32  # of a COMPOUND with more the server reads the first one alone
 NFS_PROGRAM = 100003
+MOST_NUMBER = 2**32 - 1  # of whatever has one, but a context
+ALL_LENGTH = 2**64 - 1  # of a lock: up to the last offset
 AUTH_NONE, AUTH_SYS, RPCSEC_GSS = 0, 1, 6
 GSS_DATA, GSS_DESTROY, GSS_CREATE = 0, 3, 5
 
 OPERATIONS = {
-    3: 'ACCESS', 4: 'CLOSE', 5: 'COMMIT', 6: 'CREATE', 9: 'GETATTR', 10: 'GETFH', 11: 'LINK', 15: 'LOOKUP',
-    16: 'LOOKUPP', 17: 'NVERIFY', 18: 'OPEN', 22: 'PUTFH', 24: 'PUTROOTFH', 25: 'READ', 26: 'READDIR', 27: 'READLINK',
-    28: 'REMOVE', 29: 'RENAME', 31: 'RESTOREFH', 32: 'SAVEFH', 34: 'SETATTR', 37: 'VERIFY', 38: 'WRITE',
-    42: 'EXCHANGE_ID', 43: 'CREATE_SESSION', 44: 'DESTROY_SESSION', 53: 'SEQUENCE', 57: 'DESTROY_CLIENTID',
-    58: 'RECLAIM_COMPLETE',
+    3: 'ACCESS', 4: 'CLOSE', 5: 'COMMIT', 6: 'CREATE', 9: 'GETATTR', 10: 'GETFH', 11: 'LINK', 12: 'LOCK',
+    13: 'LOCKT', 14: 'LOCKU', 15: 'LOOKUP', 16: 'LOOKUPP', 17: 'NVERIFY', 18: 'OPEN', 22: 'PUTFH', 24: 'PUTROOTFH',
+    25: 'READ', 26: 'READDIR', 27: 'READLINK', 28: 'REMOVE', 29: 'RENAME', 31: 'RESTOREFH', 32: 'SAVEFH',
+    34: 'SETATTR', 37: 'VERIFY', 38: 'WRITE', 42: 'EXCHANGE_ID', 43: 'CREATE_SESSION', 44: 'DESTROY_SESSION',
+    53: 'SEQUENCE', 57: 'DESTROY_CLIENTID', 58: 'RECLAIM_COMPLETE',
 }
+DENIED = 10010  # by a lock, which is told
 STATUSES = {
     2: 'NOENT', 13: 'ACCESS', 17: 'EXIST', 20: 'NOTDIR', 21: 'ISDIR', 22: 'INVAL', 27: 'FBIG', 28: 'NOSPC', 31: 'MLINK',
     63: 'NAMETOOLONG', 66: 'NOTEMPTY', 69: 'DQUOT', 70: 'STALE', 10001: 'BADHANDLE', 10004: 'NOTSUPP',
-    10005: 'TOOSMALL', 10007: 'BADTYPE', 10009: 'SAME', 10012: 'LOCKED', 10015: 'SHARE_DENIED', 10020: 'NOFILEHANDLE',
-    10021: 'MINOR_VERS_MISMATCH', 10022: 'STALE_CLIENTID', 10024: 'OLD_STATEID', 10025: 'BAD_STATEID',
-    10027: 'NOT_SAME', 10029: 'SYMLINK', 10032: 'ATTRNOTSUPP', 10036: 'BADXDR', 10038: 'OPENMODE', 10040: 'BADCHAR',
-    10041: 'BADNAME', 10044: 'OP_ILLEGAL', 10052: 'BADSESSION', 10053: 'BADSLOT', 10054: 'COMPLETE_ALREADY',
+    10005: 'TOOSMALL', 10007: 'BADTYPE', 10009: 'SAME', 10010: 'DENIED', 10012: 'LOCKED', 10015: 'SHARE_DENIED',
+    10020: 'NOFILEHANDLE', 10021: 'MINOR_VERS_MISMATCH', 10022: 'STALE_CLIENTID', 10024: 'OLD_STATEID',
+    10025: 'BAD_STATEID', 10027: 'NOT_SAME', 10029: 'SYMLINK', 10032: 'ATTRNOTSUPP', 10033: 'NO_GRACE',
+    10036: 'BADXDR', 10038: 'OPENMODE', 10040: 'BADCHAR', 10041: 'BADNAME', 10044: 'OP_ILLEGAL', 10052: 'BADSESSION',
+    10053: 'BADSLOT', 10054: 'COMPLETE_ALREADY',
     10063: 'SEQ_MISORDERED', 10064: 'SEQUENCE_POS', 10065: 'REQ_TOO_BIG', 10066: 'REP_TOO_BIG', 10070: 'TOO_MANY_OPS',
     10071: 'OP_NOT_IN_SESSION', 10074: 'CLIENTID_BUSY', 10076: 'SEQ_FALSE_RETRY', 10081: 'NOT_ONLY_OP',
     10083: 'WRONG_TYPE', 10092: 'WRONG_LFS', 10093: 'BADLABEL',
@@ -236,8 +240,18 @@ def handle_of(handle):
 
 
 def state_of(r):
+    """A state id. Those of locks have numbers above all others (docs/PROTOCOL.md)."""
     sequence, level, number = r.word(), r.word(), r.long()
-    return 'state id %d of level %d, sequence %d' % (number, level, sequence)
+    kind = 'lock' if number > MOST_NUMBER else 'state id'
+    return '%s %d of level %d, sequence %d' % (kind, number & MOST_NUMBER, level, sequence)
+
+
+def lock_kind(kind):
+    return {1: 'for reading', 2: 'for writing', 3: 'for reading', 4: 'for writing'}.get(kind, 'of type %d' % kind)
+
+
+def extent(offset, length):
+    return 'all from %d on' % offset if length == ALL_LENGTH else '%d bytes at %d' % (length, offset)
 
 
 def special_state_of(r):
