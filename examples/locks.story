@@ -12,3 +12,6 @@
 1 300 107 | CREATE_SESSION 3.1
 1 300 108 | SEQUENCE 3.1 1 | PUTROOTFH | LOOKUP notes | LOCKT r 0 all carol
 1 300 109 | SEQUENCE 3.1 2 | PUTROOTFH | OPEN notes 1 0 | LOCK r 20 5 3.1.1 carol
+
+# User 0 unlocks all that `alice` has. It is answered as if nobody above were there.
+0 0 110 | SEQUENCE 0.1 4 | PUTROOTFH | LOOKUP notes | LOCKU 0 all 0.1.2

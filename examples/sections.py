@@ -25,10 +25,10 @@ GATES = {
     'M5': 'A label is only raised, and only by who is at the old label and at that of each directory that names the '
           'file.',
     'M6': 'Who links, removes or replaces something has to be at its label.',
-    'M7': 'Who denies others an open has to be at the label of the file.',
+    'M7': 'Who denies others an open or a range of bytes has to be at the label of the file.',
     'M8': 'Who brings a handle has to dominate the level at which its file was made. The answer is that of a handle of '
           'nothing, whether the file is there or not.',
-    'M9': 'The id of a client, a session or an open is only for its own level. The answer is that of an id of nothing.',
+    'M9': 'The id of a client, a session, an open or a lock is for its own level alone. The answer is that of no id.',
     'C': 'The caller was not let in: nobody the policy has a level for, no good credential or signature, a context '
          'that isn\'t there, or a label that may not be asserted.',
     'V': 'The call is of another version of RPC than 2.',
@@ -39,8 +39,8 @@ GATES = {
     'R': 'The reply might be longer than the session allows.',
     'A': 'An argument is wrong: a name, a handle, an attribute, a size.',
     'N': 'Files and names: none of this name or handle, one that is there already, or another kind of file.',
-    'O': 'Opens: a state id of no fitting open, or what another open denies.',
-    'Q': 'The level has as many files, bytes or opens as it may have.',
+    'O': 'Opens and locks: a state id of none that fits, or what another one denies.',
+    'Q': 'The level has as many files, bytes, opens or locks as it may have.',
 }
 AUTH_WORDS = {
     1: 'The header or the credential can\'t be read.',
