@@ -29,12 +29,16 @@ without a file handle | 12 1 0 0 0 0 10 1 0 ID_1 0 0 1 1 'a' 0x000000 | 10020 2 
 a directory | 24 13 1 0 0 0 10 0 1 1 'a' 0x000000 | 21 3 24 0 13 21 | 3 13 N 21
 a symbolic link | 24 6 5 4 'text' 1 'l' 0x000000 0 0 14 1 0 1 0 1 1 0 0 0 10 | \
 10029 4 24 0 6 0 1 0 1 0 2 0 14 10029 | 4 14 N 10029
+a file that is gone | 24 MAKE_F 32 24 28 1 'f' 0x000000 31 13 1 0 0 0 10 0 1 1 'a' 0x000000 | \
+70 8 24 0 MADE_F 32 0 24 0 28 0 1 0 2 0 3 31 0 13 70 | 8 13 N 70
 nothing to reclaim | 24 MAKE_F 12 1 1 0 0 0 10 1 0 ANON 0 0 1 1 'a' 0x000000 | 10033 4 24 0 MADE_F 12 10033 | 4 12 O 10033
 a state id of no open | 24 MAKE_F 12 1 0 0 0 0 10 1 0 ANON 0 0 1 1 'a' 0x000000 | 10025 4 24 0 MADE_F 12 10025 | 4 12 O 10025
 the state id that passes over | 24 MAKE_F 12 1 0 0 0 0 10 1 0 BYPASS 0 0 1 1 'a' 0x000000 | \
 10025 4 24 0 MADE_F 12 10025 | 4 12 O 10025
 an open that isn't there | 24 MAKE_F 12 1 0 0 0 0 10 1 0 1 0 0 2 0 0 1 1 'a' 0x000000 | \
 10025 4 24 0 MADE_F 12 10025 | 4 12 O 10025
+an open of another file | 24 MAKE_F 24 18 0 3 0 BY_O PLAIN 0 1 'g' 0x000000 12 1 0 0 0 0 10 1 0 ID_1 0 0 1 1 'a' 0x000000 | \
+10025 6 24 0 MADE_F 24 0 18 0 1 0 0 2 1 0 2 0 3 0 0 0 12 10025 | 6 12 O 10025
 an open of another level | 24 MAKE_F 12 1 0 0 0 0 10 1 0 1 1 0 1 0 0 1 1 'a' 0x000000 | \
 10025 4 24 0 MADE_F 12 10025 | 4 12 M9 10025
 a sequence of an open that is to come | 24 MAKE_F 12 1 0 0 0 0 10 1 0 2 0 0 1 0 0 1 1 'a' 0x000000 | \
@@ -49,7 +53,13 @@ for write, and one would wait | 24 18 0 1 0 BY_O PLAIN CALLED_F 12 4 0 0 0 0 10 
 10038 4 24 0 MADE_F 12 10038 | 4 12 O 10038
 for read, under an open for writing | 24 18 0 2 0 BY_O PLAIN CALLED_F 12 3 0 0 0 0 10 1 0 ID_1 0 0 1 1 'a' 0x000000 | \
 10038 4 24 0 MADE_F 12 10038 | 4 12 O 10038
+for write, by a lock under an open for reading | 24 18 0 1 0 BY_O PLAIN CALLED_F \
+12 1 0 0 0 0 10 1 0 ID_1 0 0 1 1 'a' 0x000000 12 2 0 0 0 0 10 0 1 0 1 1 0 | \
+10038 5 24 0 MADE_F 12 0 1 0 1 1 12 10038 | 5 12 O 10038
 a lock that isn't there | 24 MAKE_F 12 1 0 0 0 0 10 0 1 0 1 1 0 | 10025 4 24 0 MADE_F 12 10025 | 4 12 O 10025
+a lock of another file | 24 MAKE_F 12 1 0 0 0 0 10 1 0 ID_1 0 0 1 1 'a' 0x000000 24 18 0 3 0 BY_O PLAIN 0 1 'g' 0x000000 \
+14 1 0 1 0 1 1 0 0 0 10 | \
+10025 7 24 0 MADE_F 12 0 1 0 1 1 24 0 18 0 1 0 0 2 1 0 2 0 3 0 0 0 14 10025 | 7 14 O 10025
 a lock of another level | 24 MAKE_F 12 1 0 0 0 0 10 0 1 1 1 1 0 | 10025 4 24 0 MADE_F 12 10025 | 4 12 M9 10025
 an open in the place of a lock | 24 MAKE_F 14 1 0 ID_1 0 0 0 10 | 10025 4 24 0 MADE_F 14 10025 | 4 14 O 10025
 a lock in the place of an open | 24 MAKE_F 12 1 0 0 0 0 10 1 0 ID_1 0 0 1 1 'a' 0x000000 25 1 0 1 1 0 0 1 | \
@@ -68,6 +78,9 @@ a lock that changes its kind and goes | 24 MAKE_F 12 1 0 0 0 0 10 1 0 ID_1 0 0 1
 two locks for read, and one for write is in their way | 24 MAKE_F 12 1 0 0 0 0 10 1 0 ID_1 0 0 1 1 'a' 0x000000 \
 12 3 0 0 5 0 10 1 0 ID_1 0 0 1 1 'b' 0x000000 13 2 0 12 0 1 0 1 1 'c' 0x000000 | \
 10010 6 24 0 MADE_F 12 0 1 0 1 1 12 0 1 0 1 2 13 10010 0 5 0 10 1 0 1 1 'b' 0x000000 | 6 13 O 10010
+two locks in the way, of which the first is told | 24 MAKE_F 12 1 0 0 0 0 10 1 0 ID_1 0 0 1 1 'a' 0x000000 \
+12 3 0 0 5 0 10 1 0 ID_1 0 0 1 1 'b' 0x000000 13 2 0 7 0 1 0 1 1 'c' 0x000000 | \
+10010 6 24 0 MADE_F 12 0 1 0 1 1 12 0 1 0 1 2 13 10010 0 0 0 10 1 0 1 1 'a' 0x000000 | 6 13 O 10010
 one's own lock | 24 MAKE_F 12 2 0 0 0 0 10 1 0 ID_1 0 0 1 1 'a' 0x000000 13 2 0 0 0 10 0 7 1 'a' 0x000000 | \
 0 5 24 0 MADE_F 12 0 1 0 1 1 13 0
 ranges of one kind that touch are one | 24 MAKE_F 12 2 0 0 0 0 5 1 0 ID_1 0 0 1 1 'a' 0x000000 12 2 0 0 5 0 5 0 1 0 1 1 0 \
@@ -149,6 +162,7 @@ const LEVELS: &str = "
 0 3 100 | PUT_F 14 2 0 1 0 1 1 0 4 0 2 12 1 0 0 4 0 2 1 0 ID_1 0 0 1 1 'b' 0x000000 | 0 4 22 0 14 0 2 0 1 1 12 0 1 0 1 2
 3 1 100 | PUT_F 12 1 0 0 0 0 10 1 0 1 3 0 1 0 3 1 1 'c' 0x000000 | 13 3 22 0 12 13 | 3 12 M7 13
 3 2 100 | PUT_F 13 1 0 0 0 10 0 3 1 'c' 0x000000 | 10010 3 22 0 13 10010 0 0 0 4 2 0 1 1 'a' 0x000000 | 3 13 O 10010
+3 3 100 | PUT_F 12 1 1 0 0 0 10 1 0 1 3 0 1 0 3 1 1 'c' 0x000000 | 10033 3 22 0 12 10033 | 3 12 O 10033
 0 4 100 | PUT_F 13 2 0 4 0 2 0 1 1 'c' 0x000000 | 10010 3 22 0 13 10010 0 4 0 2 1 0 1 1 'b' 0x000000 | 3 13 O 10010
 0 5 100 | PUT_F 13 2 0 6 0 1 0 1 1 'c' 0x000000 | 10010 3 22 0 13 10010 0 6 0 4 2 0 1 1 'a' 0x000000 | 3 13 O 10010
 # a file that is raised, with a lock from below
@@ -159,10 +173,12 @@ const LEVELS: &str = "
 3 1 100 | PUT_F 18 0 3 0 BY_O 0 4 12 1 0 0 0 0 5 1 0 1 3 0 1 0 3 1 1 'c' 0x000000 | \
 10010 4 22 0 18 0 1 3 0 1 HELD 12 10010 0 0 0 10 2 0 1 1 'a' 0x000000 | 4 12 O 10010
 3 2 100 | PUT_F 12 2 0 0 20 0 5 1 0 1 3 0 1 0 3 1 1 'c' 0x000000 | 0 3 22 0 12 0 1 3 1 1
+3 3 100 | PUT_F 13 1 0 0 0 30 0 3 1 'd' 0x000000 | 10010 3 22 0 13 10010 0 0 0 10 2 0 1 1 'a' 0x000000 | 3 13 O 10010
 0 2 100 | PUT_F 14 2 0 1 0 1 1 0 0 0 30 | 0 3 22 0 14 0 2 0 1 1
 0 3 100 | PUT_F 12 1 0 0 20 0 5 0 2 0 1 1 0 | 13 3 22 0 12 13 | 3 12 M7 13
 0 4 100 | PUT_F 13 1 0 20 0 5 0 1 1 'b' 0x000000 | 13 3 22 0 13 13 | 3 13 M1 13
-3 3 100 | PUT_F 12 2 0 0 0 0 5 0 1 3 1 1 0 | 0 3 22 0 12 0 2 3 1 1
+3 4 100 | PUT_F 13 1 0 0 0 30 0 3 1 'd' 0x000000 | 10010 3 22 0 13 10010 0 20 0 5 2 3 1 1 'c' 0x000000 | 3 13 O 10010
+3 5 100 | PUT_F 12 2 0 0 0 0 5 0 1 3 1 1 0 | 0 3 22 0 12 0 2 3 1 1
 # a silent client below, whose lock stays
 0
 3
@@ -191,7 +207,7 @@ ACCEPTED 0 10066 0 4 SEQUENCED 3 0 SLOTS 22 0 25 0 0 780 0x{zeros}00000000 13 10
 
 #[test]
 fn tests_in_order(rt: HostRuntime) -> Result<(), Flaw> {
-    check_operations(&rt, rt.alloc(), TESTS, 35)?;
+    check_operations(&rt, rt.alloc(), TESTS, 40)?;
     check(&rt, rt.alloc(), OUTSIDE, 1)?;
     check_row(&rt, rt.alloc(), &room_for_a_denial(rt.alloc())?)
 }
