@@ -8,4 +8,6 @@ mod checkpoints;
 #[cfg(test)]
 mod commands;
 #[cfg(test)]
+mod hostile;
+#[cfg(test)]
 mod streams;
