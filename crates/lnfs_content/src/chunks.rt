@@ -1,7 +1,8 @@
 //! Chunks in their order. One that is absent is of zeros, like an empty one.
 
-ghost use Rattle.std.specs.Prelude.{◌≡◌, ℕ, ◌+◌, ◌-◌, ◌/◌, ◌%◌, ◌<◌, ◌≤◌, ◌&&◌, ◌==◌, ◌++◌, cond, nat_le, nat_lt, [], length, slice_index_or, OnOk, OnErr};
+ghost use Rattle.std.specs.Prelude.{◌≡◌, ℕ, ◌+◌, ◌-◌, ◌*◌, ◌/◌, ◌%◌, ◌<◌, ◌≤◌, ◌&&◌, ◌==◌, ◌++◌, cond, not, nat_le, nat_lt, [], length, take, slice_index_or, OnOk, OnErr};
 ghost use Rattle.lnfs_content.specs.Bytes.{byte_in, cell, byte_at, bytes_from, HasPlace};
+ghost use Rattle.lnfs_content.specs.Sparse.{is_zeros, has_sort, IsFirst};
 
 use crate::chunk::{Chunk, append_zeros};
 use crate::limits::{CHUNK, MOST_CHUNKS};
@@ -14,6 +15,9 @@ fn add_chunks(alloc: Global, chunks: &mut Vec<Chunk>, count: usize) -> Result<()
     requires { count ≤ MOST_CHUNKS }
     ensures same { (c at : ℕ) → cell chunks.new.items c at ≡ cell chunks.old.items c at }
     ensures few { length chunks.old.items ≤ MOST_CHUNKS → length chunks.new.items ≤ MOST_CHUNKS }
+    ensures kept { (c : ℕ) → length (slice_index_or chunks.old.items c [])
+        ≤ length (slice_index_or chunks.new.items c []) }
+    ensures more { length chunks.old.items ≤ length chunks.new.items }
     ensures enough { OnOk result (count ≤ length chunks.new.items) }
 {
     while chunks.len() < count {
@@ -44,6 +48,7 @@ pub(crate) fn make_room(
     requires { end ≤ MOST_FILE }
     ensures same { (c at : ℕ) → cell chunks.new.items c at ≡ cell chunks.old.items c at }
     ensures few { length chunks.old.items ≤ MOST_CHUNKS → length chunks.new.items ≤ MOST_CHUNKS }
+    ensures kept { (i : ℕ) → HasPlace chunks.old.items i → HasPlace chunks.new.items i }
     ensures room { OnOk result ((i : ℕ) → from ≤ i → i < end → HasPlace chunks.new.items i) }
 {
     let count = end.div_ceil(CHUNK);
@@ -60,11 +65,12 @@ pub(crate) fn make_room(
 fn put_part(chunks: &mut Vec<Chunk>, index: usize, at: usize, bytes: &[u8])
     requires there { index < length chunks.old.items }
     requires fits { at + length bytes.now ≤ length (slice_index_or chunks.old.items index []) }
+    requires short { at + length bytes.now ≤ CHUNK }
     ensures cells { (c r : ℕ) → cell chunks.new.items c r
         ≡ cond (c == index && (nat_le at r && nat_lt r (at + length bytes.now)))
         (byte_in bytes.now (r - at)) (cell chunks.old.items c r) }
-    ensures kept { (c : ℕ) → length (slice_index_or chunks.new.items c [])
-        ≡ length (slice_index_or chunks.old.items c []) }
+    ensures kept { (c : ℕ) → length (slice_index_or chunks.old.items c [])
+        ≤ length (slice_index_or chunks.new.items c []) }
     ensures count { length chunks.new.items ≡ length chunks.old.items }
 {
     let chunk = &mut chunks[index];
@@ -79,6 +85,7 @@ pub(crate) fn put_bytes(chunks: &mut Vec<Chunk>, offset: usize, bytes: &[u8])
     ensures bytes { (i : ℕ) → byte_at chunks.new.items i
         ≡ cond (nat_le offset i && nat_lt i (offset + length bytes.now))
         (byte_in bytes.now (i - offset)) (byte_at chunks.old.items i) }
+    ensures kept { (i : ℕ) → HasPlace chunks.old.items i → HasPlace chunks.new.items i }
     ensures count { length chunks.new.items ≡ length chunks.old.items }
 {
     let mut done = 0;
@@ -104,6 +111,73 @@ pub(crate) fn cut_chunks(chunks: &mut Vec<Chunk>, size: usize)
         let chunk = &mut chunks[whole];
         chunk.cut(rest);
     }
+}
+
+fn zero_part(alloc: Global, chunks: &mut Vec<Chunk>, index: usize, at: usize, count: usize)
+    requires there { index < length chunks.old.items }
+    requires fits { at + count ≤ CHUNK }
+    ensures cells { (c r : ℕ) → r < CHUNK → cell chunks.new.items c r
+        ≡ cond (c == index && (nat_le at r && nat_lt r (at + count))) 0
+        (cell chunks.old.items c r) }
+    ensures behind { (c r : ℕ) → r < CHUNK → (c ≡ index → at + count ≤ r) →
+        r < length (slice_index_or chunks.old.items c []) →
+        r < length (slice_index_or chunks.new.items c []) }
+    ensures whole { at ≡ 0 → count ≡ CHUNK → slice_index_or chunks.new.items index [] ≡ [] }
+    ensures kept { (c : ℕ) → c < index → slice_index_or chunks.new.items c []
+        ≡ slice_index_or chunks.old.items c [] }
+    ensures count { length chunks.new.items ≡ length chunks.old.items }
+{
+    let chunk = &mut chunks[index];
+    chunk.zero(alloc, at, count);
+}
+
+/// Makes zeros of the bytes from a place up to another. Whole chunks of them take no memory then.
+pub(crate) fn zero_chunks(alloc: Global, chunks: &mut Vec<Chunk>, first: usize, end: usize)
+    requires begun { first ≤ end }
+    requires fits { end ≤ MOST_FILE }
+    ensures bytes { (i : ℕ) → byte_at chunks.new.items i
+        ≡ cond (nat_le first i && nat_lt i end) 0 (byte_at chunks.old.items i) }
+    ensures behind { (i : ℕ) → end ≤ i → HasPlace chunks.old.items i → HasPlace chunks.new.items i }
+    ensures whole { (c : ℕ) → first ≤ CHUNK * c → CHUNK * c + CHUNK ≤ end →
+        slice_index_or chunks.new.items c [] ≡ [] }
+    ensures count { length chunks.new.items ≡ length chunks.old.items }
+{
+    let mut place = first;
+    while place < end && place / CHUNK < chunks.len() {
+        let at = place % CHUNK;
+        let part = (CHUNK - at).min(end - place);
+        zero_part(alloc, chunks, place / CHUNK, at, part);
+        place += part;
+    }
+}
+
+/// Whether a chunk has a byte that is no zero.
+fn has_data(chunks: &Vec<Chunk>, index: usize) -> bool
+    ensures { result ≡ not (is_zeros (take CHUNK (slice_index_or chunks.now.items index []))) }
+{
+    if index >= chunks.len() {
+        return false;
+    }
+    let chunk = &chunks[index];
+    chunk.has_data()
+}
+
+/// The first place from one on that is in a chunk with data, or in one without, or the end.
+pub(crate) fn next_place(chunks: &Vec<Chunk>, from: usize, end: usize, filled: bool) -> usize
+    requires begun { from ≤ end }
+    requires fits { end ≤ MOST_FILE }
+    ensures { IsFirst (λ i. has_sort filled
+        (take CHUNK (slice_index_or chunks.now.items (i / CHUNK) []))) from end result }
+{
+    let mut place = from;
+    while place < end {
+        if has_data(chunks, place / CHUNK) == filled {
+            return place;
+        }
+        let rest = CHUNK - place % CHUNK;
+        place = (place + rest).min(end);
+    }
+    place
 }
 
 /// Appends so many bytes of a chunk from a place on.

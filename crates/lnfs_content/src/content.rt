@@ -1,10 +1,12 @@
 //! The bytes of a file.
 
-ghost use Rattle.std.specs.Prelude.{◌≡◌, ◌+◌, ◌≤◌, ◌++◌, [], length, nat_le, OnOk, OnErr, IfOk};
+ghost use Rattle.std.specs.Prelude.{◌≡◌, ◌+◌, ◌≤◌, ◌++◌, true, [], length, nat_le, OnOk, OnErr, IfOk};
 ghost use Rattle.lnfs_world.specs.Effects.{sized, written, size_written, read_at};
+ghost use Rattle.lnfs_content.specs.Sparse.{zeroed, has_region, next_data, next_hole, lie_apart};
 
 use crate::chunk::Chunk;
-use crate::chunks::{append_bytes, cut_chunks, make_room, put_bytes};
+use crate::chunks::{append_bytes, cut_chunks, make_room, next_place, put_bytes, zero_chunks};
+use crate::copying::{copy_chunks, copy_here, make_room_for};
 use crate::limits::fits;
 use lnfs_world::numbers::MOST_FILE;
 use lnfs_xdr::XdrWriter;
@@ -131,5 +133,132 @@ impl Content {
         let size = size as usize;
         cut_chunks(&mut self.chunks, size);
         self.size = size;
+    }
+
+    /// Whether there is a byte from an offset up to another.
+    pub fn has(&self, first: u64, end: u64) -> bool
+        ensures { result ≡ has_region first end self.now }
+    {
+        first < end.min(self.len())
+    }
+
+    /// Makes zeros of the bytes from an offset up to another (RFC 7862 section 15.4). Whether there was a byte. Takes no
+    /// memory, and gives back that of the chunks that go whole.
+    pub fn zero(&mut self, alloc: Global, first: u64, end: u64) -> bool
+        ensures bytes { self.new ≡ zeroed first end self.old }
+        ensures some { result ≡ has_region first end self.old }
+    {
+        if !self.has(first, end) {
+            return false;
+        }
+        let last = end.min(self.size as u64);
+        zero_chunks(alloc, &mut self.chunks, first as usize, last as usize);
+        true
+    }
+
+    /// The least offset not below one that is in a block with a byte that is no zero (RFC 7862 section 15.11), or how
+    /// many bytes there are where none is.
+    pub fn next_data(&self, from: u64) -> u64
+        ensures { result ≡ next_data from self.now }
+    {
+        let size = self.size as u64;
+        if from >= size {
+            return size;
+        }
+        next_place(&self.chunks, from as usize, self.size, true) as u64
+    }
+
+    /// The least offset not below one that is in a block of zeros alone (RFC 7862 section 15.11), or how many bytes there
+    /// are where none is.
+    pub fn next_hole(&self, from: u64) -> u64
+        ensures { result ≡ next_hole from self.now }
+    {
+        let size = self.size as u64;
+        if from >= size {
+            return size;
+        }
+        next_place(&self.chunks, from as usize, self.size, false) as u64
+    }
+
+    /// Whether so many bytes are there from an offset on.
+    pub fn covers(&self, offset: u64, count: u64) -> bool
+        ensures { result ≡ nat_le (offset + count) (length self.now) }
+    {
+        let size = self.len();
+        offset <= size && count <= size - offset
+    }
+
+    /// Whether there may be so many bytes of another file at an offset. No bytes may be anywhere.
+    pub fn takes_of(&self, other: &Content, from: u64, to: u64, count: u64) -> bool
+        requires { from + count ≤ length other.now }
+        ensures { result
+            ≡ nat_le (size_written to (read_at from count other.now) self.now) MOST_FILE }
+    {
+        // The calls say that no more bytes are there than may be.
+        let _size = self.len();
+        let _other = other.len();
+        if count == 0 {
+            return true;
+        }
+        fits(to, count as usize)
+    }
+
+    /// Copies so many bytes of another file, from an offset there to one here, as `write` would. Zeros that took no
+    /// memory there take none here.
+    ///
+    /// # Errors
+    ///
+    /// Where there is no memory. Then nothing has changed.
+    pub fn copy_from(
+        &mut self,
+        alloc: Global,
+        other: &Content,
+        from: u64,
+        to: u64,
+        count: u64,
+    ) -> Result<(), AllocError>
+        requires there { from + count ≤ length other.now }
+        requires fits { to + count ≤ MOST_FILE }
+        ensures ok { OnOk result (self.new ≡ written to (read_at from count other.now) self.old) }
+        ensures err { OnErr result (self.new ≡ self.old) }
+    {
+        // The call says that no more bytes are there than may be.
+        let _size = other.len();
+        let (from, to, count) = (from as usize, to as usize, count as usize);
+        make_room_for(alloc, &mut self.chunks, &other.chunks, from, to, count)?;
+        copy_chunks(alloc, &mut self.chunks, &other.chunks, from, to, count);
+        if to + count > self.size {
+            self.size = to + count;
+        }
+        Ok(())
+    }
+
+    /// Copies so many bytes from an offset to another, where the ranges have no byte in common, as `write` would.
+    ///
+    /// # Errors
+    ///
+    /// Where there is no memory. Then nothing has changed.
+    pub fn copy_within(
+        &mut self,
+        alloc: Global,
+        from: u64,
+        to: u64,
+        count: u64,
+    ) -> Result<(), AllocError>
+        requires there { from + count ≤ length self.old }
+        requires fits { to + count ≤ MOST_FILE }
+        requires apart { lie_apart from to count ≡ true }
+        ensures ok { OnOk result (self.new ≡ written to (read_at from count self.old) self.old) }
+        ensures err { OnErr result (self.new ≡ self.old) }
+    {
+        // The call says that no more bytes are there than may be.
+        let _size = self.len();
+        let (from, to, count) = (from as usize, to as usize, count as usize);
+        make_room(alloc, &mut self.chunks, to, to + count)?;
+        copy_here(alloc, &mut self.chunks, from, to, count);
+        if to + count > self.size {
+            self.size = to + count;
+        }
+        Ok(())
     }
 }

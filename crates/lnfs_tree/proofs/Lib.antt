@@ -36,3 +36,4 @@ pub mod Sequences
 pub mod ToldRows
 pub mod GivenLasts
 pub mod Restored
+pub mod PutBack

@@ -164,6 +164,10 @@ rising_nodes : (ns : List Node) → Rising world.node_order (map row_of ns) → 
 rising_nodes [] rise = tt
 rising_nodes (n ∷ ns) rise = (all_unmap (λ m. world.node_order (row_of n) m ≡ Less) row_of ns rise.0, rising_nodes ns rise.1)
 
+pub rising_rows : (ns : List Node) → Rising node_order ns → Rising world.node_order (map row_of ns)
+rising_rows [] rise = tt
+rising_rows (n ∷ ns) rise = (all_map (λ m. world.node_order (row_of n) m ≡ Less) row_of ns rise.0, rising_rows ns rise.1)
+
 below_cookie : (i d : Id) (k c : ℕ) → i ≡ d → ordering_then (id_order i d) (nat_cmp k c) ≡ Less → k < c
 below_cookie i d k c is less =
     let tie : id_order i d ≡ Equal = id_tie i d (ap (same_id i) (sym is) ∙ id_itself i) in

@@ -1,5 +1,5 @@
 -- What each change of a tree does to its rows, what it answers, and when it is refused. A refusal leaves the rows.
-use Rattle.std.specs.Prelude.{◌≡◌, ℕ, ◌&&◌, nat_le, Bool, not, cond, List, [], ◌∷◌, ◌++◌, length, Option, Some, None, option_map, Result, Ok, Err, is_some, nat_lt, if◌then◌else◌}
+use Rattle.std.specs.Prelude.{◌≡◌, ℕ, ◌&&◌, ◌+◌, nat_le, Bool, not, cond, List, [], ◌∷◌, ◌++◌, length, Option, Some, None, option_map, Result, Ok, Err, is_some, nat_lt, if◌then◌else◌}
 use Rattle.lnfs_words.specs.Words.{is_empty}
 use Rattle.lnfs_types.specs.declared.event.Moment.{Moment}
 use Rattle.lnfs_world.specs.declared.numbers.TheConstants.{FIRST_COOKIE, MOST_NAMES}
@@ -7,8 +7,9 @@ use Rattle.lnfs_world.specs.World.{Id, Kind, Stored as StoredLabel, Inner, Node,
 use Rattle.lnfs_world.specs.Names.{entry_at, names_of, size_of}
 use Rattle.lnfs_world.specs.Tree.{parent_of, holds_names, has_other_name, is_above}
 use Rattle.lnfs_world.specs.Change.{Change, Make, Touch, Relabel, Link, Move, apply_all}
-use Rattle.lnfs_world.specs.Effects.{stepped, attributes_changed, names_changed, name_added, sized, written, size_written, data_changed, next_entry, has_cookie, has_number, next_id, taken_out, may_give_way, directories_changed}
+use Rattle.lnfs_world.specs.Effects.{stepped, attributes_changed, names_changed, name_added, sized, written, size_written, read_at, data_changed, next_entry, has_cookie, has_number, next_id, taken_out, may_give_way, directories_changed}
 use Rattle.lnfs_world.specs.Facts.{NodeFacts}
+use Rattle.lnfs_content.specs.Sparse.{zeroed, has_region, lie_apart}
 use Rattle.lnfs_world.specs.declared.numbers.TheConstants.{MOST_FILE}
 use Rattle.lnfs_tree.specs.declared.store.Node.{Node as StoredNode}
 use Rattle.lnfs_tree.specs.declared.node.Fresh.{Fresh}
@@ -228,3 +229,28 @@ write_of t i offset bytes at =
     on_file (node_at t.nodes i) (λ n.
     test (nat_le (size_written offset bytes n.inner.content) MOST_FILE) FBig (
     Ok (writes at n offset bytes)))
+
+-- a region without a byte changes nothing
+abbrev pub zeroes : Moment → Node → (first end : ℕ) → Doing (Unit {0})
+zeroes at n first end = cond (has_region first end n.inner.content) (sets_data at n (zeroed first end n.inner.content)) (record { answer = tt; changes = [] })
+
+abbrev pub zero_of : Rows → Id → (first end : ℕ) → Moment → Result (Doing (Unit {0})) TreeError
+zero_of t i first end at = on_file (node_at t.nodes i) (λ n. Ok (zeroes at n first end))
+
+-- bytes of a file that are written to another file
+abbrev pub copy_of : Rows → (from to : Id) → (source target count : ℕ) → Moment → Result (Doing (Unit {0})) TreeError
+copy_of t from to source target count at =
+    on_file (node_at t.nodes from) (λ a.
+    on_file (node_at t.nodes to) (λ b.
+    test (nat_le (source + count) (length a.inner.content)) Inval (
+    test (nat_le (size_written target (read_at source count a.inner.content) b.inner.content) MOST_FILE) FBig (
+    Ok (writes at b target (read_at source count a.inner.content))))))
+
+-- bytes of a file that are written to another place of it
+abbrev pub move_of : Rows → Id → (from to count : ℕ) → Moment → Result (Doing (Unit {0})) TreeError
+move_of t i from to count at =
+    on_file (node_at t.nodes i) (λ n.
+    test (nat_le (from + count) (length n.inner.content)) Inval (
+    test (lie_apart from to count) Inval (
+    test (nat_le (size_written to (read_at from count n.inner.content) n.inner.content) MOST_FILE) FBig (
+    Ok (writes at n to (read_at from count n.inner.content))))))

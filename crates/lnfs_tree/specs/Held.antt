@@ -6,7 +6,8 @@ use Rattle.slab.specs.Slab.{Slab, get}
 use Rattle.lnfs_types.specs.declared.event.Moment.{Moment}
 use Rattle.lnfs_world.specs.Rows.{inserted, updated}
 use Rattle.lnfs_world.specs.World.{Id, id_order, same_id, is_directory}
-use Rattle.lnfs_world.specs.Effects.{stepped, sized, written}
+use Rattle.lnfs_world.specs.Effects.{stepped, sized, written, read_at}
+use Rattle.lnfs_content.specs.Sparse.{zeroed}
 use Rattle.lnfs_tree.specs.declared.node.NodeId.{NodeId}
 use Rattle.lnfs_tree.specs.declared.node.TreeError.{TreeError}
 use Rattle.lnfs_tree.specs.declared.node.TreeError.TheVariants.{Stale, NotDir}
@@ -94,6 +95,20 @@ with_size size at n = with_names_step at (record n { bytes = sized size n.bytes 
 
 abbrev pub with_written : (offset : ℕ) → List ℕ → Moment → Node → Node
 with_written offset bytes at n = with_names_step at (record n { bytes = written offset bytes n.bytes })
+
+abbrev pub with_bytes : List ℕ → Node → Node
+with_bytes bytes n = record n { bytes = bytes }
+
+-- the bytes of a node, or none
+abbrev pub bytes_in : Option Node → List ℕ
+bytes_in None = []
+bytes_in (Some n) = n.bytes
+
+abbrev pub with_moved : (from to count : ℕ) → Moment → Node → Node
+with_moved from to count at n = with_names_step at (record n { bytes = written to (read_at from count n.bytes) n.bytes })
+
+abbrev pub with_zeroed : (first end : ℕ) → Moment → Node → Node
+with_zeroed first end at n = with_names_step at (record n { bytes = zeroed first end n.bytes })
 
 abbrev pub with_set : Setting → Node → Node
 with_set (settings.Mode mode) n = record n { mode = mode }

@@ -14,7 +14,7 @@ use lnfs_world::numbers::MOST_FILE;
 use std::alloc::{AllocError, Global};
 
 impl Node {
-    ghost use Rattle.lnfs_tree.specs.Held.{with_size, with_written};
+    ghost use Rattle.lnfs_tree.specs.Held.{with_size, with_written, with_zeroed};
 
     /// Sets how many bytes there are. The times step as with the names of a directory.
     pub fn set_size(&mut self, size: u64, at: Moment)
@@ -41,10 +41,18 @@ impl Node {
         self.step_names(at);
         Ok(())
     }
+
+    /// Makes zeros of the bytes of a region. The times step as with the names of a directory.
+    pub fn zero(&mut self, alloc: Global, first: u64, end: u64, at: Moment)
+        ensures { self.new ≡ with_zeroed first end at self.old }
+    {
+        self.bytes.zero(alloc, first, end);
+        self.step_names(at);
+    }
 }
 
 impl NodeStore {
-    ghost use Rattle.lnfs_tree.specs.Held.{is_node, node_at, file_in, with_size, with_written};
+    ghost use Rattle.lnfs_tree.specs.Held.{is_node, node_at, file_in, with_size, with_written, with_zeroed};
 
     /// The node of a file.
     ///
@@ -96,11 +104,21 @@ impl NodeStore {
         node.write(alloc, offset, bytes, at)?;
         Ok(())
     }
+
+    /// Makes zeros of the bytes of a region of a node.
+    pub fn zero(&mut self, alloc: Global, id: NodeId, first: u64, end: u64, at: Moment)
+        ensures { self.new ≡ updated (is_node (id_of id)) (with_zeroed first end at) self.old }
+    {
+        let Some(node) = node_mut(&mut self.slots, &self.by_id, id) else {
+            return;
+        };
+        node.zero(alloc, first, end, at);
+    }
 }
 
 impl Tree {
     ghost use Rattle.lnfs_tree.specs.Rows.{file_found, read_found, Gives};
-    ghost use Rattle.lnfs_tree.specs.Changed.{Does, set_size_of, write_of};
+    ghost use Rattle.lnfs_tree.specs.Changed.{Does, set_size_of, write_of, zero_of};
     ghost use Rattle.lnfs_tree.specs.declared.node.TreeError.TheVariants.{Memory};
 
     /// The data of a file, which `Content::append_to` appends to a reply.
@@ -180,6 +198,33 @@ impl Tree {
             return Ok(());
         }
         self.store.write(alloc, id, offset, bytes, at)?;
+        Ok(())
+    }
+
+    /// Makes zeros of the bytes of a file from an offset up to another. How many there are stays. Where there is none
+    /// nothing changes. Takes no memory.
+    ///
+    /// # Errors
+    ///
+    /// In this order, and then nothing has changed: `Stale` where there is no such node, `IsDir` of a directory, `Inval`
+    /// of a symbolic link.
+    pub fn zero(
+        &mut self,
+        alloc: Global,
+        id: NodeId,
+        first: u64,
+        end: u64,
+        at: Moment,
+    ) -> Result<(), TreeError>
+        ensures does { Does (λ u. u) (zero_of self.old (id_of id) first end at) self.old self.new
+            result }
+        ensures calm { result ≢ Err Memory }
+    {
+        let file = self.store.file(id)?;
+        if !file.bytes.has(first, end) {
+            return Ok(());
+        }
+        self.store.zero(alloc, id, first, end, at);
         Ok(())
     }
 }

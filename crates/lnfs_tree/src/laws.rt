@@ -3,7 +3,8 @@
 ghost use Rattle.std.specs.Prelude.{◌≤◌, ◌<◌, ◌^◌, ℕ, Bool, map};
 ghost use Rattle.std.specs.List.{AllByRecursion};
 ghost use Rattle.std.specs.Map.{keys_of, values_of};
-ghost use Rattle.lnfs_world.specs.World.{Id};
+ghost use Rattle.lnfs_world.specs.Rows.{Rising};
+ghost use Rattle.lnfs_world.specs.World.{Id, node_order};
 ghost use Rattle.lnfs_world.specs.Names.{names_of};
 ghost use Rattle.lnfs_tree.specs.Rows.{Rows};
 ghost use Rattle.lnfs_tree.specs.Held.{held};
@@ -85,6 +86,13 @@ impl NodeStore {
 }
 
 impl Tree {
+    /// The rows of nodes lie in the order of their identifiers.
+    pub fn law_order(&self)
+        ensures { Rising node_order self.now.nodes }
+    {
+        self.store.law_order();
+    }
+
     /// A tree can be made of a tree's own rows, where the facts hold of them, and no node has more names than one may. It
     /// looks at each node.
     pub fn law_rows(&self)

@@ -2,6 +2,7 @@
 #![tactic(auto)]
 
 mod contents;
+mod copying;
 mod directory;
 mod first;
 mod homes;
