@@ -25,6 +25,7 @@ mod results;
 mod room;
 mod run;
 mod sessions;
+mod setting;
 mod store;
 
 pub use engine::{Engine, Ran};

@@ -1,0 +1,3 @@
+pub mod SetOnce
+pub mod Settled
+pub mod InWorlds
