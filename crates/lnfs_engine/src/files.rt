@@ -35,7 +35,7 @@ use lnfs_attrs::{Bitmap, RawAttrs};
 use lnfs_files::{Opened, Opening, close, commit, open, read, set_attr, write};
 use lnfs_open::{ClientKey, Opens};
 use lnfs_operations::Refusal;
-use lnfs_operations::numbers::FILE_SYNC4;
+use lnfs_operations::numbers::{FILE_SYNC4, OPEN4_RESULT_LOCKTYPE_POSIX};
 use lnfs_quota::Quota;
 use lnfs_results::OpResult;
 use lnfs_session::Clients;
@@ -48,9 +48,9 @@ use std::alloc::AllocError;
 /// clients and sessions, so that a client has nothing uncommitted of a life before.
 const NO_VERIFIER: [u8; 8] = [0; 8];
 
-/// What OPEN tells: no flags, and no delegation. The file becomes the current file handle.
+/// What OPEN tells: the flag of locks as POSIX has them, and no delegation. The file becomes the current file handle.
 fn take_opened(place: &mut Place, told: Result<Opened, Refusal>) -> Answer
-    ensures answer { result ≡ told_as (λ o. results.Open o.id o.info 0 o.set 0) told }
+    ensures answer { result ≡ told_as (λ o. results.Open o.id o.info numbers.OPEN4_RESULT_LOCKTYPE_POSIX o.set 0) told }
     ensures plain { IsPlain result }
     ensures place { place_of place.new ≡ landed (λ o.
         record (place_of place.old) { current = Some (id_of o.node) }) (place_of place.old) told }
@@ -68,7 +68,7 @@ fn take_opened(place: &mut Place, told: Result<Opened, Refusal>) -> Answer
             Ok(OpResult::Open {
                 id,
                 info,
-                rflags: 0,
+                rflags: OPEN4_RESULT_LOCKTYPE_POSIX,
                 set,
                 delegation: 0,
             })
@@ -95,7 +95,7 @@ fn on_open<F: Fn(ClientKey) -> bool>(
     requires counts { AreTotals quota.old tree.old.nodes }
     ensures serves { IfOk result (λ answer. (rest : World) →
         Leases (F.post over.now) rest place.old.moment →
-        Serves (λ o. results.Open o.id o.info 0 o.set 0)
+        Serves (λ o. results.Open o.id o.info numbers.OPEN4_RESULT_LOCKTYPE_POSIX o.set 0)
         (opening.open_file (site_in request.now) (args_of args.now) (place_of place.old)
         (with_files rest tree.old opens.old)) answer (place_of place.new)
         (with_files rest tree.old opens.old) (with_files rest tree.new opens.new)) }

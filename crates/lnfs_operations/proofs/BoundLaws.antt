@@ -40,7 +40,7 @@ use Rattle.lnfs_operations.specs.Open.{open_file}
 use Rattle.lnfs_operations.specs.Close.{closed, close}
 use Rattle.lnfs_operations.specs.Read.{read}
 use Rattle.lnfs_operations.specs.Write.{write, commit}
-use Rattle.lnfs_operations.specs.declared.numbers.TheConstants.{FILE_SYNC4}
+use Rattle.lnfs_operations.specs.declared.numbers.TheConstants.{FILE_SYNC4, OPEN4_RESULT_LOCKTYPE_POSIX}
 use Rattle.lnfs_operations.specs.Results.{told_result}
 use Rattle.lnfs_operations.specs.Extra.{Extra, AreLawful, further_deed}
 use Rattle.lnfs_operations.specs.Identifiers.{client_named, session_named, session_under}
@@ -137,7 +137,7 @@ module _ (site : Site) (sent : Sent) (p : Place) (w : World) (rows : RowBounds s
   row_at (ops.Remove name) = told_at (ops.Remove name) (λ info. results.Remove info) (remove site name p w).answer
   row_at (ops.Rename old new) = told_at (ops.Rename old new) (λ renamed. results.Rename renamed.source renamed.target) (rename site old new p w).answer
   row_at (ops.SetAttr id given) = told_at (ops.SetAttr id given) (λ set. results.SetAttr 0 set) (set_attr site id given p w).answer
-  row_at (ops.Open seqid access deny client owner making claim) = told_at (ops.Open seqid access deny client owner making claim) (λ o. results.Open o.id o.info 0 o.set 0) (open_file site (record { access = access; deny = deny; owner = owner; making = making; claim = claim }) p w).answer
+  row_at (ops.Open seqid access deny client owner making claim) = told_at (ops.Open seqid access deny client owner making claim) (λ o. results.Open o.id o.info OPEN4_RESULT_LOCKTYPE_POSIX o.set 0) (open_file site (record { access = access; deny = deny; owner = owner; making = making; claim = claim }) p w).answer
   row_at (ops.Close seqid id) = told_at (ops.Close seqid id) (λ r. results.Close closed) (close id p w).answer
   row_at (ops.Read id offset count) = told_at (ops.Read id offset count) (λ found. results.Read found.eof found.content) (read site (record { id = id; offset = offset; count = count }) p w).answer
   row_at (ops.Write id offset stable content) = told_at (ops.Write id offset stable content) (λ many. results.Write many FILE_SYNC4 (zeros 8)) (write site (record { id = id; offset = offset; stable = stable; content = content }) p w).answer

@@ -31,7 +31,7 @@ use Rattle.lnfs_operations.specs.Shown.{bitmap_of}
 use Rattle.lnfs_operations.specs.Open.{Arguments, attrs_of}
 use Rattle.lnfs_operations.specs.Close.{closed}
 use Rattle.lnfs_operations.specs.Write.{Arguments as WriteArguments}
-use Rattle.lnfs_operations.specs.declared.numbers.TheConstants.{FILE_SYNC4}
+use Rattle.lnfs_operations.specs.declared.numbers.TheConstants.{FILE_SYNC4, OPEN4_RESULT_LOCKTYPE_POSIX}
 use Rattle.lnfs_operations.specs.Sequence.{Sent}
 use Rattle.lnfs_operations.specs.Served.{Nowhere, success, plainly, zeros, opened_reply, row}
 use Rattle.lnfs_operations.proofs.BitmapLaws.{bitmap_fits, bitmap_has, bitmap_ends}
@@ -96,7 +96,7 @@ state_id_short : (id : StateId) → length id.other ≡ 12 → length (state_id_
 unfolding state_id_text
 state_id_short id twelve = omega (arith, length-append (word id.seqid) (padded id.other), length-word id.seqid, length-padded id.other, ap rounded twelve)
 
-opened_short : (id : StateId) (info : Cinfo) (set : Bitmap) → length id.other ≡ 12 → BitmapFits set → AllAsked set is_settable → length (result_text (results.Open id info 0 set 0)) ≤ 68
+opened_short : (id : StateId) (info : Cinfo) (set : Bitmap) → length id.other ≡ 12 → BitmapFits set → AllAsked set is_settable → length (result_text (results.Open id info OPEN4_RESULT_LOCKTYPE_POSIX set 0)) ≤ 68
 unfolding fields_text result_text
 opened_short id info set twelve fits asked =
     let set_result = result-bound (results.SetAttr 0 set) (omega arith, fits) asked in

@@ -42,7 +42,7 @@ use Rattle.lnfs_operations.specs.Write.{write, commit}
 use Rattle.lnfs_operations.specs.Extra.{Said, Extra, further_deed}
 use Rattle.lnfs_operations.specs.Results.{Answered, failed, told_result, said_result}
 use Rattle.lnfs_operations.specs.Admission.{admission}
-use Rattle.lnfs_operations.specs.declared.numbers.TheConstants.{FILE_SYNC4}
+use Rattle.lnfs_operations.specs.declared.numbers.TheConstants.{FILE_SYNC4, OPEN4_RESULT_LOCKTYPE_POSIX}
 
 -- where the result of a COMPOUND is kept
 pub data Keeper : Type 0 where
@@ -118,9 +118,9 @@ plainly result it = success result Nowhere
 abbrev pub zeros : ℕ → List ℕ
 zeros n = replicate n 0
 
--- no flags, and no delegation
+-- the flag that tells of locks as POSIX has them, and no delegation
 abbrev pub opened_reply : Opened → Reply
-opened_reply o = success (results.Open o.id o.info 0 o.set 0) Nowhere
+opened_reply o = success (results.Open o.id o.info OPEN4_RESULT_LOCKTYPE_POSIX o.set 0) Nowhere
 
 -- what an operation of the table answers
 abbrev pub row : Site → Sent → Op → Act Reply

@@ -1,4 +1,4 @@
-//! Flags of the protocol (RFC 8881 section 18.35.3) and limits of this server. The numbers of
+//! Flags of the protocol (RFC 8881 sections 18.16 and 18.35) and limits of this server. The numbers of
 //! operations and their statuses stand in `lnfs_arguments`, and the limits of rows that the crates
 //! below share in `lnfs_world`.
 
@@ -10,6 +10,9 @@ pub const EXCHGID4_FLAG_CONFIRMED_R: u32 = 0x8000_0000;
 
 /// A flag of replies: the server is not a pNFS server.
 pub const EXCHGID4_FLAG_USE_NON_PNFS: u32 = 0x0001_0000;
+
+/// A flag of OPEN's results: locks of byte ranges are cut, joined and changed as POSIX has it.
+pub const OPEN4_RESULT_LOCKTYPE_POSIX: u32 = 0x0000_0004;
 
 /// How many client records a level may have.
 pub const CLIENTS_OF_A_LEVEL: u32 = 64;

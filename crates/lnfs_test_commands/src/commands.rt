@@ -131,7 +131,7 @@ const SUMMARIES: [(&str, &str); 4] = [
     ),
     (
         "thousand",
-        "events 1000\nreplies 1000\nfailed 571\ndigest 9f5e3a67cc2aaff3fe91ce3f1012ecbb4cf20224e249ffe9deb9cf6607be369e\n",
+        "events 1000\nreplies 1000\nfailed 571\ndigest e752c6924ad767887b33618b5850cfadca170afabd9d5ff69de04a71266dd50e\n",
     ),
 ];
 

@@ -7,6 +7,7 @@ use Rattle.lnfs_engine.specs.Places.{place_of}
 use Rattle.lnfs_engine.specs.Performs.{site_in}
 use Rattle.lnfs_results.specs.declared.types.OpResult.{OpResult}
 use Rattle.lnfs_operations.specs.Open.{Opened, open_file}
+use Rattle.lnfs_operations.specs.declared.numbers.TheConstants.{OPEN4_RESULT_LOCKTYPE_POSIX}
 use Rattle.lnfs_tree.specs.Rows.{id_of}
 use Rattle.lnfs_files.specs.declared.opened.Opened as code
 use Rattle.lnfs_files.specs.Openings.{args_of, opened_of}
@@ -18,7 +19,7 @@ abbrev lands : Place → code.Opened → Place
 lands q o = record q { current = Some (id_of o.node) }
 
 abbrev result_of : Opened → OpResult
-result_of o = results.Open o.id o.info 0 o.set 0
+result_of o = results.Open o.id o.info OPEN4_RESULT_LOCKTYPE_POSIX o.set 0
 
 pub returns-clause-serves : goal.returns-clause-serves
 returns-clause-serves g c = λ rest tells.
