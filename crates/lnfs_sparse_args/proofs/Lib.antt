@@ -1,0 +1,2 @@
+mod StateIds
+pub mod Deciding
