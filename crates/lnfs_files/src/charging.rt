@@ -32,7 +32,7 @@ pub fn room_for(site: &Site<'_>, quota: &Quota, level: Level) -> bool
 
 /// Whether a level's bytes stay within its limit where a file of it goes from `old` bytes to `new`. They do where it doesn't
 /// grow, above the limit too.
-pub(crate) fn byte_room(site: &Site<'_>, quota: &Quota, level: Level, old: u64, new: u64) -> bool
+pub fn byte_room(site: &Site<'_>, quota: &Quota, level: Level, old: u64, new: u64) -> bool
     requires held { AreBytesHeld quota.now level.0 old }
     ensures room { (w : World) (n : Node) → AreTotals quota.now w.nodes → n.label ≡ level.0 →
         length n.inner.content ≡ old →

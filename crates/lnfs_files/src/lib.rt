@@ -29,7 +29,7 @@ mod wanted;
 mod writing;
 
 pub use asked::Opening;
-pub use charging::{credit, room_for};
+pub use charging::{byte_room, credit, room_for};
 pub use closing::close;
 pub use committing::commit;
 pub use files::{check_file, usable_file};
