@@ -1,6 +1,7 @@
 pub mod Served
 pub mod Bounds
 pub mod Feeding
+pub mod Turns
 pub mod Breaking
 pub mod Verdicts
 pub mod Few

@@ -113,7 +113,7 @@ pub(crate) fn serve_all<O: Outside>(
     let total = length_of(traffic);
     let mut reader = TrafficReader::new(alloc);
     let mut fed = 0;
-    for _ in 0..u64::MAX {
+    'turns: loop {
         let event = match reader.next() {
             Ok(Some(event)) => event,
             Ok(None) => {
@@ -127,5 +127,4 @@ pub(crate) fn serve_all<O: Outside>(
         };
         serve_event(alloc, codecs, server, event, shown, outside)?;
     }
-    Err(Stop::Memory)
 }

@@ -5,4 +5,5 @@ pub mod Summing
 pub mod Spelling
 pub mod Ruling
 pub mod Replaying
+pub mod Turns
 pub mod Running

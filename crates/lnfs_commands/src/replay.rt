@@ -1,5 +1,5 @@
 //! Serving a recording's events, one after another, as their file is read.
-ghost use Rattle.std.specs.Prelude.{◌≡◌, ◌++◌, ◌∷◌, ◌<◌, [], IfOk, OnOk, length, unwrap_or};
+ghost use Rattle.std.specs.Prelude.{◌≡◌, ◌++◌, ◌∷◌, ◌<◌, ◌^◌, [], IfOk, OnOk, length, unwrap_or};
 ghost use Rattle.lnfs_types.specs.Moments.{Fits};
 ghost use Rattle.lnfs_step.specs.Journal.{answer_with};
 ghost use Rattle.lnfs_stage.specs.Due.{written};
@@ -48,6 +48,7 @@ fn serve_event<M: Mechanism + Drop, X: ReadExtra, O: Outside>(
     ensures left { (O.seen outside.new).left ≡ (O.seen outside.old).left }
     ensures state { OnOk result (vault.new ≡ record vault.old
         { journal = vault.old.journal ++ event ∷ [] }) }
+    ensures few { OnOk result (length vault.new.journal < 2 ^ 64) }
 {
     let served = vault.serve(codecs, event)?;
     let bytes = frame(alloc, served.reply);
@@ -104,7 +105,7 @@ pub fn replay<M: Mechanism + Drop, X: ReadExtra, O: Outside>(
 {
     let mut reader = TrafficReader::new(alloc);
     let mut buf = [0u8; PIECE];
-    for _ in 0..u64::MAX {
+    'turns: loop {
         let event = match reader.next() {
             Ok(Some(event)) => event,
             Ok(None) => {
@@ -117,5 +118,4 @@ pub fn replay<M: Mechanism + Drop, X: ReadExtra, O: Outside>(
         };
         serve_event(alloc, codecs, vault, event, outside)?;
     }
-    Err(Stop::Memory)
 }

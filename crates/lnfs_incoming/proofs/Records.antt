@@ -21,7 +21,7 @@ fragment_within false before head f back e m =
     omega (arith, all, within)
 
 -- a fragment's bytes are within the limit, behind those of the fragments before
-body_within : (before : ℕ) (f : Fragment) (bytes : List ℕ) → Spells (fragment before) f bytes → before + length f.body ≤ record_limit
+pub body_within : (before : ℕ) (f : Fragment) (bytes : List ℕ) → Spells (fragment before) f bytes → before + length f.body ≤ record_limit
 unfolding fragment
 body_within before f bytes s = fragment_within (nat_lt record_limit (before + s.0 % last_bit)) before s.0 f s.2 refl s.4
 

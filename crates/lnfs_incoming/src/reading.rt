@@ -1,6 +1,7 @@
 //! Records that come over a link.
-ghost use Rattle.std.specs.Prelude.{◌≡◌, ◌≤◌, []};
-ghost use Rattle.lnfs_incoming.specs.Incoming.{Cuts, ReadOn};
+ghost use Rattle.std.specs.Prelude.{◌≡◌, ◌<◌, ◌≤◌, [], length};
+ghost use Rattle.lnfs_rpc.specs.Records.{IsPartial};
+ghost use Rattle.lnfs_incoming.specs.Incoming.{Cuts, ReadOn, partial_limit};
 
 use crate::buffer::ReadBuffer;
 use crate::ending::Ending;
@@ -44,11 +45,18 @@ impl Incoming {
     }
 }
 
+/// A record that isn't whole yet, and not too long so far, has fewer bytes than the limits on its length and its
+/// fragments allow.
+fn short_while_partial(bytes: &[u8])
+    ensures { IsPartial bytes.now → length bytes.now < partial_limit }
+{}
+
 /// The next record of what was read. None where it isn't whole yet; an error where the service ends.
 pub fn next_record(incoming: &mut Incoming) -> Result<Option<Octets>, Ending>
     ensures { Cuts result incoming.old incoming.new }
 {
     let bytes = incoming.buffer.as_slice();
+    short_while_partial(bytes);
     match incoming.deframer.next(incoming.alloc, bytes) {
         Ok(Some(Deframed { record, length })) => {
             incoming.buffer.take_off(length);

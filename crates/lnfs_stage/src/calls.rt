@@ -81,7 +81,7 @@ fn read_rest<F: Files>(alloc: Global, files: &mut F) -> Result<Vec<u8>, Stop>
 {
     let mut bytes = Vec::new(alloc);
     let mut buf = [0u8; PIECE];
-    for _ in 0..u64::MAX {
+    loop {
         let Ok(count) = files.read(&mut buf) else {
             return Err(Stop::ReadFault);
         };
@@ -90,7 +90,6 @@ fn read_rest<F: Files>(alloc: Global, files: &mut F) -> Result<Vec<u8>, Stop>
         }
         bytes.extend_from_slice(&buf[..count])?;
     }
-    Err(Stop::Memory)
 }
 
 /// Reads the file of the name whole, or tells that there is none.
