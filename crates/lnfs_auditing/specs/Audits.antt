@@ -20,7 +20,7 @@ use Rattle.lnfs_stage.specs.declared.stop.Stop.TheVariants as stop
 use Rattle.lnfs_stage.specs.Due.{Due, ends, given}
 use Rattle.lnfs_stage.specs.Contents.{Contents, first, others}
 use Rattle.lnfs_commands.specs.Commands.{judged, shown}
-use Rattle.lnfs_commands.specs.Further.{further}
+use Rattle.lnfs_further.specs.Further.{further}
 
 -- ---- what is shown
 

@@ -1,6 +1,6 @@
 //! The further operations of each vault that an audit makes.
 use lnfs_audit::Fresh;
-use lnfs_commands::{Further, new_further};
+use lnfs_further::{Further, new_further};
 use std::alloc::{AllocError, Global};
 
 /// Makes the further operations of the program's servers, with no rows.

@@ -8,8 +8,9 @@ ghost use Rattle.lnfs_auditing.specs.Audits.{audit_due, audited, compared, findi
 
 use crate::anew::Anew;
 use lnfs_audit::{AuditError, Finding, audit_purged_with_extra, audit_with_extra, some_finding};
-use lnfs_commands::{Audit, new_further, rules_of};
+use lnfs_commands::{Audit, rules_of};
 use lnfs_format::Codecs;
+use lnfs_further::new_further;
 use lnfs_gss3::KeyedDigest;
 use lnfs_policy::{Mode, Policy};
 use lnfs_stage::{Ending, Outside, Stop, close, tell};

@@ -6,8 +6,8 @@ use Rattle.lnfs_gss3.specs.Mechanism.{Signing}
 use Rattle.lnfs_world.specs.World.{World}
 use Rattle.lnfs_world.specs.Both.{Both, both}
 use Rattle.lnfs_operations.specs.Extra.{Extra}
-use Rattle.lnfs_locks.specs.Locks.{Locks, rows_of}
-use Rattle.lnfs_locks.specs.Outcome.{locking}
+use Rattle.lnfs_locks.specs.Locks.{Locks}
+use Rattle.lnfs_further.specs.Further.{further, further_rows}
 use Rattle.lnfs_step.specs.Step.{Line, step_with}
 use Rattle.lnfs_step.specs.Journal.{line_with, answer_with}
 
@@ -20,8 +20,8 @@ pub record Resumed : Type 0 where
   pub stopped : Bool
 
 -- the state that stands: the further rows are those of the locks
-abbrev pub state_of : World → Locks → Both (locking).Row
-state_of w own = both w (rows_of own)
+abbrev pub state_of : World → Locks → Both (further).Row
+state_of w own = both w (further_rows own)
 
 -- what an event gets: its reply, its line, and its number
 pub record Got : Type 0 where

@@ -14,8 +14,8 @@ ghost use Rattle.lnfs_lock_rows.specs.Told.{locks_told};
 ghost use Rattle.lnfs_checkpoint.specs.Checkpoint.{IsFit};
 ghost use Rattle.lnfs_checkpoint.specs.Made.{CanBeMade};
 
-use lnfs_byte_locks::Ranges;
 use lnfs_engine::Store;
+use lnfs_further::{Further, with_locks};
 use lnfs_gss3::Contexts;
 use lnfs_lock_rows::LockRows;
 use lnfs_locking::Locks;
@@ -73,27 +73,27 @@ fn made_of(alloc: Global, lists: &Lists<'_>) -> Result<Store, AllocError>
     Store::from_parts(alloc, clients, tree, opens, contexts, &lists.nodes)
 }
 
-/// Locks of rows of which they can be made.
-fn locks_of(alloc: Global, rows: &LockRows<'_>) -> Result<Ranges, AllocError>
+/// Further operations with the locks of rows of which they can be made.
+fn further_of(alloc: Global, rows: &LockRows<'_>) -> Result<Further, AllocError>
     requires { MakesLocks (locks_told rows.now) }
-    ensures { IfOk result (λ made. made ≡ locks_told rows.now) }
+    ensures { IfOk result (λ made. made.first ≡ locks_told rows.now) }
 {
-    Ok(Ranges::from_locks(Locks::from_rows(alloc, rows)?))
+    Ok(with_locks(Locks::from_rows(alloc, rows)?))
 }
 
-/// The store of a world and the locks that a server of a policy may have.
+/// The store of a world, and further operations with the locks, that a server of a policy may have.
 pub(crate) fn parts_of(
     alloc: Global,
     policy: &Policy,
     lists: &Lists<'_>,
     rows: &LockRows<'_>,
-) -> Result<(Store, Ranges), AllocError>
+) -> Result<(Store, Further), AllocError>
     requires { IsFit policy.now (world_of lists.now) (locks_told rows.now) }
     ensures world { IfOk result (λ made. made.0 ≡ world_of lists.now) }
-    ensures locks { IfOk result (λ made. made.1 ≡ locks_told rows.now) }
+    ensures locks { IfOk result (λ made. made.1.first ≡ locks_told rows.now) }
 {
     // A policy has few levels, and the numbers of its parents have 32 bits.
     policy.law_policy();
     let _levels = policy.lattice().len();
-    Ok((made_of(alloc, lists)?, locks_of(alloc, rows)?))
+    Ok((made_of(alloc, lists)?, further_of(alloc, rows)?))
 }

@@ -64,8 +64,8 @@ fn resumed_from<M: Mechanism + Drop>(
     ensures policy { IfOk result (λ r. r.policy ≡ policy) }
     ensures running { IfOk result (λ r. r.stopped ≡ false) }
 {
-    let (store, ranges) = parts_of(alloc, &policy, &laid.lists, &laid.locks)?;
-    let core = Core::from_parts(alloc, policy, codecs, mechanism, store, ranges)?;
+    let (store, further) = parts_of(alloc, &policy, &laid.lists, &laid.locks)?;
+    let core = Core::from_parts(alloc, policy, codecs, mechanism, store, further)?;
     Ok(Resumed {
         core,
         events: laid.events,

@@ -2,7 +2,7 @@
 ghost use Rattle.std.specs.Prelude.{◌≡◌, ◌+◌, ◌<◌, ◌≤◌, ◌^◌, Some, true, false, IfOk, IfSome, OnOk, OnErr, IsErr, length};
 ghost use Rattle.lnfs_types.specs.declared.limits.TheConstants.{RECORD_LIMIT};
 ghost use Rattle.lnfs_types.specs.Moments.{Fits};
-ghost use Rattle.lnfs_locks.specs.Outcome.{locking};
+ghost use Rattle.lnfs_further.specs.Further.{further};
 ghost use Rattle.lnfs_xdr.specs.Message.{Tells};
 ghost use Rattle.lnfs_layout.specs.declared.numbers.TheConstants.{MOST_EVENTS};
 ghost use Rattle.lnfs_layout.specs.Whole.{Told};
@@ -13,11 +13,12 @@ ghost use Rattle.lnfs_checkpoint.specs.Checkpoint.{checkpoint, checkpoint_text, 
 ghost use Rattle.lnfs_checkpoint.specs.Resumed.{state_of};
 
 use crate::telling::write_checkpoint;
-use lnfs_byte_locks::Ranges;
 use lnfs_format::Codecs;
+use lnfs_further::{Further, new_further};
 use lnfs_gss3::Mechanism;
 use lnfs_lock_bounds::locks_are_bounded;
 use lnfs_policy::Policy;
+use lnfs_sparse::Sparse;
 use lnfs_step::contexts_fit;
 use lnfs_types::Event;
 use lnfs_vault::{Core, Served};
@@ -27,7 +28,7 @@ use std::marker::Model;
 /// A server's lists and locks after events that were served elsewhere, and how many there were.
 #[derive(Drop)]
 pub struct Resumed<M: Mechanism + Drop> {
-    pub(crate) core: Core<M, Ranges>,
+    pub(crate) core: Core<M, Further>,
     pub(crate) events: u64,
 }
 
@@ -38,10 +39,10 @@ impl<M: Mechanism + Drop> Model for Resumed<M> {
 
     ghost Value = { Resumed };
 
-    ghost view = { λ r. record { policy = r.core.policy; events = r.events; world = r.core.world; locks = r.core.extra; stopped = r.core.stopped } };
+    ghost view = { λ r. record { policy = r.core.policy; events = r.events; world = r.core.world; locks = r.core.extra.first; stopped = r.core.stopped } };
 
     // the state is one that a server of this policy may have
-    ghost invariant = { λ r. r.core.stopped ≡ false → IsFit r.core.policy r.core.world r.core.extra };
+    ghost invariant = { λ r. r.core.stopped ≡ false → IsFit r.core.policy r.core.world r.core.extra.first };
 }
 
 impl<M: Mechanism + Drop> Resumed<M> {
@@ -58,13 +59,13 @@ impl<M: Mechanism + Drop> Resumed<M> {
     ) -> Result<Resumed<M>, AllocError>
         ensures policy { IfOk result (λ r. r.policy ≡ policy) }
         ensures events { IfOk result (λ r. r.events ≡ 0) }
-        ensures state { IfOk result (λ r. state_of r.world r.locks ≡ first_state locking policy) }
+        ensures state { IfOk result (λ r. state_of r.world r.locks ≡ first_state further policy) }
         ensures running { IfOk result (λ r. r.stopped ≡ false) }
     {
-        contexts_fit::<Ranges, M>();
-        locks_are_bounded::<M>();
+        contexts_fit::<Further, M>();
+        locks_are_bounded::<Sparse, M>();
         policy.law_policy();
-        let core = Core::with_extra(alloc, policy, codecs, mechanism, Ranges::new(alloc))?;
+        let core = Core::with_extra(alloc, policy, codecs, mechanism, new_further(alloc))?;
         Ok(Resumed { core, events: 0 })
     }
 
@@ -82,14 +83,14 @@ impl<M: Mechanism + Drop> Resumed<M> {
     pub fn serve(&mut self, codecs: &Codecs, event: &Event) -> Result<Served, AllocError>
         requires event { Fits event.now }
         requires few { self.old.events < 2 ^ 63 }
-        ensures reply { IfOk result (λ served. served.reply ≡ (step_with locking M.signing
+        ensures reply { IfOk result (λ served. served.reply ≡ (step_with further M.signing
             self.old.policy (state_of self.old.world self.old.locks) event.now).reply) }
         ensures line { IfOk result (λ served. IsLineOf (self.old.events + 1)
-            (step_with locking M.signing self.old.policy
+            (step_with further M.signing self.old.policy
             (state_of self.old.world self.old.locks) event.now).line served.line) }
         ensures at { IfOk result (λ served. served.at ≡ self.old.events + 1) }
         ensures state { OnOk result (state_of self.new.world self.new.locks
-            ≡ (step_with locking M.signing self.old.policy
+            ≡ (step_with further M.signing self.old.policy
             (state_of self.old.world self.old.locks) event.now).state) }
         ensures events { OnOk result (self.new.events ≡ self.old.events + 1) }
         ensures ok { OnOk result (self.new.stopped ≡ false) }
@@ -100,8 +101,8 @@ impl<M: Mechanism + Drop> Resumed<M> {
         ensures short { IfOk result (λ served. IfSome served.reply (λ reply. length reply
             ≤ RECORD_LIMIT)) }
     {
-        contexts_fit::<Ranges, M>();
-        locks_are_bounded::<M>();
+        contexts_fit::<Further, M>();
+        locks_are_bounded::<Sparse, M>();
         self.core.policy().law_policy();
         let number = self.events + 1;
         let served = self.core.step(codecs, number, event)?;

@@ -13,8 +13,8 @@ ghost use Rattle.lnfs_layout.specs.Whole.{Told};
 ghost use Rattle.lnfs_checkpoint.specs.Checkpoint.{checkpoint, checkpoint_text, digest_of};
 ghost use Rattle.lnfs_checkpoint.specs.Telling.{AreLastsOf};
 
-use lnfs_byte_locks::Ranges;
 use lnfs_engine::Store;
+use lnfs_further::Further;
 use lnfs_gss3::Mechanism;
 use lnfs_layout::write_layout;
 use lnfs_lock_rows::LockRows;
@@ -121,23 +121,29 @@ fn bytes_of(
 /// `AllocError` where there is no memory, and where want of memory has stopped the core.
 pub fn write_checkpoint<M: Mechanism + Drop>(
     alloc: Global,
-    core: &Core<M, Ranges>,
+    core: &Core<M, Further>,
     events: u64,
 ) -> Result<Vec<u8>, AllocError>
     requires events { events ≤ MOST_EVENTS }
     requires kept { core.now.stopped ≡ false → IsSound (site_of core.now.policy) core.now.world }
     requires locks { core.now.stopped ≡ false →
-        LocksFit (site_of core.now.policy) core.now.world core.now.extra }
+        LocksFit (site_of core.now.policy) core.now.world core.now.extra.first }
     ensures text { IfOk result (λ bytes. bytes.items
-        ≡ checkpoint_text core.now.policy events core.now.world core.now.extra) }
+        ≡ checkpoint_text core.now.policy events core.now.world core.now.extra.first) }
     // It is read again, as that state.
     ensures again { IfOk result (λ bytes. Tells (checkpoint core.now.policy)
-        (Some (record { events = events; world = core.now.world; locks = core.now.extra }))
+        (Some (record { events = events; world = core.now.world; locks = core.now.extra.first }))
         bytes.items) }
     ensures stopped { core.now.stopped ≡ true → IsErr result }
 {
     let Some(store) = core.store() else {
         return Err(AllocError);
     };
-    bytes_of(alloc, core.policy(), store, core.extra().locks(), events)
+    bytes_of(
+        alloc,
+        core.policy(),
+        store,
+        core.extra().first().locks(),
+        events,
+    )
 }

@@ -15,7 +15,7 @@ use Rattle.lnfs_checkpoint.proofs.Serving.{state_again}
 use Rattle.lnfs_stage.specs.Writes.{Write, on_out, on_audit}
 use Rattle.lnfs_commands.specs.Commands.{replayed}
 use Rattle.lnfs_commands.specs.Events.{audit_with, writes_after, lines_after}
-use Rattle.lnfs_commands.specs.Further.{further}
+use Rattle.lnfs_further.specs.Further.{further}
 use Rattle.lnfs_checkpointing.specs.Checkpoints.{line_alone, reply_and_line, writes_of, ending_after, resumed, told_behind}
 
 module _ (p : Policy) where

@@ -23,7 +23,7 @@ use Rattle.lnfs_stage.specs.Due.{Due, written, ends, and_then}
 use Rattle.lnfs_stage.specs.Does.{Does}
 use Rattle.lnfs_stage.proofs.Doing.{does_nothing, does_end, does_short, does_first, does_then, as_value}
 use Rattle.lnfs_commands.specs.Replays.{ending_of}
-use Rattle.lnfs_commands.specs.Further.{further}
+use Rattle.lnfs_further.specs.Further.{further}
 use Rattle.lnfs_commands.proofs.Replaying.{Firsts, firsts, last_fits, whole_ending, damaged_ending, as_due, due_of}
 use Rattle.lnfs_checkpoint.specs.Resumed.{Resumed, Got, got_from, state_of}
 use Rattle.lnfs_checkpointing.specs.Checkpoints.{served, writes_of, ending_after}

@@ -18,7 +18,7 @@ use Rattle.lnfs_stage.specs.Writes.{Write, to_out, to_audit, on_out}
 use Rattle.lnfs_stage.specs.Due.{written, follow, given}
 use Rattle.lnfs_stage.specs.Contents.{Contents, first, others}
 use Rattle.lnfs_commands.specs.Commands.{replayed}
-use Rattle.lnfs_commands.specs.Further.{further}
+use Rattle.lnfs_further.specs.Further.{further}
 use Rattle.lnfs_checkpointing.specs.Checkpoints.{Ruling, line_alone, writes_of, ending_after, saved, text_behind, told_behind, resumption_behind, resumption_due, IsSaid, IsJudged, IsTakenAgain}
 use Rattle.lnfs_checkpointing.proofs.Breaking.{silent, resumed_is}
 

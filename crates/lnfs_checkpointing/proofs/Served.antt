@@ -13,7 +13,7 @@ use Rattle.lnfs_step.proofs.Steps.{state_from-append}
 use Rattle.lnfs_checkpoint.specs.Resumed.{Resumed, Got, got_from, state_of}
 use Rattle.lnfs_stage.specs.Writes.{Write, to_out, to_audit}
 use Rattle.lnfs_commands.specs.Events.{framed}
-use Rattle.lnfs_commands.specs.Further.{further}
+use Rattle.lnfs_further.specs.Further.{further}
 use Rattle.lnfs_checkpointing.specs.Checkpoints.{writes_of}
 use Rattle.lnfs_checkpointing.specs.declared.serving.Shown.{Shown}
 use Rattle.lnfs_checkpointing.specs.declared.serving.Shown.TheVariants.{LineAlone, ReplyAndLine}

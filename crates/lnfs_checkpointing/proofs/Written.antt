@@ -11,7 +11,6 @@ use Rattle.lnfs_checkpoint.specs.Checkpoint.{checkpoint_text}
 use Rattle.lnfs_checkpoint.specs.Resumed.{Resumed, state_of}
 use Rattle.lnfs_checkpoint.specs.Takes.{IsVerdict, AreBytes, told_of}
 use Rattle.lnfs_checkpoint.proofs.Serving.{locks_again}
-use Rattle.lnfs_locks.specs.Locks.{locks_of}
 use Rattle.lnfs_layout.specs.Whole.{Told}
 use Rattle.lnfs_stage.specs.declared.stop.Stop.{Stop}
 use Rattle.lnfs_stage.specs.declared.stop.Stop.TheVariants.{Memory}
@@ -20,7 +19,7 @@ use Rattle.lnfs_stage.specs.Writes.{to_out}
 use Rattle.lnfs_stage.specs.Due.{Due, written}
 use Rattle.lnfs_stage.specs.Does.{Does}
 use Rattle.lnfs_stage.proofs.Doing.{does_short, does_first, does_then}
-use Rattle.lnfs_commands.specs.Further.{further}
+use Rattle.lnfs_further.specs.Further.{further, locks_in}
 use Rattle.lnfs_checkpointing.specs.Checkpoints.{line_alone, served, saved, text_behind, told_behind, IsTakenAgain}
 use Rattle.lnfs_checkpointing.specs.Servings.{IsNew, IsBehind}
 
@@ -32,7 +31,7 @@ told_is : (r now : Resumed) (events : List Event) → IsNew r → IsBehind r now
 told_is r now events n b =
     let count : now.events ≡ length events = none_before r.events (length events) now.events n.events b.count in
     let state : state_of now.world now.locks ≡ state_after further keyed_digest r.policy events = b.state ∙ ap (λ (x : Both (further).Row). state_from further keyed_digest r.policy x events) n.state in
-    let locks : now.locks ≡ locks_of (state_after further keyed_digest r.policy events).own = sym (locks_again now.locks) ∙ ap (λ (x : Both (further).Row). locks_of x.own) state in
+    let locks : now.locks ≡ locks_in (state_after further keyed_digest r.policy events).own = sym (locks_again now.locks) ∙ ap (λ (x : Both (further).Row). locks_in x.own) state in
     λ i. record { events = count i; world = (state i).world; locks = locks i }
 
 -- the bytes that are due

@@ -9,7 +9,6 @@ use Rattle.lnfs_world.specs.Both.{Both}
 use Rattle.lnfs_gss3.specs.Mechanism.{keyed_digest}
 use Rattle.lnfs_step.specs.Journal.{first_state, state_after, text_of}
 use Rattle.lnfs_traffic.specs.Parts.{recorded, is_recording, place_of}
-use Rattle.lnfs_locks.specs.Locks.{locks_of}
 use Rattle.lnfs_layout.specs.Whole.{Told}
 use Rattle.lnfs_checkpoint.specs.declared.errors.CheckpointError.{CheckpointError}
 use Rattle.lnfs_checkpoint.specs.declared.errors.CheckpointError.TheVariants as errors
@@ -30,7 +29,7 @@ use Rattle.lnfs_stage.specs.Due.{Due, written, given, and_then}
 use Rattle.lnfs_stage.specs.Contents.{Contents, first, others, Follows}
 use Rattle.lnfs_commands.specs.Commands.{judged, ends_by}
 use Rattle.lnfs_commands.specs.Events.{framed}
-use Rattle.lnfs_commands.specs.Further.{further}
+use Rattle.lnfs_further.specs.Further.{further, locks_in}
 
 -- ---- what is written for events that are served, one after another
 
@@ -67,7 +66,7 @@ served each p before b traffic = record {
 abbrev pub told_behind : Policy → List Event → Told
 told_behind p events =
     let b = state_after further keyed_digest p events in
-    record { events = length events; world = b.world; locks = locks_of b.own }
+    record { events = length events; world = b.world; locks = locks_in b.own }
 
 -- its bytes
 abbrev pub text_behind : Policy → List Event → List ℕ

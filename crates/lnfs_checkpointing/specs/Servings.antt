@@ -1,5 +1,5 @@
 -- What calls of the two commands answer.
-use Rattle.std.specs.Prelude.{◌≡◌, ◌+◌, ◌≤◌, ℕ, List, [], ◌∷◌, ◌++◌, length, take, Result, Ok, Err}
+use Rattle.std.specs.Prelude.{◌≡◌, ◌+◌, ◌<◌, ◌≤◌, ℕ, List, [], ◌∷◌, ◌++◌, length, take, Result, Ok, Err}
 use Rattle.std.specs.declared.option.Option.{Option}
 use Rattle.lnfs_types.specs.declared.event.Event.{Event}
 use Rattle.lnfs_policy.specs.Policy.{Policy}
@@ -13,7 +13,7 @@ use Rattle.lnfs_checkpoint.specs.Takes.{Takes}
 use Rattle.lnfs_stage.specs.declared.stop.Stop.{Stop}
 use Rattle.lnfs_stage.specs.Writes.{Write, to_out, to_audit}
 use Rattle.lnfs_commands.specs.Events.{framed}
-use Rattle.lnfs_commands.specs.Further.{further}
+use Rattle.lnfs_further.specs.Further.{further}
 use Rattle.lnfs_checkpointing.specs.declared.serving.Shown.{Shown}
 use Rattle.lnfs_checkpointing.specs.declared.serving.Shown.TheVariants.{LineAlone, ReplyAndLine}
 use Rattle.lnfs_checkpointing.specs.Checkpoints.{line_alone, reply_and_line, stop_of}
@@ -45,10 +45,11 @@ pub record IsBehind (old new : Resumed) (events : List Event) : Type 0 where
   pub count : new.events ≡ old.events + length events
   pub state : state_of new.world new.locks ≡ state_from further keyed_digest old.policy (state_of old.world old.locks) events
 
--- more of a recording was fed, in one piece
+-- more of a recording was fed, in one piece: a byte at least, where one was left
 pub record IsFedOn (traffic : List ℕ) (fed now : ℕ) (old new : Unread) : Type 0 where
   pub piece : List ℕ
   pub within : now ≤ length traffic
+  pub on : fed < length traffic → fed < now
   pub parts : take now traffic ≡ take fed traffic ++ piece
   pub reader : new ≡ fed_to old piece
 

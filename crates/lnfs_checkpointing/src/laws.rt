@@ -16,11 +16,11 @@ ghost use Rattle.lnfs_stage.specs.Ending.{told_by};
 ghost use Rattle.lnfs_stage.specs.Writes.{on_out, on_audit};
 ghost use Rattle.lnfs_commands.specs.Commands.{replayed};
 ghost use Rattle.lnfs_commands.specs.Events.{audit_with, lines_after};
-ghost use Rattle.lnfs_commands.specs.Further.{further};
+ghost use Rattle.lnfs_further.specs.Further.{further};
 ghost use Rattle.lnfs_checkpointing.specs.Checkpoints.{Ruling, line_alone, resumed, resumption_due, saved, text_behind, told_behind, writes_of, IsJudged, IsTakenAgain};
 
 use lnfs_checkpoint::one_verdict;
-use lnfs_commands::Further;
+use lnfs_further::Further;
 use lnfs_gss3::KeyedDigest;
 use lnfs_step::purge;
 

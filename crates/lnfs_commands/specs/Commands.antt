@@ -24,7 +24,7 @@ use Rattle.lnfs_stage.specs.Due.{Due, written, ends, given}
 use Rattle.lnfs_stage.specs.Contents.{Contents, first, others}
 use Rattle.lnfs_commands.specs.Events.{audit_with, writes_after}
 use Rattle.lnfs_commands.specs.Summary.{summary}
-use Rattle.lnfs_commands.specs.Further.{further}
+use Rattle.lnfs_further.specs.Further.{further}
 use Rattle.lnfs_commands.specs.Words.{Task, check, migrate, replay, translate, generate, Form, help, version, under, help_text, version_text}
 
 -- a text on standard output

@@ -3,7 +3,6 @@ pub mod Words
 pub mod Lines
 pub mod Events
 pub mod Summary
-pub mod Further
 pub mod Commands
 pub mod Rules
 pub mod Replays

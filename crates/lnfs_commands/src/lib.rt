@@ -8,11 +8,11 @@
 mod alone;
 mod command;
 pub mod frame;
-mod further;
 pub mod laws;
 mod perform;
 pub mod replay;
 mod rules;
+mod server;
 mod summary;
 mod team;
 mod texts;
@@ -20,6 +20,6 @@ mod words;
 
 pub use alone::run_alone;
 pub use command::{Asked, Audit, Command, Resumption, Saving, Service, Task, Visit, Work};
-pub use further::{Further, Server, new_further, new_server};
 pub use rules::rules_of;
+pub use server::{Server, new_server};
 pub use team::Team;

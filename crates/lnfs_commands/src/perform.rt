@@ -5,14 +5,14 @@ ghost use Rattle.lnfs_gss3.specs.Mechanism.{keyed_digest};
 ghost use Rattle.lnfs_stage.specs.Contents.{Follows};
 ghost use Rattle.lnfs_stage.specs.Does.{Does};
 ghost use Rattle.lnfs_commands.specs.Commands.{due, due_under, files_of, files_under, generation_due};
-ghost use Rattle.lnfs_commands.specs.Further.{further};
+ghost use Rattle.lnfs_further.specs.Further.{further};
 ghost use Rattle.lnfs_commands.specs.Runs.{IsUntouched};
 ghost use Rattle.lnfs_commands.specs.Words.{named, replay, task_of, under};
 
 use crate::command::{Command, Task};
-use crate::further::new_server;
 use crate::replay::replay;
 use crate::rules::rules_of;
+use crate::server::new_server;
 use crate::summary::sum_up;
 use crate::texts::{check, migrate, translate};
 use crate::words::{help, version};

@@ -1,3 +1,4 @@
 mod RangeEnds
 pub mod OwnRows
 mod BoundLocks
+mod BesideLocks

@@ -19,7 +19,7 @@ use Rattle.lnfs_stage.specs.Due.{Due, line_for, told, given}
 use Rattle.lnfs_stage.specs.Contents.{Contents, first, others, AllHold}
 use Rattle.lnfs_commands.specs.Commands.{replayed}
 use Rattle.lnfs_commands.specs.Words.{save, resume}
-use Rattle.lnfs_commands.specs.Further.{further}
+use Rattle.lnfs_further.specs.Further.{further}
 use Rattle.lnfs_service.specs.Handed.{Dealings}
 use Rattle.lnfs_checkpointing.specs.Checkpoints.{Ruling, saved, saving_due, resumption_due, text_behind, IsJudged, IsTakenAgain}
 use Rattle.lnfs_program.specs.Runs.{Runs, streams}

@@ -12,7 +12,7 @@ use Rattle.lnfs_stage.specs.Writes.{Takes}
 use Rattle.lnfs_stage.specs.Ending.{told_by}
 use Rattle.lnfs_stage.specs.Due.{Due, told, given}
 use Rattle.lnfs_commands.specs.Commands.{replayed}
-use Rattle.lnfs_commands.specs.Further.{further}
+use Rattle.lnfs_further.specs.Further.{further}
 
 -- the file of a name spells the policy
 pub record IsSpelledIn (look : List ℕ → Option (List ℕ)) (name : List ℕ) (p : Policy) : Type 0 where

@@ -12,7 +12,7 @@ use Rattle.lnfs_stage.specs.Seen.{Seen}
 use Rattle.lnfs_stage.specs.Due.{Due}
 use Rattle.lnfs_stage.specs.Does.{DoesBy}
 use Rattle.lnfs_stage.proofs.Doing.{beside_net, then_by}
-use Rattle.lnfs_commands.specs.Further.{further}
+use Rattle.lnfs_further.specs.Further.{further}
 use Rattle.lnfs_commands.specs.Rules.{IsTaken, RulesIn}
 use Rattle.lnfs_commands.proofs.Ruling.{stopped_rules, under_rules, was_ruled}
 use Rattle.lnfs_service.specs.Handed.{Dealings, dealings, IsSpelled, IsService}

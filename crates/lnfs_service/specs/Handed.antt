@@ -7,7 +7,7 @@ use Rattle.lnfs_types.specs.declared.event.Moment.{Moment}
 use Rattle.lnfs_gss3.specs.Mechanism.{keyed_digest}
 use Rattle.lnfs_stage.specs.declared.status.Status.{Status}
 use Rattle.lnfs_stage.specs.declared.status.Status.TheVariants as status
-use Rattle.lnfs_commands.specs.Further.{further}
+use Rattle.lnfs_further.specs.Further.{further}
 use Rattle.lnfs_commands.specs.Rules.{IsTaken}
 use Rattle.lnfs_service.specs.Session.{Session, FoundMemory, IsSession, IsRefused, IsShort, Nothing}
 

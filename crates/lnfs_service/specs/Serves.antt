@@ -21,7 +21,7 @@ use Rattle.lnfs_stage.specs.Due.{Due, written, given}
 use Rattle.lnfs_stage.specs.Does.{DoesBy, Holds}
 use Rattle.lnfs_commands.specs.Commands.{judged}
 use Rattle.lnfs_commands.specs.Events.{audit_with, each_line}
-use Rattle.lnfs_commands.specs.Further.{further}
+use Rattle.lnfs_further.specs.Further.{further}
 use Rattle.lnfs_service.specs.Handed.{Dealings, Deals, IsSpelled, IsService, AreServed}
 use Rattle.lnfs_service.specs.Session.{Session, IsSession, link_lines}
 

@@ -3,7 +3,7 @@ ghost use Rattle.std.specs.Prelude.{[]};
 ghost use Rattle.lnfs_stage.specs.Due.{told};
 ghost use Rattle.lnfs_stage.specs.Does.{HandedOn};
 ghost use Rattle.lnfs_stage.specs.Ending.{status_of};
-ghost use Rattle.lnfs_commands.specs.Further.{further};
+ghost use Rattle.lnfs_further.specs.Further.{further};
 ghost use Rattle.lnfs_service.specs.Handed.{dealings};
 ghost use Rattle.lnfs_service.specs.Serves.{IsIdleBefore, Offers, Serves};
 

@@ -18,15 +18,15 @@ use std::alloc::{AllocError, Global};
 /// OPEN.
 const OPENED: &str = "
 a mode | 24 18 0 3 0 BY_O 1 0 2 0 2 4 448 CALLED_F 10 9 2 26 10 | \
-0 5 24 0 18 0 ID_1 1 0 1 0 2 0 2 0 2 0 10 0 12 0 0 5 9 0 2 26 10 28 1 0 1 0 0 448 1
-a size of 0, guarded | 24 18 0 2 0 BY_O 1 1 1 16 8 0 0 CALLED_F 10 | 0 4 24 0 18 0 ID_1 1 0 1 0 2 0 1 16 0 10 0 12 0 0 5
+0 5 24 0 18 0 ID_1 1 0 1 0 2 4 2 0 2 0 10 0 12 0 0 5 9 0 2 26 10 28 1 0 1 0 0 448 1
+a size of 0, guarded | 24 18 0 2 0 BY_O 1 1 1 16 8 0 0 CALLED_F 10 | 0 4 24 0 18 0 ID_1 1 0 1 0 2 4 1 16 0 10 0 12 0 0 5
 made by a verifier, and found by it | 24 18 0 1 0 BY_O SOLE CALLED_F 24 18 0 1 0 BY_P SOLE CALLED_F 10 | \
 0 6 24 0 MADE_F 24 0 18 0 1 0 0 2 KEPT 10 0 12 0 0 5
 found by its verifier, and cut | \
 24 18 0 3 0 BY_O SOLE CALLED_F SIX 24 18 0 2 0 BY_O 1 3 7 9 1 16 8 0 0 CALLED_F 9 1 24 | \
-0 7 24 0 MADE_F WROTE_6 24 0 18 0 2 0 0 1 1 0 2 0 2 0 1 16 0 9 0 1 24 16 0 3 0 0
+0 7 24 0 MADE_F WROTE_6 24 0 18 0 2 0 0 1 1 0 2 0 2 4 1 16 0 9 0 1 24 16 0 3 0 0
 its own label, in another format | 24 18 0 1 0 BY_O 1 0 3 0 0 65536 16 103 0 4 'open' CALLED_F 9 LABELLED | \
-0 4 24 0 18 0 ID_1 1 0 1 0 2 0 LABELLED 0 9 0 LABEL_0
+0 4 24 0 18 0 ID_1 1 0 1 0 2 4 LABELLED 0 9 0 LABEL_0
 once more by its owner, by the name and by the handle | \
 24 18 0 1 0 BY_O PLAIN CALLED_F 24 18 0 2 2 BY_O 0 CALLED_F 18 0 1 0 BY_O 0 4 38 3 0 0 1 0 0 2 0 25 3 0 0 1 0 0 1 | \
 0 8 24 0 MADE_F 24 0 18 0 2 0 0 1 KEPT 18 0 3 0 0 1 HELD 38 0 0 2 0 0 25 0 1 0
@@ -35,7 +35,7 @@ one that is there keeps its data and its mode | \
 0 7 24 0 MADE_F WROTE_6 24 0 18 0 1 0 0 2 KEPT 9 0 2 24 2 20 0 2 0 6 420
 one that is there is cut, and keeps its mode | \
 24 MAKE_F SIX 24 18 0 2 0 BY_P 1 0 2 16 2 12 0 0 448 CALLED_F 9 2 24 2 | \
-0 7 24 0 MADE_F WROTE_6 24 0 18 0 1 0 0 2 1 0 2 0 2 0 1 16 0 9 0 2 24 2 20 0 3 0 0 420
+0 7 24 0 MADE_F WROTE_6 24 0 18 0 1 0 0 2 1 0 2 0 2 4 1 16 0 9 0 2 24 2 20 0 3 0 0 420
 bits that want delegations, beside that of reading | 24 18 0 0x00000401 0 BY_O PLAIN CALLED_F 38 ID_1 0 0 2 0 | \
 10038 4 24 0 MADE_F 38 10038 | 4 38 O 10038
 a sequence and a client id that aren't looked at | 24 18 7 3 0 9 9 1 'o' 0x000000 PLAIN CALLED_F | 0 3 24 0 MADE_F
@@ -175,7 +175,7 @@ zeros, of the sequence 2 | 24 MAKE_F 25 2 0 0 0 0 0 4 | 10025 4 24 0 MADE_F 25 1
 of no open | 24 MAKE_F 25 1 0 0 2 0 0 4 | 10025 4 24 0 MADE_F 25 10025 | 4 25 O 10025
 of a number of 33 bits | 24 MAKE_F 25 1 0 1 1 0 0 4 | 10025 4 24 0 MADE_F 25 10025 | 4 25 O 10025
 of another file | 24 MAKE_F 24 18 0 3 0 BY_O PLAIN 0 1 'g' 0x000000 25 ID_1 0 0 4 | \
-10025 6 24 0 MADE_F 24 0 18 0 1 0 0 2 1 0 2 0 3 0 0 0 25 10025 | 6 25 O 10025
+10025 6 24 0 MADE_F 24 0 18 0 1 0 0 2 1 0 2 0 3 4 0 0 25 10025 | 6 25 O 10025
 of a directory | 24 MAKE_F 24 4 0 ID_1 | 10025 5 24 0 MADE_F 24 0 4 10025 | 5 4 O 10025
 of an open that ended | 24 MAKE_F 4 0 ID_1 25 ID_1 0 0 4 | 10025 5 24 0 MADE_F 4 0 CLOSED 25 10025 | 5 25 O 10025
 of an open that ended, to be closed | 24 MAKE_F 4 0 ID_1 4 0 ID_1 | 10025 5 24 0 MADE_F 4 0 CLOSED 4 10025 | 5 4 O 10025
@@ -275,12 +275,12 @@ a second name | 24 MAKE_F 32 24 11 1 'm' 0x000000 15 1 'm' 0x000000 9 2 10 8 | \
 0 8 24 0 MADE_F 32 0 24 0 11 0 1 0 2 0 3 15 0 9 0 2 10 8 16 1 0 2 2
 a name over that of another, whose opens end | \
 24 MAKE_F 24 18 0 3 3 BY_P PLAIN 0 1 'g' 0x000000 24 32 29 1 'f' 0x000000 1 'g' 0x000000 15 1 'g' 0x000000 10 18 0 3 3 BY_O 0 4 | \
-0 11 24 0 MADE_F 24 0 18 0 1 0 0 2 1 0 2 0 3 0 0 0 24 0 32 0 29 0 1 0 3 0 4 1 0 3 0 4 15 0 10 0 12 0 0 5 18 0 2 0 0 1 HELD
+0 11 24 0 MADE_F 24 0 18 0 1 0 0 2 1 0 2 0 3 4 0 0 24 0 32 0 29 0 1 0 3 0 4 1 0 3 0 4 15 0 10 0 12 0 0 5 18 0 2 0 0 1 HELD
 a name over that of a directory | 24 MAKE_F 24 6 2 1 'd' 0x000000 0 0 24 32 29 1 'f' 0x000000 1 'd' 0x000000 | \
 17 8 24 0 MADE_F 24 0 6 0 1 0 2 0 3 0 24 0 32 0 29 17 | 8 29 N 17
 what it denies goes with its last name | \
 24 18 0 1 3 BY_O PLAIN CALLED_F 24 28 1 'f' 0x000000 18 0 3 0 BY_P PLAIN CALLED_F 10 25 ID_1 0 0 1 | \
-10025 8 24 0 MADE_F 24 0 28 0 1 0 2 0 3 18 0 1 0 0 2 1 0 3 0 4 0 0 0 10 0 12 0 0 6 25 10025 | 8 25 O 10025
+10025 8 24 0 MADE_F 24 0 28 0 1 0 2 0 3 18 0 1 0 0 2 1 0 3 0 4 4 0 0 10 0 12 0 0 6 25 10025 | 8 25 O 10025
 what it denies stays with a name | \
 24 18 0 1 1 BY_O PLAIN CALLED_F 32 24 11 1 'm' 0x000000 28 1 'f' 0x000000 18 0 1 0 BY_P 0 0 1 'm' 0x000000 | \
 10015 8 24 0 MADE_F 32 0 24 0 11 0 1 0 2 0 3 28 0 1 0 3 0 4 18 10015 | 8 18 O 10015

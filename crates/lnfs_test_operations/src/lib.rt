@@ -25,3 +25,5 @@ mod root;
 mod sessions;
 #[cfg(test)]
 mod sharing;
+#[cfg(test)]
+mod sparse;

@@ -19,7 +19,7 @@ of no bytes, set by CREATE of a link | 24 6 5 1 't' 0x000000 1 'l' 0x000000 LABE
 0 4 24 0 6 0 1 0 1 0 2 LABELLED 9 0 LABELLED 12 999 5 0
 of a level in the second format, set by OPEN and shown by READDIR | \
 24 18 0 3 0 BY_O 1 0 LABELLED 20 102 1 5 's1:c0' 0x000000 CALLED_F 24 26 0 5 0 0 0 1000 LABELLED | \
-0 5 24 0 18 0 1 0 0 1 1 0 1 0 2 0 LABELLED 0 24 0 26 0 0 0 1 0 6 1 'f' 0x000000 LABELLED 20 102 1 5 's1:c0' 0x000000 0 1
+0 5 24 0 18 0 1 0 0 1 1 0 1 0 2 4 LABELLED 0 24 0 26 0 0 0 1 0 6 1 'f' 0x000000 LABELLED 20 102 1 5 's1:c0' 0x000000 0 1
 inherited, at each making | 24 6 2 1 'd' 0x000000 LABELLED 16 999 5 1 0x78000000 6 2 1 'e' 0x000000 0 0 MAKE_F 9 LABELLED | \
 0 6 24 0 6 0 1 0 1 0 2 LABELLED 6 0 1 0 1 0 2 0 MADE_F 9 0 LABELLED 16 999 5 1 0x78000000
 set by SETATTR, lower than before | 22 12 0 0 4 9 LABELLED 34 0 0 0 0 LABELLED 16 7 0 2 'yz' 0x0000 9 LABELLED | \
@@ -61,7 +61,7 @@ fn long_labels(alloc: Global) -> Result<String, AllocError> {
     format!(in alloc;
         "
 1,024 bytes, by CREATE | 24 6 2 1 'd' 0x000000 {most} 9 LABELLED | 0 4 24 0 6 0 1 0 1 0 2 LABELLED 9 0 {most}
-by OPEN | 24 18 0 3 0 BY_O 1 0 {most} CALLED_F 9 LABELLED | 0 4 24 0 18 0 1 0 0 1 1 0 1 0 2 0 LABELLED 0 9 0 {most}
+by OPEN | 24 18 0 3 0 BY_O 1 0 {most} CALLED_F 9 LABELLED | 0 4 24 0 18 0 1 0 0 1 1 0 1 0 2 4 LABELLED 0 9 0 {most}
 by SETATTR | 24 34 0 0 0 0 {most} 9 LABELLED | 0 4 24 0 34 0 LABELLED 9 0 {most}
 1,025 bytes, by CREATE | 24 6 2 1 'd' 0x000000 {more} | 10093 3 24 0 6 10093 | 3 6 A 10093
 by OPEN | 24 18 0 3 0 BY_O 1 0 {more} CALLED_F | 10093 3 24 0 18 10093 | 3 18 A 10093

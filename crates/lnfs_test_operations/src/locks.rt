@@ -38,7 +38,7 @@ the state id that passes over | 24 MAKE_F 12 1 0 0 0 0 10 1 0 BYPASS 0 0 1 1 'a'
 an open that isn't there | 24 MAKE_F 12 1 0 0 0 0 10 1 0 1 0 0 2 0 0 1 1 'a' 0x000000 | \
 10025 4 24 0 MADE_F 12 10025 | 4 12 O 10025
 an open of another file | 24 MAKE_F 24 18 0 3 0 BY_O PLAIN 0 1 'g' 0x000000 12 1 0 0 0 0 10 1 0 ID_1 0 0 1 1 'a' 0x000000 | \
-10025 6 24 0 MADE_F 24 0 18 0 1 0 0 2 1 0 2 0 3 0 0 0 12 10025 | 6 12 O 10025
+10025 6 24 0 MADE_F 24 0 18 0 1 0 0 2 1 0 2 0 3 4 0 0 12 10025 | 6 12 O 10025
 an open of another level | 24 MAKE_F 12 1 0 0 0 0 10 1 0 1 1 0 1 0 0 1 1 'a' 0x000000 | \
 10025 4 24 0 MADE_F 12 10025 | 4 12 M9 10025
 a sequence of an open that is to come | 24 MAKE_F 12 1 0 0 0 0 10 1 0 2 0 0 1 0 0 1 1 'a' 0x000000 | \
@@ -59,7 +59,7 @@ for write, by a lock under an open for reading | 24 18 0 1 0 BY_O PLAIN CALLED_F
 a lock that isn't there | 24 MAKE_F 12 1 0 0 0 0 10 0 1 0 1 1 0 | 10025 4 24 0 MADE_F 12 10025 | 4 12 O 10025
 a lock of another file | 24 MAKE_F 12 1 0 0 0 0 10 1 0 ID_1 0 0 1 1 'a' 0x000000 24 18 0 3 0 BY_O PLAIN 0 1 'g' 0x000000 \
 14 1 0 1 0 1 1 0 0 0 10 | \
-10025 7 24 0 MADE_F 12 0 1 0 1 1 24 0 18 0 1 0 0 2 1 0 2 0 3 0 0 0 14 10025 | 7 14 O 10025
+10025 7 24 0 MADE_F 12 0 1 0 1 1 24 0 18 0 1 0 0 2 1 0 2 0 3 4 0 0 14 10025 | 7 14 O 10025
 a lock of another level | 24 MAKE_F 12 1 0 0 0 0 10 0 1 1 1 1 0 | 10025 4 24 0 MADE_F 12 10025 | 4 12 M9 10025
 an open in the place of a lock | 24 MAKE_F 14 1 0 ID_1 0 0 0 10 | 10025 4 24 0 MADE_F 14 10025 | 4 14 O 10025
 a lock in the place of an open | 24 MAKE_F 12 1 0 0 0 0 10 1 0 ID_1 0 0 1 1 'a' 0x000000 25 1 0 1 1 0 0 1 | \

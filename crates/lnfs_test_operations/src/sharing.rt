@@ -123,13 +123,13 @@ const LEVELS: &str = "
 3
 0 1 100 | 24 18 0 3 0 BY_O PLAIN 0 1 'a' 0x000000 10 | 0 4 24 0 MADE_F 10 0 12 0 0 5
 3 1 100 | TOP 18 0 3 0 BY_O PLAIN 0 1 'x' 0x000000 10 TOP 18 0 3 0 BY_O PLAIN 0 1 'y' 0x000000 10 \
-TOP 18 0 3 0 BY_O PLAIN 0 1 'z' 0x000000 10 | 0 10 22 0 18 0 1 3 0 1 1 0 1 0 2 0 0 0 10 0 12 3 0 1 \
-22 0 18 0 1 3 0 2 1 0 2 0 3 0 0 0 10 0 12 3 0 2 22 0 18 0 1 3 0 3 1 0 3 0 4 0 0 0 10 0 12 3 0 3
-0 2 100 | 24 18 0 3 0 BY_O PLAIN 0 1 'b' 0x000000 10 | 0 4 24 0 18 0 1 0 0 2 1 0 2 0 3 0 0 0 10 0 12 0 0 6
+TOP 18 0 3 0 BY_O PLAIN 0 1 'z' 0x000000 10 | 0 10 22 0 18 0 1 3 0 1 1 0 1 0 2 4 0 0 10 0 12 3 0 1 \
+22 0 18 0 1 3 0 2 1 0 2 0 3 4 0 0 10 0 12 3 0 2 22 0 18 0 1 3 0 3 1 0 3 0 4 4 0 0 10 0 12 3 0 3
+0 2 100 | 24 18 0 3 0 BY_O PLAIN 0 1 'b' 0x000000 10 | 0 4 24 0 18 0 1 0 0 2 1 0 2 0 3 4 0 0 10 0 12 0 0 6
 # what is looked for from beside
 1
 2
-1 1 100 | ONE 18 0 3 0 BY_O PLAIN 0 1 'a' 0x000000 10 | 0 4 22 0 18 0 1 1 0 1 1 0 1 0 2 0 0 0 10 0 12 1 0 1
+1 1 100 | ONE 18 0 3 0 BY_O PLAIN 0 1 'a' 0x000000 10 | 0 4 22 0 18 0 1 1 0 1 1 0 1 0 2 4 0 0 10 0 12 1 0 1
 2 1 100 | 22 12 1 0 1 | 70 2 22 70 | 2 22 M8 70
 2 2 100 | 22 12 1 0 9 | 70 2 22 70 | 2 22 M8 70
 2 3 100 | ONE 15 1 'a' 0x000000 | 13 3 22 0 15 13 | 3 15 M1 13
@@ -144,7 +144,7 @@ TOP 18 0 3 0 BY_O PLAIN 0 1 'z' 0x000000 10 | 0 10 22 0 18 0 1 3 0 1 1 0 1 0 2 0
 1 4 100 | ONE 18 0 3 3 BY_O 1 0 LABEL_0 CALLED_F | 13 3 22 0 18 13 | 3 18 M4 13
 1 5 100 | ONE 18 0 3 3 BY_O 1 0 LABEL_3 CALLED_F | 13 3 22 0 18 13 | 3 18 M1 13
 1 6 100 | ONE 18 0 2 3 BY_O 1 0 LABEL_3 CALLED_F | 13 3 22 0 18 13 | 3 18 M2 13
-1 7 100 | ONE 18 0 3 1 BY_O 1 0 LABEL_1 CALLED_F 9 LABELLED | 0 4 22 0 18 0 1 1 0 1 1 0 1 0 2 0 LABELLED 0 9 0 LABEL_1
+1 7 100 | ONE 18 0 3 1 BY_O 1 0 LABEL_1 CALLED_F 9 LABELLED | 0 4 22 0 18 0 1 1 0 1 1 0 1 0 2 4 LABELLED 0 9 0 LABEL_1
 3 1 100 | ONE 18 0 1 0 BY_O PLAIN 0 1 'g' 0x000000 | 13 3 22 0 18 13 | 3 18 M3 13
 3 2 100 | ONE 18 0 1 0 BY_O PLAIN CALLED_F | 10015 3 22 0 18 10015 | 3 18 O 10015
 # times of a file and of its directory
@@ -159,7 +159,7 @@ TOP 18 0 3 0 BY_O PLAIN 0 1 'z' 0x000000 10 | 0 10 22 0 18 0 1 3 0 1 1 0 1 0 2 0
 0 6 600 | 24 18 0 1 0 BY_P 0 CALLED_F 9 2 8 0x00308000 | \
 0 4 24 0 18 0 1 0 0 2 KEPT 9 0 2 8 0x00308000 44 0 4 0 100 0 0 500 0 0 400 0
 0 7 700 | 24 18 0 2 0 BY_P SIZED CALLED_F 9 2 8 0x00308000 | \
-0 4 24 0 18 0 2 0 0 2 1 0 2 0 2 0 1 16 0 9 0 2 8 0x00308000 44 0 5 0 100 0 0 700 0 0 700 0
+0 4 24 0 18 0 2 0 0 2 1 0 2 0 2 4 1 16 0 9 0 2 8 0x00308000 44 0 5 0 100 0 0 700 0 0 700 0
 # what is refused changes nothing
 0
 0 1 100 | 24 18 0 3 2 BY_O PLAIN CALLED_F SIX | 0 4 24 0 MADE_F WROTE_6
@@ -232,7 +232,7 @@ fn put_pair(alloc: Global, story: &mut Story, place: usize, last: usize) -> Resu
     };
     let text = format!(in alloc;
         "0 {sequence} 100 | 24 18 0 {access} {deny} BY_O PLAIN 0 4 '{name}' 18 0 {other_access} {other_deny} BY_P 0 4 | \
-{status} 4 24 0 18 0 1 0 0 {first} 1 0 {sequence} 0 {after} 0 0 0 {told}{line}"
+{status} 4 24 0 18 0 1 0 0 {first} 1 0 {sequence} 0 {after} 4 0 0 {told}{line}"
     )?;
     story.put(alloc, &text)?;
     Ok(if refused { first } else { second })
@@ -262,20 +262,20 @@ fn put_levels(alloc: Global, story: &mut Story, place: usize, last: usize) -> Re
         alloc,
         &format!(in alloc;
             "0 {odd} 100 | 24 18 0 1 0 BY_O PLAIN 0 4 '{name}' 4 0 1 0 0 {odd} | \
-0 4 24 0 18 0 1 0 0 {odd} 1 0 {before} 0 {after} 0 0 0 4 0 CLOSED"
+0 4 24 0 18 0 1 0 0 {odd} 1 0 {before} 0 {after} 4 0 0 4 0 CLOSED"
         )?,
     )?;
     story.put(
         alloc,
         &format!(in alloc;
-            "3 {odd} 100 | 24 18 0 1 0 BY_O 0 0 4 '{name}' | 0 3 24 0 18 0 1 3 0 {first} 1 0 {after} 0 {after} 0 0 0"
+            "3 {odd} 100 | 24 18 0 1 0 BY_O 0 0 4 '{name}' | 0 3 24 0 18 0 1 3 0 {first} 1 0 {after} 0 {after} 4 0 0"
         )?,
     )?;
     story.put(
         alloc,
         &format!(in alloc;
             "0 {even} 100 | 24 18 0 {access} {deny} BY_P 0 0 4 '{name}' | \
-0 3 24 0 18 0 1 0 0 {even} 1 0 {after} 0 {after} 0 0 0"
+0 3 24 0 18 0 1 0 0 {even} 1 0 {after} 0 {after} 4 0 0"
         )?,
     )?;
     story.put(

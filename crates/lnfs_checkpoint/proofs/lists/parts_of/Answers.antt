@@ -9,5 +9,5 @@ use Rattle.lnfs_checkpoint.proofs.lists.parts_of.Goals as goal
 pub made_of-requires : goal.made_of-requires
 made_of-requires c = can_be_made c.args.policy.now c.law_policy.ensures (omega (arith, c.len-levels.ensures.value, c.len-levels.ensures.few, ap length c.lattice.ensures)) (world_of c.args.lists.now) (locks_told c.args.rows.now) c.requires
 
-pub locks_of-requires : goal.locks_of-requires
-locks_of-requires c = makes_locks (site_of c.args.policy.now) (omega (arith, c.len-levels.ensures.value, c.len-levels.ensures.few, ap length c.lattice.ensures)) (world_of c.args.lists.now) (locks_told c.args.rows.now) c.requires.locks
+pub further_of-requires : goal.further_of-requires
+further_of-requires c = makes_locks (site_of c.args.policy.now) (omega (arith, c.len-levels.ensures.value, c.len-levels.ensures.few, ap length c.lattice.ensures)) (world_of c.args.lists.now) (locks_told c.args.rows.now) c.requires.locks

@@ -1,5 +1,5 @@
 use Rattle.lnfs_step.specs.Journal.{first_state}
-use Rattle.lnfs_commands.specs.Further.{further}
+use Rattle.lnfs_further.specs.Further.{further}
 use Rattle.lnfs_checkpointing.proofs.Breaking.{resumed_is, lines_are, silent}
 use Rattle.lnfs_checkpointing.proofs.laws.breaks.Goals as goal
 

@@ -3,7 +3,7 @@ use Rattle.lnfs_gss3.specs.Mechanism.{keyed_digest}
 use Rattle.lnfs_vault.specs.Kept.{Kept}
 use Rattle.lnfs_stage.proofs.Reading.{opens_stop, opens_then}
 use Rattle.lnfs_commands.specs.Commands.{replayed}
-use Rattle.lnfs_commands.specs.Further.{further}
+use Rattle.lnfs_further.specs.Further.{further}
 use Rattle.lnfs_commands.proofs.Replaying.{stops_at_first}
 use Rattle.lnfs_commands.proofs.perform.replay_file.Goals as goal
 
