@@ -79,4 +79,7 @@ def result(r, number):
     if number == 53:
         r.take(36)
         return ''
+    if number == 69:
+        end = r.word()
+        return '%d%s' % (r.long(), ', the end' if end else '')
     return ''

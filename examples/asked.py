@@ -11,9 +11,9 @@ OTHERS = {
     21: 'OPEN_DOWNGRADE', 23: 'PUTPUBFH', 30: 'RENEW', 33: 'SECINFO', 35: 'SETCLIENTID', 36: 'SETCLIENTID_CONFIRM',
     39: 'RELEASE_LOCKOWNER', 40: 'BACKCHANNEL_CTL', 41: 'BIND_CONN_TO_SESSION', 45: 'FREE_STATEID',
     46: 'GET_DIR_DELEGATION', 47: 'GETDEVICEINFO', 48: 'GETDEVICELIST', 49: 'LAYOUTCOMMIT', 50: 'LAYOUTGET',
-    51: 'LAYOUTRETURN', 52: 'SECINFO_NO_NAME', 54: 'SET_SSV', 55: 'TEST_STATEID', 56: 'WANT_DELEGATION', 59: 'ALLOCATE',
-    60: 'COPY', 61: 'COPY_NOTIFY', 62: 'DEALLOCATE', 63: 'IO_ADVISE', 64: 'LAYOUTERROR', 65: 'LAYOUTSTATS',
-    66: 'OFFLOAD_CANCEL', 67: 'OFFLOAD_STATUS', 68: 'READ_PLUS', 69: 'SEEK', 70: 'WRITE_SAME', 71: 'CLONE',
+    51: 'LAYOUTRETURN', 52: 'SECINFO_NO_NAME', 54: 'SET_SSV', 55: 'TEST_STATEID', 56: 'WANT_DELEGATION', 60: 'COPY',
+    61: 'COPY_NOTIFY', 63: 'IO_ADVISE', 64: 'LAYOUTERROR', 65: 'LAYOUTSTATS', 66: 'OFFLOAD_CANCEL', 67: 'OFFLOAD_STATUS',
+    68: 'READ_PLUS', 70: 'WRITE_SAME',
 }
 MOST_DATA = 40  # characters of what a WRITE brings that are told
 
@@ -168,6 +168,22 @@ def unlocking(r):
     return '%s, with %s' % (range_of(r), state)
 
 
+def region(r):
+    state = special_state_of(r)
+    return '%s, with %s' % (extent(r.long(), r.long()), state)
+
+
+def seeking(r):
+    state, offset, what = special_state_of(r), r.long(), r.word()
+    return '%s from %d on, with %s' % ({0: 'data', 1: 'a hole'}.get(what, 'sort %d' % what), offset, state)
+
+
+def cloning(r):
+    source, target, first, to, count = special_state_of(r), special_state_of(r), r.long(), r.long(), r.long()
+    what = '%d bytes' % count if count else 'all bytes'
+    return '%s from %d on to %d, with %s and %s' % (what, first, to, source, target)
+
+
 def exchange_id(r):
     r.take(8)
     owner, _, protection = r.opaque(), r.word(), r.word()
@@ -223,6 +239,10 @@ ARGUMENTS = {
     12: locking,
     13: testing,
     14: unlocking,
+    59: region,
+    62: region,
+    69: seeking,
+    71: cloning,
     15: named(15),
     16: lambda r: '',
     17: comparing(17),
